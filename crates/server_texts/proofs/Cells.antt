@@ -14,7 +14,8 @@ use Rattle.server_texts.specs.declared.words.Database.{Database}
 use Rattle.server_texts.specs.declared.words.ServerWords.{ServerWords}
 use Rattle.server_texts.specs.declared.words.WordsFault.{WordsFault}
 use Rattle.server_texts.specs.declared.words.WordsFault.TheVariants.{Word, NoMemory}
-use Rattle.server_texts.specs.Words.{IsNoAddress, Means, MeansCell, Named, are_distinct, behind_hosts, cell_hosts, fault_of, hosts_of, is_address, make_cell, named_hosts, no_more, parts_of, refused}
+use Rattle.host_words.specs.Hosts.{is_address, named_hosts, parts_of}
+use Rattle.server_texts.specs.Words.{Means, MeansCell, Named, are_distinct, behind_hosts, cell_hosts, fault_of, hosts_of, make_cell, no_more, refused}
 
 stands_first : (host a : Host) (hosts : List Host) → times host (a ∷ hosts) ≡ cond (a.0 == host.0) 1 0 + times host hosts
 stands_first host a hosts = sum_by-cons (λ (other : Host). cond (other.0 == host.0) 1 0) a hosts
@@ -129,14 +130,12 @@ all_addresses text list seen r all named same means =
     let Q : Bool → Type 0 = λ b. MeansCell (if b then cell_hosts (named_hosts text) else None) r in
     subst Q (sym all) (subst P (same ∙ named) means)
 
--- a text one of whose parts is no address, or want of memory
-pub no_addresses : (text : List ℕ) (why : WordsFault) → IsNoAddress text why → MeansCell (hosts_of text) (Err why)
+-- a text one of whose parts is no address
+pub no_addresses : (text : List ℕ) → list_all is_address (parts_of text) ≡ false → MeansCell (hosts_of text) (Err (Word 4))
 unfolding hosts_of
-no_addresses text NoMemory none = short_cell (hosts_of text)
-no_addresses text (Word place) none =
+no_addresses text none =
     let Q : Bool → Type 0 = λ b. MeansCell (if b then cell_hosts (named_hosts text) else None) (Err (Word 4)) in
-    let R : ℕ → Type 0 = λ n. MeansCell (hosts_of text) (Err (Word n)) in
-    subst R (sym none.0) (subst Q (sym none.1) (λ other. refl))
+    subst Q (sym none) (λ other. refl)
 
 -- whether a host stands in a cell
 stands : (cell : List Host) (i : ℕ) (own : Host) → slice_get cell i ≡ Some own → 1 ≤ times own cell

@@ -1,8 +1,8 @@
 -- The words of a server's program: KIND FOLDER ME HOSTS (own).
-use Rattle.std.specs.Prelude.{◌≡◌, ◌≢◌, ℕ, zero, suc, ◌+◌, ◌*◌, ◌==◌, ◌&&◌, nat_le, Bool, false, if◌then◌else◌, List, [], ◌∷◌, length, map, take, drop, codes, position, IsPermutation, slice_get, Option, Some, None, option_map, option_and_then, is_some, unwrap_or, Result, Ok, Err}
+use Rattle.std.specs.Prelude.{◌≡◌, ◌≢◌, ℕ, ◌&&◌, nat_le, Bool, if◌then◌else◌, List, [], ◌∷◌, length, codes, IsPermutation, slice_get, Option, Some, None, Result, Ok, Err}
 use Rattle.std.specs.Str.{bytes_eq}
-use Rattle.std.specs.List.{list_all, slice_split}
-use Rattle.script_words.specs.Numbers.{number_within}
+use Rattle.std.specs.List.{list_all}
+use Rattle.host_words.specs.Hosts.{address_of, is_address, named_hosts, parts_of}
 use Rattle.ubik_types.specs.Hosts.{IsCell, times}
 use Rattle.ubik_types.specs.declared.hosts.Host.{Host}
 use Rattle.ubik_types.specs.declared.hosts.CellFault.{CellFault}
@@ -19,37 +19,6 @@ abbrev pub database_of : List ℕ → Option Database
 database_of word =
     if bytes_eq word (codes "vlserver") then Some Location
     else (if bytes_eq word (codes "ptserver") then Some Protection else None)
-
--- what stands before the first dot of a word, and what stands behind it
-abbrev pub split_dot : List ℕ → Option (List ℕ × List ℕ)
-split_dot word = option_map (λ at. (take at word, drop (at + 1) word)) (position (λ byte. byte == 46) word)
-
-abbrev pub octet_of : List ℕ → Option ℕ
-octet_of word = number_within 0 255 word
-
--- the number of an address whose first bytes have this value, and whose others so many dots part in the word
-abbrev pub address_behind : ℕ → ℕ → List ℕ → Option ℕ
-address_behind zero value word = option_map (λ octet. value * 256 + octet) (octet_of word)
-address_behind (suc dots) value word = option_and_then
-    (λ parts. option_and_then (λ octet. address_behind dots (value * 256 + octet) parts.1) (octet_of parts.0)) (split_dot word)
-
--- the number of a dotted address: four decimals from 0 to 255, the first the highest byte
-abbrev pub address_of : List ℕ → Option ℕ
-address_of word = address_behind 3 0 word
-
--- the parts of HOSTS between its commas; a text always has a part
-abbrev pub parts_of : List ℕ → List (List ℕ)
-parts_of text = slice_split (λ byte. byte == 44) text
-
-abbrev pub is_address : List ℕ → Bool
-is_address word = is_some (address_of word)
-
--- the host of a word that is an address
-abbrev pub named_host : List ℕ → Host
-named_host word = record { 0 = unwrap_or (address_of word) 0 }
-
-abbrev pub named_hosts : List ℕ → List Host
-named_hosts text = map named_host (parts_of text)
 
 -- no host stands twice
 abbrev pub are_distinct : List Host → Bool
@@ -128,11 +97,6 @@ MeansCell (Some hosts) (Ok cell) = IsCell cell × IsPermutation hosts cell
 MeansCell (Some hosts) (Err fault) = fault ≡ NoMemory
 MeansCell None (Ok cell) = ⊥
 MeansCell None (Err fault) = fault ≢ NoMemory → fault ≡ Word 4
-
--- a part of HOSTS is no address, or memory ran out
-abbrev pub IsNoAddress : List ℕ → WordsFault → Type 0
-IsNoAddress text NoMemory = Unit {0}
-IsNoAddress text (Word place) = (place ≡ 4) × (list_all is_address (parts_of text) ≡ false)
 
 -- how words are refused whose hosts make no cell
 abbrev pub fault_of : CellFault → WordsFault

@@ -1,10 +1,9 @@
 //! The words of the program: the database, the folder of its files, the own address, and the addresses of the cell.
-ghost use Rattle.std.specs.Prelude.{◌≡◌, ◌==◌, ◌<◌, length, map, option_map, position, string_bytes, IfOk, IfErr, IsPermutation, List, Some, true};
-ghost use Rattle.std.specs.List.{list_all};
+ghost use Rattle.std.specs.Prelude.{◌≡◌, ◌<◌, length, map, string_bytes, IfOk, IsPermutation, List, Some};
 ghost use Rattle.ubik_types.specs.declared.hosts.Host.{Host};
-ghost use Rattle.server_texts.specs.Words.{IsNoAddress, Means, MeansCell, address_of, behind_folder, behind_hosts, behind_kind, behind_own, cell_hosts, database_of, fault_of, hosts_of, is_address, meaning_of, named_hosts, octet_of, parts_of, split_dot};
+ghost use Rattle.server_texts.specs.Words.{Means, MeansCell, behind_folder, behind_hosts, behind_kind, behind_own, cell_hosts, database_of, fault_of, hosts_of, meaning_of};
 
-use script_words::number_within;
+use host_words::{address, listed_hosts};
 use std::alloc::Global;
 use ubik_types::{Cell, CellFault, Host, NoMemory};
 
@@ -179,9 +178,9 @@ fn read_end(
 fn read_cell(alloc: Global, text: &[u8]) -> Result<Cell, WordsFault>
     ensures { MeansCell (hosts_of text.now) result }
 {
-    match addresses(alloc, text) {
-        Ok(hosts) => cell_of(alloc, hosts.as_slice()),
-        Err(fault) => Err(fault),
+    match listed_hosts(alloc, text)? {
+        Some(hosts) => cell_of(alloc, hosts.as_slice()),
+        None => Err(WordsFault::Word { place: 4 }),
     }
 }
 
@@ -205,58 +204,4 @@ fn fault_of(why: CellFault) -> WordsFault
             WordsFault::Word { place: 4 }
         }
     }
-}
-
-/// The hosts of the parts between commas, each of which must be a dotted address.
-fn addresses(alloc: Global, text: &[u8]) -> Result<Vec<Host>, WordsFault>
-    ensures addresses { IfOk result (λ hosts. list_all is_address (parts_of text.now) ≡ true) }
-    ensures named { IfOk result (λ hosts. hosts.items ≡ named_hosts text.now) }
-    ensures refused { IfErr result (λ fault. IsNoAddress text.now fault) }
-{
-    let mut hosts = Vec::new(alloc);
-    for part in text.split(|byte| *byte == b',') {
-        let Some(number) = address(part) else {
-            return Err(WordsFault::Word { place: 4 });
-        };
-        if hosts.push(Host(number)).is_err() {
-            return Err(WordsFault::NoMemory);
-        }
-    }
-    Ok(hosts)
-}
-
-/// The number of a dotted address: four decimals from 0 to 255, the first the highest byte.
-fn address(word: &[u8]) -> Option<u32>
-    ensures { result ≡ address_of word.now }
-{
-    let (first, rest) = split_dot(word)?;
-    let a = octet(first)?;
-    let (second, rest) = split_dot(rest)?;
-    let b = octet(second)?;
-    let (third, last) = split_dot(rest)?;
-    let c = octet(third)?;
-    let d = octet(last)?;
-    Some(((u32::from(a) * 256 + u32::from(b)) * 256 + u32::from(c)) * 256 + u32::from(d))
-}
-
-/// A decimal from 0 to 255.
-fn octet(word: &[u8]) -> Option<u8>
-    ensures { result ≡ octet_of word.now }
-{
-    u8::try_from(number_within(word, 0, 255)?).ok()
-}
-
-/// What stands before the first dot, and what stands behind it.
-fn split_dot(word: &[u8]) -> Option<(&[u8], &[u8])>
-    ensures { option_map (λ parts. (parts.0.now, parts.1.now)) result ≡ split_dot word.now }
-{
-    let at = dot_place(word)?;
-    Some((&word[..at], &word[at + 1..]))
-}
-
-/// Where the first dot stands.
-fn dot_place(word: &[u8]) -> Option<usize>
-    ensures { result ≡ position (λ byte. byte == 46) word.now }
-{
-    word.iter().position(|byte| *byte == b'.')
 }
