@@ -1,5 +1,5 @@
 -- How a server ends: its status, and its line (own).
-use Rattle.std.specs.Prelude.{◌≡◌, ◌≤◌, ℕ, List, [], ◌∷◌, ◌++◌, length, take, codes, Option, Some}
+use Rattle.std.specs.Prelude.{◌≡◌, ◌<◌, ◌≤◌, ◌⊎◌, ℕ, List, [], ◌∷◌, ◌++◌, length, take, codes, Option, Some, IfSome}
 use Rattle.std.specs.Fmt.{decimal}
 use Rattle.server_texts.specs.declared.kinds.ServerKind.{ServerKind}
 use Rattle.server_texts.specs.declared.kinds.ServerKind.TheVariants as kind
@@ -32,3 +32,9 @@ pub record IsFront (before : List ℕ) (after : Option (List ℕ)) (bytes : List
   pub count : ℕ
   pub within : count ≤ length bytes
   pub written : after ≡ Some (before ++ take count bytes)
+
+-- The bytes were appended to what was written. Where a write of them failed, so that the sink's count of faults rose, a front of them was.
+pub record IsSaid (before after : Option (List ℕ)) (failed_before failed : ℕ) (bytes : List ℕ) : Type 0 where
+  pub front : IfSome before (λ was. IsFront was after bytes)
+  pub whole : IfSome before (λ was. (failed_before < failed) ⊎ (after ≡ Some (was ++ bytes)))
+  pub never_falls : failed_before ≤ failed

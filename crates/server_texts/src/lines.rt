@@ -1,52 +1,47 @@
 //! What a server prints of its end.
-ghost use Rattle.std.specs.Prelude.{◌≡◌, ◌++◌, IfOk, IfSome, string_bytes};
-ghost use Rattle.server_texts.specs.Ends.{IsFront, end_line, line_of};
+ghost use Rattle.std.specs.Prelude.{◌≡◌, ◌++◌, codes, decimal};
+ghost use Rattle.server_texts.specs.Ends.{IsSaid, end_line, line_of};
 
 use crate::ServerKind;
+use arrayvec::ArrayString;
 use disk_base::{Sink, Wrote};
-use std::alloc::Global;
-use ubik_types::NoMemory;
+use itoa::Buffer;
 
-/// Prints the line of an end; there is none where the net has closed. Where the sink fails, or memory runs out, it is a front of the line.
-pub fn say_end<K: Sink>(alloc: Global, kind: &ServerKind, err: &mut K)
-    ensures { IfSome (K.written err.old) (λ before. IsFront before (K.written err.new) (end_line kind.now)) }
+/// Room for the line on a word that does not fit, whichever place it has: bytes.
+const WORD_LINE_ROOM: usize = 64;
+
+/// Prints the line of an end, for which it takes no memory; there is none where the net has closed. Where the sink fails it is a front of
+/// the line.
+pub fn say_end<K: Sink>(kind: &ServerKind, err: &mut K)
+    ensures { IsSaid (K.written err.old) (K.written err.new) (K.faults err.old) (K.faults err.new) (end_line kind.now) }
 {
-    if let Ok(text) = end_line(alloc, kind) {
-        write_front(err, text.as_bytes());
-    }
+    let line = match kind {
+        ServerKind::Closed => "",
+        ServerKind::NoMemory => "afs_dbserver: no memory\n",
+        ServerKind::NoThread => "afs_dbserver: no thread\n",
+        ServerKind::JournalFull { .. } => "afs_dbserver: journal full\n",
+        ServerKind::DiskFault => "afs_dbserver: disk fault\n",
+        ServerKind::BadFiles { .. } => "afs_dbserver: bad files\n",
+        ServerKind::Words { place } => return say_bad_word(*place, err),
+    };
+    write_front(err, line.as_bytes());
 }
 
-/// The line of an end.
-fn end_line(alloc: Global, kind: &ServerKind) -> Result<String, NoMemory>
-    ensures { IfOk result (λ text. string_bytes text ≡ end_line kind.now) }
+/// Prints the line on the word at a place that does not fit.
+fn say_bad_word<K: Sink>(place: u32, err: &mut K)
+    ensures { IsSaid (K.written err.old) (K.written err.new) (K.faults err.old) (K.faults err.new) (line_of (codes "bad word " ++ decimal place)) }
 {
-    match kind {
-        ServerKind::Closed => Ok(String::new(alloc)),
-        ServerKind::NoMemory => line(alloc, "no memory"),
-        ServerKind::NoThread => line(alloc, "no thread"),
-        ServerKind::JournalFull { .. } => line(alloc, "journal full"),
-        ServerKind::DiskFault => line(alloc, "disk fault"),
-        ServerKind::BadFiles { .. } => line(alloc, "bad files"),
-        ServerKind::Words { place } => {
-            let mut said = String::new(alloc);
-            write!(said, "bad word {}", *place)?;
-            line(alloc, said.as_str())
-        }
-    }
-}
-
-/// A line of the program, with its end.
-fn line(alloc: Global, said: &str) -> Result<String, NoMemory>
-    ensures { IfOk result (λ text. string_bytes text ≡ line_of said.now) }
-{
-    let mut text = String::new(alloc);
-    writeln!(text, "afs_dbserver: {}", said)?;
-    Ok(text)
+    let mut digits = Buffer::new();
+    let mut line = ArrayString::<WORD_LINE_ROOM>::new();
+    line.push_str("afs_dbserver: bad word ");
+    line.push_str(digits.format(place));
+    line.push_str("\n");
+    write_front(err, line.as_str().as_bytes());
 }
 
 /// Appends the bytes to a sink, up to where it fails.
 fn write_front<K: Sink>(out: &mut K, bytes: &[u8])
-    ensures { IfSome (K.written out.old) (λ before. IsFront before (K.written out.new) bytes.now) }
+    ensures { IsSaid (K.written out.old) (K.written out.new) (K.faults out.old) (K.faults out.new) bytes.now }
 {
     let mut done = 0;
     while done < bytes.len() {
