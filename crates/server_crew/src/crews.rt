@@ -1,4 +1,5 @@
 //! What all workers of a server have.
+use crate::Bench;
 use crate::desks::Desk;
 use std::alloc::Global;
 use std::sync::Mutex;
@@ -24,7 +25,7 @@ impl<'a, N, C, P, G> Drop for Outside<'a, N, C, P, G> {
 }
 
 /// What all workers of a server have.
-pub(crate) struct Crew<'a, B, N, C, G, R> {
+pub(crate) struct Crew<'a, B: Bench, N, C, G, R> {
     pub(crate) rt: &'a R,
     pub(crate) alloc: Global,
     pub(crate) desk: &'a Mutex<Desk<B>>,
@@ -33,7 +34,7 @@ pub(crate) struct Crew<'a, B, N, C, G, R> {
     pub(crate) gate: &'a G,
 }
 
-impl<'a, B, N, C, G, R> Drop for Crew<'a, B, N, C, G, R> {
+impl<'a, B: Bench, N, C, G, R> Drop for Crew<'a, B, N, C, G, R> {
     fn drop(self) {
         let Self {
             rt: _,

@@ -1,5 +1,7 @@
 //! The threads of a server, from their start to the end of the last one.
-ghost use Rattle.std.specs.Prelude.{◌≡◌, ◌≢◌, true};
+ghost use Rattle.std.specs.Prelude.{◌≡◌, ◌≢◌, Bool, true};
+ghost use Rattle.server_rounds.specs.declared.turns.TurnEnd.{TurnEnd};
+ghost use Rattle.server_crew.specs.Causes.{is_caused, is_noted};
 
 use crate::crews::{Crew, Outside};
 use crate::desks::{Cause, Desk};
@@ -42,6 +44,7 @@ pub fn run_crew<
     seats: Seats<B::Seat>,
     outside: &Outside<N, C, P, G>,
 ) -> (B, CrewEnd)
+    ensures caused { is_caused (B.caused result.0) result.1 ≡ true }
     ensures closed { result.1 ≡ CrewEnd.Closed → N.may_close outside.now.net.now }
     ensures refused { result.1 ≡ CrewEnd.NoThread → P.may_refuse outside.now.spawner.now }
 {
@@ -170,6 +173,7 @@ fn start<
 
 /// Why all workers have ended. Without a cause the net has closed, which it then says.
 fn end_of<N: Net, R: Wait>(rt: &R, first: Option<Cause>, net: &N) -> CrewEnd
+    ensures caused { (caused : TurnEnd → Bool) → is_noted caused first ≡ true → is_caused caused result ≡ true }
     ensures closed { result ≡ CrewEnd.Closed → N.may_close net.now }
     ensures refused { result ≢ CrewEnd.NoThread }
 {

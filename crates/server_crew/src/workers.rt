@@ -118,7 +118,7 @@ impl<'a, B: Bench, N: Net, C: Clock, G: Gate, R: Wait> Post for Worker<'a, B, N,
     fn turn(&mut self, now: u32, turn: Turn, out: &mut Sendings) -> TurnEnd {
         let crew = self.crew;
         let mut desk = crew.desk.lock(crew.rt);
-        desk.bench.turn(&mut self.seat, now, turn, out)
+        desk.turn(&mut self.seat, now, turn, out)
     }
 
     fn hand(&mut self, sending: Sending) -> NetPut {
@@ -153,7 +153,7 @@ impl<'a, B: Bench<Seat: Send> + Send, N: Net, C: Clock, G: Gate, R: Wait + Sync>
         let crew = worker.crew;
         let cause = go_round(crew.rt, crew.alloc, &mut worker);
         let (peer, seat) = worker.into_parts();
-        take_back(crew.rt, crew.desk, seat, cause);
+        take_back(crew.rt, crew.desk, seat, cause == Some(Cause::NoMemory));
         if let Some(peer) = peer {
             crew.net.release(peer);
         }
