@@ -1,4 +1,4 @@
--- What is fit is light.
+-- What is fit is light, and what has come in a frame counts for no more than the greatest one.
 use Rattle.std.proofs.Common.{◌≡◌, ℕ, ◌+◌, ◌-◌, ◌%◌, ◌<◌, ◌≤◌, List, [], length, arith}
 use Rattle.std.specs.Prelude.{◌^◌}
 use Rattle.std.proofs.Math.Nat.{mod-lt}
@@ -7,6 +7,7 @@ use Rattle.std.specs.List.{AllByRecursion}
 use Rattle.xdr_base.specs.Spelling.{padding}
 use Rattle.ubik_calls.specs.declared.packets.Body.{Body}
 use Rattle.ubik_calls.specs.declared.packets.Body.TheVariants as body
+use Rattle.ubik_calls.specs.declared.packets.Packet.{Packet}
 use Rattle.ubik_calls.specs.declared.packets.TheConstants.{MAX_PIECE}
 use Rattle.ubik_calls.specs.declared.frames.Frame.TheVariants as frame
 use Rattle.ubik_calls.specs.Fields as field
@@ -16,7 +17,7 @@ use Rattle.ubik_calls.specs.WireGrammar.{HasSpelling, behind_length, body_fields
 use Rattle.cell_model.specs.declared.events.NodeEvent.{NodeEvent}
 use Rattle.cell_model.specs.declared.events.NodeEvent.TheVariants as event
 use Rattle.server_journal.specs.Weight.{IsLight}
-use Rattle.server_station.specs.Fit.{IsFit}
+use Rattle.server_station.specs.Fit.{IsFit, IsFramed}
 
 abbrev Bounded : Body → Type 0
 Bounded b = AllByRecursion IsBounded (body_fields b)
@@ -45,6 +46,10 @@ body_short (body.Commit old new) is = omega arith
 body_short (body.Abort new) is = omega arith
 body_short (body.VersionKept version) is = omega arith
 
+-- a packet that has a spelling
+pub packet_framed : (p : Packet) → HasSpelling (frame.Packet p) → IsFramed (event.Packet p)
+packet_framed p is = let short = body_short p.body is.bounded.1.1.1.1 in omega arith
+
 -- what is fit is light
 pub fit_light : (e : NodeEvent) → IsFit e → IsLight e
 fit_light (event.Packet p) fit = let short = body_short p.body fit.bounded.1.1.1.1 in omega arith
@@ -59,3 +64,6 @@ ask_length number call = omega (arith, length-append call [])
 -- a call that has come in a frame is short
 pub ask_short : (number : ℕ) (call : List ℕ) → HasSpelling (frame.Ask number call) → length call < 2 ^ 31
 ask_short number call is = omega (arith, is.bound, ask_length number call)
+
+pub ask_framed : (id number : ℕ) (call : List ℕ) → HasSpelling (frame.Ask number call) → IsFramed (event.Ask id call)
+ask_framed id number call is = omega (arith, is.bound, ask_length number call)

@@ -1,5 +1,5 @@
 -- What a turn makes of a station.
-use Rattle.std.specs.Prelude.{◌≡◌, ◌⊎◌, ℕ, ◌+◌, ◌==◌, ◌&&◌, not, Bool, true, false, if◌then◌else◌, Option, Some, None, List, [], ◌∷◌, ◌++◌, Result, Ok, Err}
+use Rattle.std.specs.Prelude.{◌≡◌, ◌⊎◌, ℕ, ◌+◌, ◌≤◌, ◌==◌, ◌&&◌, not, Bool, true, false, if◌then◌else◌, Option, Some, None, List, [], ◌∷◌, ◌++◌, Result, Ok, Err}
 use Rattle.disk_base.specs.declared.disks.Disk.{Ghosts}
 use Rattle.db_image.specs.Standing.{Standing}
 use Rattle.ubik_calls.specs.declared.frames.Frame.{Frame}
@@ -26,6 +26,7 @@ use Rattle.server_rounds.specs.declared.turns.TurnEnd.TheVariants as end
 use Rattle.server_station.specs.declared.askers.Asker.{Asker}
 use Rattle.server_journal.specs.declared.counts.Limits.{Limits}
 use Rattle.server_journal.specs.declared.items.JournalItem.{JournalItem}
+use Rattle.server_journal.specs.Counts.{bytes_of}
 use Rattle.server_station.specs.declared.recorded.StationEnd.{StationEnd}
 use Rattle.server_station.specs.declared.recorded.StationEnd.TheVariants.{Done, Halted, JournalFull}
 use Rattle.server_station.specs.Frames.{frames_of, askers_after, IsCut}
@@ -106,3 +107,8 @@ abbrev pub Turned : {D V : Type 0} → Ghosts D → Standing → Limits → Act 
 Turned g d limits (Makes event asker) now before after sent end = TurnsBy g d limits event asker now before after sent end
 Turned g d limits (Tells peer number) now before after sent end = RestsBy before after (debug_answer before.node now peer number ∷ []) sent end
 Turned g d limits Rests now before after sent end = RestsBy before after [] sent end
+
+-- where the journal had no room for a turn, it would have had no more than the greatest frame brings beside its items
+abbrev pub IsFullByFrame : List JournalItem → TurnEnd → Type 0
+IsFullByFrame items (end.JournalFull entries bytes) = bytes ≤ bytes_of items + 2097184
+IsFullByFrame items _ = Unit {0}

@@ -3,7 +3,7 @@ ghost use Rattle.std.specs.Prelude.{◌≡◌, ◌+◌, ◌%◌, ◌^◌, ◌∷
 ghost use Rattle.ubik_types.specs.Moment.{IsMoment};
 ghost use Rattle.ubik_calls.specs.declared.frames.Frame.TheVariants as frames;
 ghost use Rattle.ubik_calls.specs.WireGrammar.{HasSpelling};
-ghost use Rattle.server_station.specs.Fit.{IsFit};
+ghost use Rattle.server_station.specs.Fit.{IsFit, IsFramed};
 
 use crate::Station;
 use crate::askers::Asker;
@@ -19,7 +19,7 @@ impl<D: SteadyDisk, V: DraftService, L: Opening, J: Keeper> Station<D, V, L, J> 
     ghost use Rattle.ubik_calls.specs.Reading.{frame_of};
     ghost use Rattle.ubik_node.specs.Node.{own_member};
     ghost use Rattle.server_journal.specs.Counts.{asks_of};
-    ghost use Rattle.server_station.specs.Turns.{RestsBy, Turned, TurnsBy, act_of, act_of_frame, debug_answer, seen};
+    ghost use Rattle.server_station.specs.Turns.{IsFullByFrame, RestsBy, Turned, TurnsBy, act_of, act_of_frame, debug_answer, seen};
 
     /// Makes a turn, at `now` or at the moment of the last step, whichever is later, in seconds: a step at most. `out` is empty before it,
     /// and then has what goes out of the step. What a step that was made has in the journal is kept before anything goes out of it.
@@ -31,6 +31,7 @@ impl<D: SteadyDisk, V: DraftService, L: Opening, J: Keeper> Station<D, V, L, J> 
             (act_of (own_member self.old.recorded.node) (asks_of (J.items self.old.recorded.journal)) turn) (max self.old.recorded.node.last now)
             (seen self.old.recorded.node (J.items self.old.recorded.journal) self.old.askers)
             (seen self.new.recorded.node (J.items self.new.recorded.journal) self.new.askers) out.new result }
+        ensures framed { IsFullByFrame (J.items self.old.recorded.journal) result }
         ensures limits { J.limits self.new.recorded.journal ≡ J.limits self.old.recorded.journal }
         ensures share { seat.new.share.amount + length (J.items self.old.recorded.journal) ≡ seat.old.share.amount + length (J.items self.new.recorded.journal) }
         ensures lent { self.new.recorded.shares.lent ≡ self.old.recorded.shares.lent }
@@ -59,6 +60,7 @@ impl<D: SteadyDisk, V: DraftService, L: Opening, J: Keeper> Station<D, V, L, J> 
             (act_of_frame (own_member self.old.recorded.node) (asks_of (J.items self.old.recorded.journal)) peer (frame_of frame.now)) (max self.old.recorded.node.last now)
             (seen self.old.recorded.node (J.items self.old.recorded.journal) self.old.askers)
             (seen self.new.recorded.node (J.items self.new.recorded.journal) self.new.askers) out.new result }
+        ensures framed { IsFullByFrame (J.items self.old.recorded.journal) result }
         ensures limits { J.limits self.new.recorded.journal ≡ J.limits self.old.recorded.journal }
         ensures share { seat.new.share.amount + length (J.items self.old.recorded.journal) ≡ seat.old.share.amount + length (J.items self.new.recorded.journal) }
         ensures lent { self.new.recorded.shares.lent ≡ self.old.recorded.shares.lent }
@@ -120,10 +122,12 @@ impl<D: SteadyDisk, V: DraftService, L: Opening, J: Keeper> Station<D, V, L, J> 
         requires all { L.all ≡ L.parts }
         requires moment { IsMoment now }
         requires fit { IsFit event }
+        requires framed { IsFramed event }
         requires empty { out.old ≡ [] }
         ensures turned { TurnsBy D.Disk V.standing (J.limits self.old.recorded.journal) event (option_to_list asker) (max self.old.recorded.node.last now)
             (seen self.old.recorded.node (J.items self.old.recorded.journal) self.old.askers)
             (seen self.new.recorded.node (J.items self.new.recorded.journal) self.new.askers) out.new result }
+        ensures framed { IsFullByFrame (J.items self.old.recorded.journal) result }
         ensures limits { J.limits self.new.recorded.journal ≡ J.limits self.old.recorded.journal }
         ensures share { seat.new.share.amount + length (J.items self.old.recorded.journal) ≡ seat.old.share.amount + length (J.items self.new.recorded.journal) }
         ensures lent { self.new.recorded.shares.lent ≡ self.old.recorded.shares.lent }

@@ -7,11 +7,17 @@ use Rattle.ubik_node.specs.Node.{own_member}
 use Rattle.server_journal.specs.Counts.{asks_of}
 use Rattle.server_station.specs.Turns.{Turned, act_of_frame, seen}
 use Rattle.server_station.proofs.Asking.{asked_next}
-use Rattle.server_station.proofs.Fitting.{ask_short}
+use Rattle.server_station.proofs.Fitting.{ask_framed, ask_short, packet_framed}
 use Rattle.server_station.proofs.station.Station.take_frame.Goals as goal
 
 pub step_for-requires-in-Ok-Ask-clause-fit : goal.step_for-requires-in-Ok-Ask-clause-fit
 step_for-requires-in-Ok-Ask-clause-fit g c = ask_short c.in-Ok-Ask.number c.in-Ok-Ask.call (search rules)
+
+pub step_for-requires-in-Ok-Ask-clause-framed : goal.step_for-requires-in-Ok-Ask-clause-framed
+step_for-requires-in-Ok-Ask-clause-framed g c = ask_framed c.next_id-id.result c.in-Ok-Ask.number c.in-Ok-Ask.call (search rules)
+
+pub step_for-requires-clause-framed : goal.step_for-requires-clause-framed
+step_for-requires-clause-framed g c = packet_framed c.in-Ok-Packet.packet (search rules)
 
 pub returns-in-Ok-Ask-clause-turned : goal.returns-in-Ok-Ask-clause-turned
 returns-in-Ok-Ask-clause-turned g c =
