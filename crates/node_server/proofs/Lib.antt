@@ -1,3 +1,7 @@
--- What a server shows of its files, and how it ends for its words.
+-- What a server shows of its files, how it ends for its words, what is seen of the cause of another end, and that it explains the end.
+pub mod Explaining
+pub mod Filling
+pub mod InMemory
+pub mod Seeing
 pub mod Showing
 pub mod Wording

@@ -1,16 +1,24 @@
 -- How a server ends: why its workers have ended, or why it was not opened (own).
-use Rattle.std.specs.Prelude.{◌≡◌, ◌≢◌, Result, Ok, Err}
+use Rattle.std.specs.Prelude.{◌≡◌, ◌≢◌, ◌<◌, ◌≤◌, ◌⊎◌, ℕ, List, true, Option, Some, None, IfSome, IsNone, Result, Ok, Err}
+use Rattle.ubik_types.specs.declared.versions.Version.{Version}
+use Rattle.disk_base.specs.declared.disks.Disk.{Ghosts}
+use Rattle.disk_base.specs.Crash.{IsSettled}
 use Rattle.disk_base.specs.Files.{Files}
 use Rattle.server_crew.specs.declared.running.CrewEnd.{CrewEnd}
 use Rattle.server_crew.specs.declared.running.CrewEnd.TheVariants as crew
 use Rattle.ubik_store.specs.declared.faults.StoreFault.{StoreFault}
 use Rattle.ubik_store.specs.declared.faults.StoreFault.TheVariants as fault
-use Rattle.ubik_store.specs.Opening.{RefusesFiles}
+use Rattle.ubik_store.specs.Files.{StandsFor}
+use Rattle.ubik_store.specs.Opening.{IsOpening, RefusesFiles}
+use Rattle.server_journal.specs.declared.counts.Limits.{Limits}
+use Rattle.server_journal.specs.declared.items.JournalItem.{JournalItem}
 use Rattle.server_texts.specs.Words.{Named}
 use Rattle.server_texts.specs.declared.words.WordsFault.{WordsFault}
 use Rattle.server_texts.specs.declared.words.WordsFault.TheVariants.{Word, NoMemory}
 use Rattle.server_texts.specs.declared.kinds.ServerKind.{ServerKind}
 use Rattle.server_texts.specs.declared.kinds.ServerKind.TheVariants as kind
+use Rattle.node_server.specs.declared.ends.ServerRun.{ServerRun}
+use Rattle.node_server.specs.Causes.{was_full}
 
 abbrev pub kind_of_end : CrewEnd → ServerKind
 kind_of_end crew.Closed = kind.Closed
@@ -54,3 +62,31 @@ kind_of_words NoMemory = kind.NoMemory
 abbrev pub FollowsWords : Result Named WordsFault → ServerKind → Type 0
 FollowsWords (Ok named) ended = IsNotForWords ended
 FollowsWords (Err fault) ended = ended ≢ kind.NoMemory → ended ≡ kind_of_words fault
+
+-- the files stand for a version and an image
+abbrev pub StandsForSome : Files → Type 0
+StandsForSome fs = (version : Version) × (image : List ℕ) × StandsFor fs version image
+
+-- nothing is pending on the disk, and its files stand for a version and an image
+abbrev pub IsQuiet : {D : Type 0} → Ghosts D → D → Type 0
+IsQuiet g disk = IsSettled (g.files disk) (g.may_leave disk) × IfSome (g.files disk) StandsForSome
+
+-- The disk that comes back. Of a server that was not opened it is the one handed in, or what the opening of a store leaves of that; of one that
+-- was it is quiet, unless it has failed.
+abbrev pub GivesBack : {D J : Type 0} → Ghosts D → (old new : D) → ServerKind → Option (ServerRun J) → Type 0
+GivesBack g old new ended None = (new ≡ old) ⊎ IsOpening g old new (ended ≡ kind.DiskFault)
+GivesBack g old new ended (Some run) = (g.faults old ≤ g.faults new) × ((g.faults old < g.faults new) ⊎ IsQuiet g new)
+
+-- What shows why a server ended so, beside its words: the net that may close by itself, the spawner that may refuse, its journal, which keeps to
+-- these limits, its disk and its files; whether it was opened; and what comes back.
+pub record Explains {D J : Type 0} (g : Ghosts D) (items_of : J → List JournalItem) (limits_of : J → Limits) (limits : Limits) (may_close may_refuse : Type 0) (old new : D) (ended : ServerKind) (ran : Option (ServerRun J)) : Type 0 where
+  pub closed : ended ≡ kind.Closed → may_close
+  pub refused : ended ≡ kind.NoThread → may_refuse
+  pub journal_full : (entries bytes : ℕ) → ended ≡ kind.JournalFull entries bytes
+      → IfSome ran (λ r. was_full limits (items_of r.journal) entries bytes ≡ true)
+  pub disk_fault : ended ≡ kind.DiskFault → g.faults old < g.faults new
+  pub bad_files : IfSome (g.files old) (λ fs. ShowsFiles fs ended)
+  pub run : IsNone ran → IsNotRun ended
+  pub opened : IfSome ran (λ _. IfSome (g.files old) StandsForSome)
+  pub kept : IfSome ran (λ r. limits_of r.journal ≡ limits)
+  pub disk : GivesBack g old new ended ran

@@ -1,2 +1,3 @@
--- How a server ends.
+-- How a server ends, and what shows why.
+pub mod Causes
 pub mod Ends

@@ -1,13 +1,31 @@
 //! A station as the bench of a crew.
-ghost use Rattle.std.specs.Prelude.{◌≡◌, ◌+◌, []};
+ghost use Rattle.std.specs.Prelude.{◌≡◌, ◌+◌, ◌<◌, ◌≤◌, true, []};
 ghost use Rattle.ubik_types.specs.Moment.{IsMoment};
 
 use db_image::DraftService;
 use server_crew::{Bench, Seats};
 use server_rounds::{Sendings, Turn, TurnEnd};
 use server_station::{Keeper, Opening, Seat, Station};
-use std::marker::PhantomData;
+use std::marker::{Brand, PhantomData};
 use ubik_node::SteadyDisk;
+
+/// A server that was opened, named by the call that runs it.
+pub(crate) trait Running: Opening {
+    ghost use Rattle.std.specs.Prelude.{ℕ};
+    ghost use Rattle.server_journal.specs.declared.counts.Limits.{Limits};
+
+    /// How much its journal keeps at most.
+    ghost limits: { Limits };
+
+    /// How often its disk had failed before.
+    ghost failed_before: { ℕ };
+}
+
+impl Running for Brand {
+    ghost limits = { record { entries = 0; bytes = 0 } };
+
+    ghost failed_before = { 0 };
+}
 
 /// Shows that the ledger of an opening has as many parts as the opening says.
 pub(crate) struct Whole<L: Opening> {
@@ -29,24 +47,33 @@ impl<L: Opening> Drop for Whole<L> {
     }
 }
 
-/// A station whose seats are lent to the workers of a crew.
-pub(crate) struct StationBench<D: SteadyDisk, V: DraftService, L: Opening, J: Keeper> {
+/// A station whose seats are lent to the workers of a crew. What it began with is named by its opening.
+pub(crate) struct StationBench<D: SteadyDisk, V: DraftService, L: Running, J: Keeper> {
     pub(crate) station: Station<D, V, L, J>,
     pub(crate) whole: Whole<L>,
+    ghost limits: { J.limits station.recorded.journal ≡ L.limits },
+    ghost failed: { L.failed_before ≤ D.faults station.recorded.node.store.disk },
+    ghost halted: { station.recorded.node.halted ≡ true → L.failed_before < D.faults station.recorded.node.store.disk },
 }
 
-impl<D: SteadyDisk + Send, V: DraftService + Send, L: Opening + Send, J: Keeper + Send> Bench
+impl<D: SteadyDisk + Send, V: DraftService + Send, L: Running + Send, J: Keeper + Send> Bench
     for StationBench<D, V, L, J> {
+    ghost use Rattle.node_server.specs.Causes.{is_seen};
+
+    ghost caused = { λ b. is_seen L.limits (J.items b.station.recorded.journal) L.failed_before (D.faults b.station.recorded.node.store.disk) };
+
     type Seat = Seat<L>;
 
     fn turn(&mut self, seat: &mut Seat<L>, now: u32, turn: Turn, out: &mut Sendings) -> TurnEnd {
         let _ = &self.whole.of;
-        self.station.turn(seat, now, turn, out)
+        let StationBench { station, .. } = self;
+        station.turn(seat, now, turn, out)
     }
 
     fn take_back(&mut self, seat: Seat<L>) {
         let _ = &self.whole.of;
-        self.station.merge(seat);
+        let StationBench { station, .. } = self;
+        station.merge(seat);
     }
 }
 
@@ -56,6 +83,8 @@ pub(crate) fn lend<D: SteadyDisk, V: DraftService, L: Opening, J: Keeper>(
 ) -> Seats<Seat<L>>
     requires lent { station.old.recorded.shares.lent ≡ 0 }
     requires all { L.all ≡ 7 }
+    ensures node { station.new.recorded.node ≡ station.old.recorded.node }
+    ensures journal { station.new.recorded.journal ≡ station.old.recorded.journal }
 {
     Seats {
         beacons: station.share(),

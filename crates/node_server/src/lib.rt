@@ -8,5 +8,5 @@ mod openings;
 mod tops;
 
 pub use ends::{ServerEnd, ServerRun};
-pub use server_texts::{Database, ServerKind, ServerWords, WordsFault, read_words};
+pub use server_texts::{Database, ServerKind, ServerWords, WordsFault, read_words, say_end};
 pub use tops::{server_over, server_top};

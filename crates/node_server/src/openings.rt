@@ -1,19 +1,20 @@
 //! A server from its opening to its end: the node, the station, and the workers in threads of one scope.
-ghost use Rattle.std.specs.Prelude.{◌≡◌, ◌≢◌, ◌<◌, [], length, Option, IfSome, IsNone};
+ghost use Rattle.std.specs.Prelude.{◌≡◌, ◌≢◌, ◌<◌, ◌≤◌, ◌⊎◌, ℕ, [], length, true, false, Option, IfSome, IsNone, MatchOption};
 ghost use Rattle.ubik_types.specs.Moment.{IsMoment};
 ghost use Rattle.disk_base.specs.Crash.{IsSettled};
 ghost use Rattle.disk_base.specs.Files.{Files};
 ghost use Rattle.ubik_node.specs.Node.{IsStored};
 ghost use Rattle.ubik_store.specs.Opening.{RefusesFiles};
-ghost use Rattle.node_server.specs.Ends.{IsNotForWords, IsNotRun, ShowsFiles, kind_of_end, kind_of_fault};
+ghost use Rattle.node_server.specs.Causes.{was_full};
+ghost use Rattle.node_server.specs.Ends.{Explains, IsQuiet, IsNotForWords, ShowsFiles, kind_of_end, kind_of_fault};
 
-use crate::benches::{StationBench, Whole, lend};
+use crate::benches::{Running, StationBench, Whole, lend};
 use crate::ends::ServerRun;
 use db_image::DraftService;
 use disk_base::Refused;
 use io_base::{Clock, Gate, Net, Spawner};
 use server_crew::{CrewEnd, Outside, run_crew};
-use server_station::{Keeper, Opening, Station};
+use server_station::{Keeper, Station};
 use server_texts::{ServerKind, ServerWords};
 use std::alloc::Global;
 use std::marker::Brand;
@@ -30,6 +31,7 @@ pub(crate) struct Served<D, J> {
 }
 
 /// Opens a server of one of the databases over its disk, and runs it to its end.
+#[tactic(auto, using(crate::proofs::Explaining::is_up))]
 pub(crate) fn open_and_serve<
     D: SteadyDisk + Drop + Send,
     V: DraftService + Send,
@@ -51,10 +53,8 @@ pub(crate) fn open_and_serve<
     requires empty { J.items journal ≡ [] }
     requires me { words.me < length words.cell }
     ensures words { IsNotForWords result.kind }
-    ensures closed { result.kind ≡ ServerKind.Closed → N.may_close outside.now.net.now }
-    ensures refused { result.kind ≡ ServerKind.NoThread → P.may_refuse outside.now.spawner.now }
-    ensures bad_files { IfSome (D.files disk) (λ fs. ShowsFiles fs result.kind) }
-    ensures run { IsNone result.run → IsNotRun result.kind }
+    ensures explained { Explains D.Disk J.items J.limits (J.limits journal)
+        (N.may_close outside.now.net.now) (P.may_refuse outside.now.spawner.now) disk result.disk result.kind result.run }
 {
     let now = outside.clock.now();
     let ServerWords { cell, me, .. } = words;
@@ -77,14 +77,9 @@ pub(crate) fn open_and_serve<
 }
 
 /// How a server ends that its store refuses.
-#[tactic(auto, using(crate::proofs::Showing::shows_refused))]
 fn kind_of_fault(why: StoreFault) -> ServerKind
     ensures kind { result ≡ kind_of_fault why }
-    ensures shown { (files : Option Files) → IfSome files (λ fs. RefusesFiles fs why) → IfSome files (λ fs. ShowsFiles fs result) }
-    ensures run { IsNotRun result }
     ensures words { IsNotForWords result }
-    ensures closed { result ≢ ServerKind.Closed }
-    ensures refused { result ≢ ServerKind.NoThread }
 {
     match why {
         StoreFault::BadLabel { len, head } => ServerKind::BadFiles { len, head },
@@ -103,6 +98,8 @@ fn kind_of_end(end: CrewEnd) -> ServerKind
     ensures words { IsNotForWords result }
     ensures closed { result ≡ ServerKind.Closed → end ≡ CrewEnd.Closed }
     ensures refused { result ≡ ServerKind.NoThread → end ≡ CrewEnd.NoThread }
+    ensures journal_full { (entries bytes : ℕ) → result ≡ ServerKind.JournalFull entries bytes → end ≡ CrewEnd.JournalFull entries bytes }
+    ensures disk_fault { result ≡ ServerKind.DiskFault → end ≡ CrewEnd.Halted }
 {
     match end {
         CrewEnd::Closed => ServerKind::Closed,
@@ -118,7 +115,7 @@ fn kind_of_end(end: CrewEnd) -> ServerKind
 fn serve_as<
     D: SteadyDisk + Drop + Send,
     V: DraftService + Send,
-    L: Opening + Send + Sync,
+    L: Running + Send + Sync,
     J: Keeper + Send,
     N: Net,
     C: Clock,
@@ -139,11 +136,20 @@ fn serve_as<
     requires stored { IsStored D.Disk node }
     requires moment { IsMoment node.last }
     requires empty { J.items journal ≡ [] }
+    requires limits { J.limits journal ≡ L.limits }
+    requires up { node.halted ≡ false }
+    requires failed { L.failed_before ≤ D.faults node.store.disk }
     ensures words { IsNotForWords result.kind }
     ensures closed { result.kind ≡ ServerKind.Closed → N.may_close outside.now.net.now }
     ensures refused { result.kind ≡ ServerKind.NoThread → P.may_refuse outside.now.spawner.now }
+    ensures journal_full { (entries bytes : ℕ) → result.kind ≡ ServerKind.JournalFull entries bytes →
+        IfSome result.run (λ run. was_full L.limits (J.items run.journal) entries bytes ≡ true) }
+    ensures limits { IfSome result.run (λ run. J.limits run.journal ≡ L.limits) }
+    ensures disk_fault { result.kind ≡ ServerKind.DiskFault → L.failed_before < D.faults result.disk }
     ensures files { (files : Option Files) → IfSome files (λ fs. ShowsFiles fs result.kind) }
-    ensures run { IsNone result.run → IsNotRun result.kind }
+    ensures short { IsNone result.run → result.kind ≡ ServerKind.NoMemory }
+    ensures disk { MatchOption result.run (result.disk ≡ node.store.disk)
+        (λ _. (L.failed_before ≤ D.faults result.disk) × ((L.failed_before < D.faults result.disk) ⊎ IsQuiet D.Disk result.disk)) }
 {
     let station = match Station::<D, V, L, J>::make(alloc, node, journal, blank) {
         Ok(station) => station,

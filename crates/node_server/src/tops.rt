@@ -1,9 +1,9 @@
 //! The top calls: a server from its words to its status.
-ghost use Rattle.std.specs.Prelude.{◌≡◌, ◌≢◌, ◌<◌, [], length, map, string_bytes, Option, IfSome, IsNone};
+ghost use Rattle.std.specs.Prelude.{◌≡◌, ◌<◌, ℕ, [], length, map, string_bytes, IfSome};
 ghost use Rattle.disk_base.specs.Crash.{IsSettled};
-ghost use Rattle.disk_base.specs.Files.{Files};
-ghost use Rattle.node_server.specs.Ends.{FollowsWords, IsNotForWords, IsNotRun, ShowsFiles, kind_of_words};
-ghost use Rattle.server_texts.specs.Ends.{status_of};
+ghost use Rattle.node_server.specs.Causes.{IsFullIn};
+ghost use Rattle.node_server.specs.Ends.{Explains, FollowsWords, IsNotForWords, kind_of_words};
+ghost use Rattle.server_texts.specs.Ends.{IsSaid, end_line, status_of};
 ghost use Rattle.server_texts.specs.Words.{meaning_of};
 
 use crate::ends::ServerEnd;
@@ -53,10 +53,11 @@ pub fn server_top<
     requires { IsSettled (D.files disk) (D.may_leave disk) }
     ensures status { result.status ≡ status_of result.kind }
     ensures words { FollowsWords (meaning_of (map string_bytes words.now)) result.kind }
-    ensures closed { result.kind ≡ ServerKind.Closed → N.may_close net.now }
-    ensures refused { result.kind ≡ ServerKind.NoThread → P.may_refuse spawner.now }
-    ensures bad_files { IfSome (D.files disk) (λ fs. ShowsFiles fs result.kind) }
-    ensures run { IsNone result.run → IsNotRun result.kind }
+    ensures explained { Explains D.Disk (λ journal. journal.held.items) (λ journal. journal.limits) JOURNAL_LIMITS
+        (N.may_close net.now) (P.may_refuse spawner.now) disk result.disk result.kind result.run }
+    ensures journal_full { (entries bytes : ℕ) → result.kind ≡ ServerKind.JournalFull entries bytes →
+        IfSome result.run (λ run. IsFullIn JOURNAL_LIMITS run.journal.held.items entries bytes) }
+    ensures said { IsSaid (K.written err.old) (K.written err.new) (K.faults err.old) (K.faults err.new) (end_line result.kind) }
 {
     let journal = Journal::new(alloc, JOURNAL_LIMITS);
     server_over(
@@ -90,10 +91,9 @@ pub fn server_over<
     requires empty { J.items journal ≡ [] }
     ensures status { result.status ≡ status_of result.kind }
     ensures words { FollowsWords (meaning_of (map string_bytes words.now)) result.kind }
-    ensures closed { result.kind ≡ ServerKind.Closed → N.may_close net.now }
-    ensures refused { result.kind ≡ ServerKind.NoThread → P.may_refuse spawner.now }
-    ensures bad_files { IfSome (D.files disk) (λ fs. ShowsFiles fs result.kind) }
-    ensures run { IsNone result.run → IsNotRun result.kind }
+    ensures explained { Explains D.Disk J.items J.limits (J.limits journal)
+        (N.may_close net.now) (P.may_refuse spawner.now) disk result.disk result.kind result.run }
+    ensures said { IsSaid (K.written err.old) (K.written err.new) (K.faults err.old) (K.faults err.new) (end_line result.kind) }
 {
     let outside = Outside {
         net,
@@ -102,7 +102,7 @@ pub fn server_over<
         gate,
     };
     let Served { kind, disk, run } = read_and_serve(rt, alloc, words, disk, journal, &outside);
-    say_end(alloc, &kind, err);
+    say_end(&kind, err);
     ServerEnd {
         status: kind.status(),
         kind,
@@ -131,10 +131,8 @@ fn read_and_serve<
     requires settled { IsSettled (D.files disk) (D.may_leave disk) }
     requires empty { J.items journal ≡ [] }
     ensures words { FollowsWords (meaning_of (map string_bytes words.now)) result.kind }
-    ensures closed { result.kind ≡ ServerKind.Closed → N.may_close outside.now.net.now }
-    ensures refused { result.kind ≡ ServerKind.NoThread → P.may_refuse outside.now.spawner.now }
-    ensures bad_files { IfSome (D.files disk) (λ fs. ShowsFiles fs result.kind) }
-    ensures run { IsNone result.run → IsNotRun result.kind }
+    ensures explained { Explains D.Disk J.items J.limits (J.limits journal)
+        (N.may_close outside.now.net.now) (P.may_refuse outside.now.spawner.now) disk result.disk result.kind result.run }
 {
     match read_words(alloc, words) {
         Ok(words) => serve(rt, alloc, words, disk, journal, outside),
@@ -147,13 +145,8 @@ fn read_and_serve<
 }
 
 /// How a server ends whose words are refused.
-#[tactic(auto, using(crate::proofs::Showing::shows_unit))]
 fn kind_of_words(fault: WordsFault) -> ServerKind
-    ensures kind { result ≡ kind_of_words fault }
-    ensures files { (files : Option Files) → IfSome files (λ fs. ShowsFiles fs result) }
-    ensures run { IsNotRun result }
-    ensures closed { result ≢ ServerKind.Closed }
-    ensures refused { result ≢ ServerKind.NoThread }
+    ensures { result ≡ kind_of_words fault }
 {
     match fault {
         WordsFault::Word { place } => ServerKind::Words { place },
@@ -182,10 +175,8 @@ fn serve<
     requires empty { J.items journal ≡ [] }
     requires me { words.me < length words.cell }
     ensures words { IsNotForWords result.kind }
-    ensures closed { result.kind ≡ ServerKind.Closed → N.may_close outside.now.net.now }
-    ensures refused { result.kind ≡ ServerKind.NoThread → P.may_refuse outside.now.spawner.now }
-    ensures bad_files { IfSome (D.files disk) (λ fs. ShowsFiles fs result.kind) }
-    ensures run { IsNone result.run → IsNotRun result.kind }
+    ensures explained { Explains D.Disk J.items J.limits (J.limits journal)
+        (N.may_close outside.now.net.now) (P.may_refuse outside.now.spawner.now) disk result.disk result.kind result.run }
 {
     match words.database {
         Database::Location => {

@@ -1,5 +1,6 @@
 use Rattle.std.proofs.Common.{map, string_bytes}
 use Rattle.server_texts.specs.Words.{meaning_of}
+use Rattle.node_server.proofs.Explaining.{unread}
 use Rattle.node_server.proofs.Wording.{follows_read, follows_refused}
 use Rattle.node_server.proofs.tops.read_and_serve.Goals as goal
 
@@ -10,4 +11,8 @@ returns-in-Ok-clause-words g c =
 pub returns-in-Err-clause-words : goal.returns-in-Err-clause-words
 returns-in-Err-clause-words g c =
     follows_refused (meaning_of (map string_bytes c.args.words.now)) c.in-Err.fault c.kind_of_words.result c.in-Err.ensures.meaning
-    c.kind_of_words.ensures.kind
+    c.kind_of_words.ensures
+
+pub returns-in-Err-clause-explained : goal.returns-in-Err-clause-explained
+returns-in-Err-clause-explained g c =
+    unread g.D.Disk g.J.Keeper.items g.J.Keeper.limits _ _ _ c.args.disk c.in-Err.fault _ c.kind_of_words.ensures
