@@ -9,7 +9,8 @@ from running_cell import LINE_FULL, NO_QUORUM, NOT_SYNC, PORTS, Connection, Fail
 KIND = "ptserver"
 # What nametoid gives for a name that nobody has.
 NOBODY = 32766
-NAMES_AT_ONCE = 1_000
+# (a server looks at all its entries for each name)
+NAMES_AT_ONCE, TRIES = 50, 10
 
 
 class Client(threading.Thread):
@@ -119,18 +120,29 @@ class Clients:
             it.join(it.wait + 5)
         self.count()
 
-    def compare(self, site):
-        """Looks for each name at a server. Returns how many were acknowledged, of these found with their id and lost, and how many in doubt
-        were found and not."""
+    def compare(self, find_site):
+        """Looks for each name at the sync site. Returns how many were acknowledged, of these found with their id and lost, and how many in
+        doubt were found and not."""
         acknowledged = {name: number for it in self.all for name, number in it.acknowledged.items()}
         in_doubt = [name for it in self.all for name in it.in_doubt]
         found = {}
-        with Connection(site, PORTS[KIND]) as server:
-            for some in cut([*acknowledged, *in_doubt]):
-                found.update(zip(some, listed_words(server.call(*name_to_id(*some)))))
+        for some in cut([*acknowledged, *in_doubt]):
+            found.update(zip(some, ask_site(find_site, name_to_id(*some))))
         lost = [name for name, number in acknowledged.items() if found[name] != number]
         kept = [name for name in in_doubt if found[name] != NOBODY]
         return len(acknowledged), len(acknowledged) - len(lost), lost, len(kept), len(in_doubt) - len(kept)
+
+
+def ask_site(find_site, call):
+    """Returns the words that the sync site answers, which is looked for anew where it gives no answer."""
+    for tries in range(TRIES):
+        try:
+            with Connection(find_site(), PORTS[KIND], 60) as server:
+                return listed_words(server.call(*call))
+        except (OSError, Refused) as why:
+            if tries == TRIES - 1:
+                raise Failed(f"the sync site does not answer: {why}") from why
+    return []
 
 
 def cut(names):
