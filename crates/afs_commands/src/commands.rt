@@ -1,5 +1,6 @@
 //! What the commands are asked to do.
-use crate::entries::{Access, Entry};
+use crate::accesses::Access;
+use crate::entries::Entry;
 use crate::places::{Place, SiteFilter, Style};
 use crate::volumes::Volume;
 use ubik_types::Bytes;

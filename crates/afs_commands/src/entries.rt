@@ -1,8 +1,10 @@
-//! Users and groups, as a command names them, and who may see and change their entries.
+//! Users and groups, as a command names them.
 ghost use Rattle.std.specs.Prelude.{◌≡◌, IfOk};
 ghost use Rattle.script_words.specs.Numbers.{signed_of};
+ghost use Rattle.afs_commands.specs.Names.{entry_of, is_signed_numeral};
 
-use script_words::signed_number;
+use crate::volumes::MAX_NAME;
+use script_words::{is_numeral, signed_number};
 use std::alloc::Global;
 use std::marker::Model;
 use ubik_types::{Bytes, NoMemory, bytes_of};
@@ -26,13 +28,17 @@ impl Model for Entry {
 }
 
 impl Entry {
-    /// The user or group that a word names.
-    pub fn named(alloc: Global, word: &[u8]) -> Result<Entry, NoMemory>
-        ensures { IfOk result (λ entry. entry ≡ word.now) }
+    /// The user or group that a word names; none where the word is longer than a name, or a number that is no id.
+    pub fn read(alloc: Global, word: &[u8]) -> Result<Option<Entry>, NoMemory>
+        ensures { IfOk result (λ entry. entry ≡ entry_of word.now) }
     {
         let id = signed_number(word);
-        let word = bytes_of(alloc, word)?;
-        Ok(Entry { word, id })
+        if word.len() <= MAX_NAME && (!is_signed_numeral(word) || id.is_some()) {
+            let word = bytes_of(alloc, word)?;
+            Ok(Some(Entry { word, id }))
+        } else {
+            Ok(None)
+        }
     }
 
     /// A copy, which is not read again.
@@ -58,12 +64,12 @@ impl Entry {
     }
 }
 
-/// Who sees an entry, what it owns and its members, who adds members and who removes them: a letter each.
-#[derive(Clone, Copy, Debug, PartialEq, Eq)]
-pub struct Access {
-    pub status: u8,
-    pub owned: u8,
-    pub membership: u8,
-    pub add: u8,
-    pub remove: u8,
+/// Whether a word is a decimal number, with a minus or without, of any size.
+pub fn is_signed_numeral(word: &[u8]) -> bool
+    ensures { result ≡ is_signed_numeral word.now }
+{
+    match word {
+        [b'-', digits @ ..] => is_numeral(digits) && !digits.starts_with(b"0"),
+        _ => is_numeral(word),
+    }
 }

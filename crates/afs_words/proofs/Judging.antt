@@ -5,12 +5,12 @@ use Rattle.std.specs.Option.{option_or}
 use Rattle.std.specs.Prelude.{option_map, slice_get}
 use Rattle.std.proofs.Math.Seq.{take-append_seam}
 use Rattle.std.proofs.lemmas.List.{take-map}
-use Rattle.afs_words.specs.Forms.{fits}
 use Rattle.afs_words.specs.Good.{AreGood, is_good, is_required, rows_of}
 use Rattle.afs_words.specs.Command.{Command}
 use Rattle.afs_words.specs.Meaning.{Means, command_of, command_with, filled, first_bad, first_count, first_missing, front, judged, read_switches, slots_of, then_ok, unless_bad, unless_missing}
 use Rattle.afs_words.specs.Slots.{bad_among, bad_value, is_chosen, is_given, is_missing, may_stand, must_stand}
 use Rattle.afs_words.specs.Tables.{common_parameters, parameters_of}
+use Rattle.afs_words.specs.Taken.{fits}
 use Rattle.afs_words.specs.declared.faults.WordsFault.{WordsFault}
 use Rattle.afs_words.specs.declared.faults.WordsFault.TheVariants.{BadValue}
 use Rattle.afs_words.specs.declared.tables.Need.{Need}

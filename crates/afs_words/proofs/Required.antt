@@ -1,15 +1,21 @@
 -- Values of good switches have the forms of their rows, and switches that have to be given have one.
-use Rattle.std.proofs.Common.{◌≡◌, ℕ, ◌<◌, zero, suc, Bool, true, ◌&&◌, Some, List, [], ◌∷◌, length, refl, sym, ap, ◌∙◌, subst}
+use Rattle.std.proofs.Common.{◌≡◌, ℕ, ◌<◌, zero, suc, Bool, true, ◌&&◌, Option, Some, None, List, [], ◌∷◌, length, refl, sym, ap, ◌∙◌, subst}
 use Rattle.std.specs.List.{list_all}
-use Rattle.std.specs.Prelude.{IsSome, slice_get}
+use Rattle.std.specs.Option.{is_some}
+use Rattle.std.specs.Prelude.{IsSome, option_map, slice_get}
 use Rattle.std.proofs.lemmas.List.{length-map}
-use Rattle.afs_words.specs.Forms.{fits, has_form}
+use Rattle.host_words.specs.Hosts.{address_of}
+use Rattle.afs_commands.specs.Forms.{has_form}
+use Rattle.afs_commands.specs.Partitions.{partition_of}
+use Rattle.afs_commands.specs.declared.forms.Form.{Form}
+use Rattle.afs_commands.specs.declared.forms.Form.TheVariants as form
+use Rattle.afs_commands.specs.declared.forms.Value.{Value}
+use Rattle.afs_commands.specs.declared.forms.Value.TheVariants as value
 use Rattle.afs_words.specs.Given.{address_at, partition_at, value_at, values_at}
 use Rattle.afs_words.specs.Good.{AreGood, is_good, rows_of}
 use Rattle.afs_words.specs.Slots.{is_given, slot_of}
 use Rattle.afs_words.specs.Tables.{row}
-use Rattle.afs_words.specs.declared.tables.Form.{Form}
-use Rattle.afs_words.specs.declared.tables.Form.TheVariants as form
+use Rattle.afs_words.specs.Taken.{fits, takes_at}
 use Rattle.afs_words.specs.declared.tables.Need.{Need}
 use Rattle.afs_words.specs.declared.tables.Need.TheVariants.{Required}
 use Rattle.afs_words.specs.declared.tables.Parameter.{Parameter}
@@ -48,13 +54,19 @@ pub has_value : (rows : List Parameter) (slots : List Slot) (i : ℕ) (s : Switc
     → slice_get rows i ≡ Some (row s Required (One f)) → IsSome (value_at slots i)
 has_value rows slots i s f good there = let p = found rows slots i s f good there in rw p.1 refl
 
+is_inside : {X : Type 0} (make : X → Value) (o : Option X) → is_some (option_map make o) ≡ true → is_some o ≡ true
+is_inside make None is = is
+is_inside make (Some x) is = refl
+
 pub has_address : (rows : List Parameter) (slots : List Slot) (i : ℕ) (s : Switch) → AreGood rows slots
     → slice_get rows i ≡ Some (row s Required (One form.Address)) → IsSome (address_at slots i)
-has_address rows slots i s good there = let p = found rows slots i s form.Address good there in rw p.1 p.2
+has_address rows slots i s good there =
+    let p = found rows slots i s form.Address good there in rw p.1 (is_inside value.Number (address_of p.0) p.2)
 
 pub has_partition : (rows : List Parameter) (slots : List Slot) (i : ℕ) (s : Switch) → AreGood rows slots
     → slice_get rows i ≡ Some (row s Required (One form.Partition)) → IsSome (partition_at slots i)
-has_partition rows slots i s good there = let p = found rows slots i s form.Partition good there in rw p.1 p.2
+has_partition rows slots i s good there =
+    let p = found rows slots i s form.Partition good there in rw p.1 (is_inside value.Number (partition_of p.0) p.2)
 
 -- there is a switch for each row
 pub within : (rows : List Parameter) (slots : List Slot) (i : ℕ) → AreGood rows slots → i < length rows → i < length slots
@@ -65,3 +77,13 @@ within rows slots i good low =
 pub all_fit : (rows : List Parameter) (slots : List Slot) (i : ℕ) (s : Switch) (n : Need) (t : Takes) → AreGood rows slots
     → slice_get rows i ≡ Some (row s n t) → list_all (fits t) (values_at slots i) ≡ true
 all_fit rows slots i s n t good there = (both _ (list_all (fits t) (values_at slots i)) (good_in rows slots i (row s n t) good there)).1
+
+row_takes : (slots : List Slot) (i : ℕ) (p : Parameter) → slice_get (rows_of slots) i ≡ Some p → takes_at slots i ≡ Some p.takes
+row_takes [] i p there = cc
+row_takes (slot ∷ slots) zero p there = let same : slot.parameter ≡ p = cc in ap (λ (q : Parameter). Some q.takes) same
+row_takes (slot ∷ slots) (suc i) p there = row_takes slots i p there
+
+-- what the switch at a place takes, by the table
+pub takes_in : (rows : List Parameter) (slots : List Slot) (i : ℕ) (s : Switch) (n : Need) (t : Takes) → AreGood rows slots
+    → slice_get rows i ≡ Some (row s n t) → takes_at slots i ≡ Some t
+takes_in rows slots i s n t good there = row_takes slots i (row s n t) (ap (λ (rs : List Parameter). slice_get rs i) good.0 ∙ there)

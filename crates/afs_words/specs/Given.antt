@@ -2,8 +2,9 @@
 use Rattle.std.specs.Prelude.{ℕ, ℤ, Bool, List, [], Option, option_map, option_and_then, slice_get, unwrap_or}
 use Rattle.std.specs.Option.{is_some}
 use Rattle.script_words.specs.Numbers.{number_within, signed_of}
-use Rattle.afs_words.specs.Forms.{address_of, partition_of}
-use Rattle.afs_words.specs.declared.forms.TheConstants.{MAX_NEW_ID}
+use Rattle.host_words.specs.Hosts.{address_of}
+use Rattle.afs_commands.specs.Partitions.{partition_of}
+use Rattle.afs_commands.specs.declared.forms.TheConstants.{MAX_NEW_ID}
 use Rattle.afs_words.specs.declared.values.Slot.{Slot}
 
 -- the values of the switch at a place, and the first of them

@@ -1,7 +1,7 @@
 -- Switches of which none is missing and no value is bad.
 use Rattle.std.specs.Prelude.{◌≡◌, not, ◌&&◌, ◌||◌, Bool, true, false, List, map}
 use Rattle.std.specs.List.{list_all}
-use Rattle.afs_words.specs.Forms.{fits}
+use Rattle.afs_words.specs.Taken.{fits}
 use Rattle.afs_words.specs.Slots.{is_given}
 use Rattle.afs_words.specs.declared.tables.Need.{Need}
 use Rattle.afs_words.specs.declared.tables.Need.TheVariants.{Required, Optional, OneOf}

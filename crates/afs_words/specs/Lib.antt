@@ -1,5 +1,4 @@
 pub mod Command
-pub mod Forms
 pub mod Given
 pub mod Good
 pub mod Making
@@ -7,4 +6,5 @@ pub mod Matching
 pub mod Meaning
 pub mod Slots
 pub mod Tables
+pub mod Taken
 pub mod Texts

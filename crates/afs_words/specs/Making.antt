@@ -1,13 +1,13 @@
 -- The command that the values of an operation's switches make.
-use Rattle.std.specs.Prelude.{◌≡◌, ℕ, ℤ, List, [], ◌∷◌, map, Some, option_map}
+use Rattle.std.specs.Prelude.{◌≡◌, ℕ, ℤ, List, map, Some, option_map}
 use Rattle.script_words.specs.Numbers.{signed_of}
+use Rattle.afs_commands.specs.Accesses.{access_word}
 use Rattle.afs_commands.specs.declared.commands.PtsCommand.{PtsCommand}
 use Rattle.afs_commands.specs.declared.commands.PtsCommand.TheVariants as pts
 use Rattle.afs_commands.specs.declared.commands.ToolCommand.{ToolCommand}
 use Rattle.afs_commands.specs.declared.commands.ToolCommand.TheVariants.{Vos, Pts}
 use Rattle.afs_commands.specs.declared.commands.VosCommand.{VosCommand}
 use Rattle.afs_commands.specs.declared.commands.VosCommand.TheVariants as vos
-use Rattle.afs_commands.specs.declared.entries.Access.{Access}
 use Rattle.afs_commands.specs.declared.places.Place.{Place}
 use Rattle.afs_commands.specs.declared.places.SiteFilter.{SiteFilter}
 use Rattle.afs_words.specs.Given.{values_at, value_at, flag_at, address_at, partition_at, new_id_at, number_at}
@@ -43,10 +43,6 @@ IsVos (vos.ChangeAddr from to) o s = (o ≡ op.ChangeAddr) × (address_at s 0 �
 -- the ids that words write
 abbrev pub AreIds : List ℤ → List (List ℕ) → Type 0
 AreIds ids words = map Some ids ≡ map signed_of words
-
--- the word of access
-abbrev pub access_word : Access → List ℕ
-access_word a = a.status ∷ a.owned ∷ a.membership ∷ a.add ∷ a.remove ∷ []
 
 -- a command of `pts` is what an operation is asked to do with these values
 abbrev pub IsPts : PtsCommand → Operation → List Slot → Type 0

@@ -23,7 +23,7 @@ abbrev pub Means : {A : Type 0} → Result A WordsFault → Result A WordsFault 
 Means meaning answer = answer ≢ Err NoMemory → answer ≡ meaning
 
 -- what a call answers that leaves this behind
-abbrev pub left : {A : Type 0} → Result (Unit {0}) WordsFault → A → Result A WordsFault
+abbrev pub left : {A B : Type 0} → Result B WordsFault → A → Result A WordsFault
 left (Ok _) x = Ok x
 left (Err fault) x = Err fault
 
@@ -116,13 +116,19 @@ abbrev pub first_count : List Slot → ℕ
 first_count [] = 0
 first_count (slot ∷ slots) = length slot.values
 
+-- how a bad value of a switch is refused, and the first that it has
+abbrev pub bad_word : Slot → List ℕ → WordsFault
+bad_word slot word = BadValue word slot.parameter.switch
+
+abbrev pub bad_in : (named chosen : ℕ) → Slot → Option WordsFault
+bad_in named chosen slot = option_map (bad_word slot) (bad_value named chosen slot)
+
 -- the first bad value, in the table's order
 abbrev pub first_bad : (named chosen : ℕ) → List Slot → Option WordsFault
 first_bad named chosen [] = None
-first_bad named chosen (slot ∷ slots) =
-    option_or (option_map (λ word. BadValue word slot.parameter.switch) (bad_value named chosen slot)) (first_bad named chosen slots)
+first_bad named chosen (slot ∷ slots) = option_or (bad_in named chosen slot) (first_bad named chosen slots)
 
-abbrev pub unless_bad : List Slot → Option WordsFault → Result (List Slot) WordsFault
+abbrev pub unless_bad : {A : Type 0} → A → Option WordsFault → Result A WordsFault
 unless_bad slots None = Ok slots
 unless_bad slots (Some fault) = Err fault
 

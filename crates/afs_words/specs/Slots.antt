@@ -2,7 +2,7 @@
 use Rattle.std.specs.Prelude.{ℕ, ◌==◌, ◌&&◌, not, nat_le, min, Bool, true, false, if◌then◌else◌, List, length, take, Option, slice_get}
 use Rattle.std.specs.List.{find}
 use Rattle.std.specs.Option.{option_or}
-use Rattle.afs_words.specs.Forms.{fits}
+use Rattle.afs_words.specs.Taken.{fits}
 use Rattle.afs_words.specs.declared.tables.Need.{Need}
 use Rattle.afs_words.specs.declared.tables.Need.TheVariants.{Required, Optional, OneOf}
 use Rattle.afs_words.specs.declared.tables.Takes.{Takes}

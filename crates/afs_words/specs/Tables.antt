@@ -6,7 +6,7 @@ use Rattle.afs_words.specs.declared.tables.Operation.{Operation}
 use Rattle.afs_words.specs.declared.tables.Operation.TheVariants.{AddEntry, ListVldb, Lock, Unlock, UnlockVldb, DelEntry, AddSite, RemSite, ChangeLoc, ListAddrs, ChangeAddr, CreateUser, CreateGroup, Delete, Rename, Chown, AddUser, RemoveUser, Membership, Examine, ListOwned, ListEntries, ListMax, SetMax, SetFields}
 use Rattle.afs_words.specs.declared.tables.Switch.{Switch}
 use Rattle.afs_words.specs.declared.tables.Switch.TheVariants as switch
-use Rattle.afs_words.specs.declared.tables.Form.TheVariants as form
+use Rattle.afs_commands.specs.declared.forms.Form.TheVariants as form
 use Rattle.afs_words.specs.declared.tables.Takes.{Takes}
 use Rattle.afs_words.specs.declared.tables.Takes.TheVariants.{Flag, LoneFlag, One, Many, EachOfFirst}
 use Rattle.afs_words.specs.declared.tables.Need.{Need}

@@ -1,13 +1,11 @@
 //! The words of a command, understood.
-ghost use Rattle.std.specs.Prelude.{◌≡◌, ◌<◌, ◌++◌, length, map, take, string_bytes, slice_get, count_by, option_map, Some, IfSome};
-ghost use Rattle.std.specs.List.{find};
-ghost use Rattle.std.specs.Option.{option_copied};
-ghost use Rattle.afs_words.specs.Slots.{is_chosen, is_missing};
+ghost use Rattle.std.specs.Prelude.{◌≡◌, ◌<◌, ◌++◌, length, map, take, string_bytes, slice_get, option_map, Some, IfOk, IfSome};
 ghost use Rattle.afs_words.specs.Making.{IsCommand};
 ghost use Rattle.afs_words.specs.Tables.{parameters_of, common_parameters};
-ghost use Rattle.afs_words.specs.Meaning.{Means, left, first_missing, first_count, first_bad, unless_bad, judged, slots_of, command_of, meaning_of};
+ghost use Rattle.afs_words.specs.Meaning.{Means, slots_of, command_of, meaning_of};
 
 use crate::faults::WordsFault;
+use crate::judged::Judged;
 use crate::making::tool_command;
 use crate::matching::{Meant, Named, find_named};
 use crate::switches::{Switches, front};
@@ -23,7 +21,7 @@ use ubik_types::NoMemory;
 #[derive(Drop)]
 pub struct Words {
     operation: Operation,
-    switches: Switches,
+    switches: Judged,
     command: ToolCommand,
 }
 
@@ -123,13 +121,10 @@ fn read_command(alloc: Global, operation: Operation, words: &[String]) -> Result
     ensures { Means (command_of operation (map string_bytes words.now)) result }
 {
     let own = operation.parameters();
-    let mut parameters = own.to_vec(alloc).map_err(NoMemory::from)?;
-    parameters
-        .extend_from_slice(&COMMON)
-        .map_err(NoMemory::from)?;
+    let parameters = with_common(alloc, own)?;
     let mut switches = read_slots(alloc, parameters.as_slice(), words)?;
     switches.truncate(own.len());
-    let command = tool_command(alloc, operation, switches.as_slice())?;
+    let command = tool_command(alloc, operation, &switches)?;
     Ok(Words {
         operation,
         switches,
@@ -137,67 +132,24 @@ fn read_command(alloc: Global, operation: Operation, words: &[String]) -> Result
     })
 }
 
+/// A table with the switches that every operation takes behind its own.
+fn with_common(alloc: Global, own: &[Parameter]) -> Result<Vec<Parameter>, NoMemory>
+    ensures { IfOk result (λ parameters. parameters.items ≡ own.now ++ common_parameters) }
+{
+    let mut parameters = own.to_vec(alloc)?;
+    parameters.extend_from_slice(&COMMON)?;
+    Ok(parameters)
+}
+
 /// The switches of a table with the values that the words give them, all of which are good.
 fn read_slots(
     alloc: Global,
     parameters: &[Parameter],
     words: &[String],
-) -> Result<Switches, WordsFault>
+) -> Result<Judged, WordsFault>
     ensures { Means (slots_of parameters.now (map string_bytes words.now)) result }
 {
     let filled = Switches::filled(alloc, parameters, front(words))?;
     let switches = filled.read(alloc, words)?;
-    judge(alloc, switches.as_slice())?;
-    Ok(switches)
-}
-
-/// Refuses the first switch that is missing, and else the first bad value, in the table's order.
-fn judge(alloc: Global, slots: &[Slot]) -> Result<(), WordsFault>
-    ensures { Means (judged slots.now) (left result slots.now) }
-{
-    let chosen = chosen_count(slots);
-    if let Some(slot) = first_missing(slots, chosen) {
-        let switch = slot.parameter.switch;
-        return Err(WordsFault::MissingSwitch { switch });
-    }
-    let named = match slots {
-        [] => 0,
-        [first, ..] => first.values.as_slice().len(),
-    };
-    judge_values(alloc, slots, named, chosen)
-}
-
-/// How many switches were given of those of which one has to be.
-fn chosen_count(slots: &[Slot]) -> usize
-    ensures { result ≡ count_by is_chosen slots.now }
-{
-    slots.iter().filter(|slot| slot.is_chosen()).count()
-}
-
-/// The first switch that is missing.
-fn first_missing(slots: &[Slot], chosen: usize) -> Option<&Slot>
-    ensures { option_copied result ≡ find (λ slot. is_missing chosen slot) slots.now }
-{
-    slots.iter().find(|slot| slot.is_missing(chosen))
-}
-
-/// Refuses the first bad value, where the first switch has `named` values, and `chosen` were given of those of which
-/// one has to be.
-fn judge_values(
-    alloc: Global,
-    slots: &[Slot],
-    named: usize,
-    chosen: usize,
-) -> Result<(), WordsFault>
-    ensures { Means (unless_bad slots.now (first_bad named chosen slots.now)) (left result slots.now) }
-{
-    for slot in slots {
-        if let Some(word) = slot.bad_value(named, chosen) {
-            return Err(WordsFault::BadValue {
-                word: Word::of(alloc, word.as_str())?,
-                switch: slot.parameter.switch,
-            });
-        }
-    }
-    Ok(())
+    Judged::of(alloc, switches)
 }

@@ -2,6 +2,8 @@
 ghost use Rattle.std.specs.Prelude.{◌≡◌};
 ghost use Rattle.afs_words.specs.Tables.{operation_name, switch_name, operations_of, parameters_of, common_parameters};
 
+use afs_commands::Form;
+
 /// A command.
 #[derive(Clone, Copy, Debug, PartialEq, Eq)]
 pub enum Tool {
@@ -66,33 +68,6 @@ pub enum Switch {
     GroupQuota,
     NoAuth,
     LocalAuth,
-}
-
-/// What a value is to be.
-#[derive(Clone, Copy, Debug, PartialEq, Eq)]
-pub enum Form {
-    /// The name of a volume that is made: at most 22 bytes.
-    NewVolume,
-    /// The id of a volume that is made: 1 to 2147483645, so that two more fit behind it.
-    NewVolumeId,
-    /// The name of a volume, or its id below 2^32.
-    Volume,
-    /// A dotted address.
-    Address,
-    /// The letters or the number of a partition.
-    Partition,
-    /// The name of a user or group that is made: at most 255 bytes.
-    NewName,
-    /// The name of a user or group, or its id of 32 bits.
-    Entry,
-    /// The id of a user that is made: 1 to 2147483647.
-    UserId,
-    /// The id of a group that is made: -2147483647 to -1.
-    GroupId,
-    /// A number of 32 bits with a sign.
-    Signed,
-    /// Five letters of access.
-    Access,
 }
 
 /// What a switch takes.

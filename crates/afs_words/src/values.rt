@@ -1,9 +1,6 @@
 //! The words of a command, and the values of its switches.
-ghost use Rattle.std.specs.Prelude.{◌≡◌, ◌∷◌, ◌==◌, [], map, take, length, nat_eq, count_by, string_bytes, IfOk, Option, slice_get, not};
-ghost use Rattle.std.specs.List.{find};
-ghost use Rattle.std.specs.Option.{option_or, option_copied};
-ghost use Rattle.afs_words.specs.Forms.{fits};
-ghost use Rattle.afs_words.specs.Slots.{is_given, is_chosen, is_missing, may_stand, bad_value};
+ghost use Rattle.std.specs.Prelude.{◌≡◌, ◌∷◌, ◌==◌, [], map, length, string_bytes, IfOk};
+ghost use Rattle.afs_words.specs.Slots.{is_given, is_chosen, is_missing, may_stand};
 ghost use Rattle.afs_words.specs.Tables.{switch_name};
 
 use crate::matching::Named;
@@ -148,7 +145,7 @@ impl Slot {
 
     /// How many of the values may stand beside the other switches: the first of these has `named` values, and
     /// `chosen` of those were given of which one has to be.
-    fn may_stand(&self, named: usize, chosen: usize) -> usize
+    pub(crate) fn may_stand(&self, named: usize, chosen: usize) -> usize
         ensures { result ≡ may_stand self.now.parameter.takes named chosen (length self.now.values) }
     {
         match self.parameter.takes {
@@ -157,20 +154,4 @@ impl Slot {
             _ => self.values.as_slice().len(),
         }
     }
-
-    /// The first value that does not fit.
-    pub fn bad_value(&self, named: usize, chosen: usize) -> Option<&Word>
-        ensures { option_copied result ≡ bad_value named chosen self.now }
-    {
-        let values = self.values.as_slice();
-        let count = self.may_stand(named, chosen).min(values.len());
-        first_unfit(self.parameter.takes, &values[..count]).or(values.get(count))
-    }
-}
-
-/// The first word that is out of form.
-fn first_unfit(takes: Takes, words: &[Word]) -> Option<&Word>
-    ensures { option_copied result ≡ find (λ word. not (fits takes word)) words.now }
-{
-    words.iter().find(|word| !takes.fits(word.as_bytes()))
 }

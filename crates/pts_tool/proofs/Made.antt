@@ -7,7 +7,8 @@ use Rattle.afs_commands.specs.declared.commands.PtsCommand.TheVariants as pts
 use Rattle.afs_commands.specs.declared.commands.VosCommand.{VosCommand}
 use Rattle.afs_commands.specs.declared.commands.VosCommand.TheVariants as vos
 use Rattle.afs_words.specs.Given.{flag_at, number_at, value_at, values_at}
-use Rattle.afs_words.specs.Making.{IsPts, IsVos, access_word}
+use Rattle.afs_commands.specs.Accesses.{access_word}
+use Rattle.afs_words.specs.Making.{IsPts, IsVos}
 use Rattle.afs_words.specs.declared.tables.Operation.{Operation}
 use Rattle.afs_words.specs.declared.tables.Operation.TheVariants as op
 use Rattle.afs_words.specs.declared.values.Slot.{Slot}

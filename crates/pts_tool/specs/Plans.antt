@@ -5,7 +5,7 @@ use Rattle.afs_commands.specs.declared.commands.PtsCommand.{PtsCommand}
 use Rattle.afs_commands.specs.declared.commands.PtsCommand.TheVariants as pts
 use Rattle.afs_words.specs.Command.{Command}
 use Rattle.afs_words.specs.Given.{values_at, value_at, flag_at, number_at}
-use Rattle.afs_words.specs.Making.{access_word}
+use Rattle.afs_commands.specs.Accesses.{access_word}
 use Rattle.afs_words.specs.declared.tables.Operation.{Operation}
 use Rattle.afs_words.specs.declared.tables.Operation.TheVariants as operation
 use Rattle.afs_words.specs.declared.values.Slot.{Slot}

@@ -1,6 +1,6 @@
 //! The flags of an entry and the letters of its access (ptserver): five places of four bits.
 ghost use Rattle.std.specs.Prelude.{◌≡◌, ◌<◌, ◌≤◌, ◌==◌, length, position, IfSome};
-ghost use Rattle.afs_words.specs.Making.{access_word};
+ghost use Rattle.afs_commands.specs.Accesses.{access_word};
 ghost use Rattle.pts_tool.specs.Flags.{letter_of, value_of, flags_text, flags_of};
 
 use afs_commands::Access;

@@ -1,6 +1,6 @@
 //! The items of a command.
 ghost use Rattle.std.specs.Prelude.{◌≡◌, [], ◌∷◌, ◌++◌, map, drop, true, false, IfOk, OnOk, Some, None, option_map};
-ghost use Rattle.afs_words.specs.Making.{access_word};
+ghost use Rattle.afs_commands.specs.Accesses.{access_word};
 ghost use Rattle.pts_tool.specs.Flags.{flags_of};
 ghost use Rattle.pts_tool.specs.Plans.{command_tasks, deed_task, made, pairs, maximum, mask_of, fields, kinds_of};
 ghost use Rattle.pts_tool.specs.declared.tasks.Task.TheVariants as task;

@@ -4,8 +4,8 @@ use Rattle.afs_words.specs.declared.tables.Operation.{Operation}
 use Rattle.afs_words.specs.declared.tables.Operation.TheVariants as operation
 use Rattle.afs_words.specs.declared.tables.Switch.{Switch}
 use Rattle.afs_words.specs.declared.tables.Switch.TheVariants as switch
-use Rattle.afs_words.specs.declared.tables.Form.{Form}
-use Rattle.afs_words.specs.declared.tables.Form.TheVariants as form
+use Rattle.afs_commands.specs.declared.forms.Form.{Form}
+use Rattle.afs_commands.specs.declared.forms.Form.TheVariants as form
 
 -- a name that is given
 abbrev pub new_name : Operation → List ℕ

@@ -2,7 +2,8 @@
 ghost use Rattle.std.specs.Prelude.{◌≡◌};
 ghost use Rattle.tool_help.specs.ValueNames.{new_name, entry_name, address_name, signed_name, value_name};
 
-use afs_words::{Form, Operation, Switch};
+use afs_commands::Form;
+use afs_words::{Operation, Switch};
 
 /// A name that is given by this operation.
 fn new_name(operation: Operation) -> &'static str

@@ -1,11 +1,17 @@
 use Rattle.std.proofs.Common.{refl}
 use Rattle.afs_words.specs.Tables.{parameters_of}
 use Rattle.afs_words.specs.declared.tables.Operation.TheVariants as op
-use Rattle.afs_words.proofs.Required.{has_value}
+use Rattle.afs_words.proofs.Required.{has_value, takes_in}
 use Rattle.afs_words.proofs.pts_commands.chown.Goals as goal
 
-pub word_at-requires : goal.word_at-requires
-word_at-requires c = has_value (parameters_of op.Chown) c.args.slots.now 0 _ _ c.requires refl
+pub given_entry-requires : goal.given_entry-requires
+given_entry-requires c = record {
+  form = takes_in (parameters_of op.Chown) c.args.judged.now 0 _ _ _ c.requires refl;
+  given = has_value (parameters_of op.Chown) c.args.judged.now 0 _ _ c.requires refl;
+}
 
-pub word_at-requires-2 : goal.word_at-requires-2
-word_at-requires-2 c = has_value (parameters_of op.Chown) c.args.slots.now 1 _ _ c.requires refl
+pub given_entry-requires-2 : goal.given_entry-requires-2
+given_entry-requires-2 c = record {
+  form = takes_in (parameters_of op.Chown) c.args.judged.now 1 _ _ _ c.requires refl;
+  given = has_value (parameters_of op.Chown) c.args.judged.now 1 _ _ c.requires refl;
+}

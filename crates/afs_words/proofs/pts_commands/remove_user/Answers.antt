@@ -1,10 +1,10 @@
-use Rattle.std.proofs.Common.{lit<}
+use Rattle.std.proofs.Common.{refl}
 use Rattle.afs_words.specs.Tables.{member_rows}
-use Rattle.afs_words.proofs.Required.{within}
+use Rattle.afs_words.proofs.Required.{takes_in}
 use Rattle.afs_words.proofs.pts_commands.remove_user.Goals as goal
 
-pub values_at-requires : goal.values_at-requires
-values_at-requires c = within member_rows c.args.slots.now 0 c.requires (lit< tt)
+pub entries-requires : goal.entries-requires
+entries-requires c = takes_in member_rows c.args.judged.now 0 _ _ _ c.requires refl
 
-pub values_at-requires-2 : goal.values_at-requires-2
-values_at-requires-2 c = within member_rows c.args.slots.now 1 c.requires (lit< tt)
+pub entries-requires-2 : goal.entries-requires-2
+entries-requires-2 c = takes_in member_rows c.args.judged.now 1 _ _ _ c.requires refl

@@ -1,8 +1,8 @@
-use Rattle.std.proofs.Common.{lit<}
+use Rattle.std.proofs.Common.{refl}
 use Rattle.afs_words.specs.Tables.{parameters_of}
 use Rattle.afs_words.specs.declared.tables.Operation.TheVariants as op
-use Rattle.afs_words.proofs.Required.{within}
+use Rattle.afs_words.proofs.Required.{takes_in}
 use Rattle.afs_words.proofs.vos_commands.del_entry.Goals as goal
 
-pub values_at-requires : goal.values_at-requires
-values_at-requires c = within (parameters_of op.DelEntry) c.args.slots.now 0 c.requires (lit< tt)
+pub volumes-requires : goal.volumes-requires
+volumes-requires c = takes_in (parameters_of op.DelEntry) c.args.judged.now 0 _ _ _ c.requires refl
