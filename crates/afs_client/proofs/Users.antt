@@ -6,14 +6,10 @@ use Rattle.std.specs.Ordering.{int_eq}
 use Rattle.script_words.specs.Numbers.{signed_of}
 use Rattle.afs_words.specs.Command.{Command}
 use Rattle.afs_words.specs.Given.{number_at, value_at, values_at}
-use Rattle.afs_words.specs.Tables.{parameters_of, row}
-use Rattle.afs_words.specs.declared.tables.Form.TheVariants as form
-use Rattle.afs_words.specs.declared.tables.Need.{Need}
+use Rattle.afs_words.specs.Good.{AreGood}
+use Rattle.afs_words.specs.Tables.{parameters_of}
 use Rattle.afs_words.specs.declared.tables.Operation.{Operation}
 use Rattle.afs_words.specs.declared.tables.Operation.TheVariants as op
-use Rattle.afs_words.specs.declared.tables.Parameter.{Parameter}
-use Rattle.afs_words.specs.declared.tables.Switch.{Switch}
-use Rattle.afs_words.specs.declared.tables.Takes.TheVariants.{One, Many}
 use Rattle.afs_words.specs.declared.values.Slot.{Slot}
 use Rattle.pt_calls.specs.Answers.{answer_of}
 use Rattle.pt_calls.specs.Calls.{call_kind}
@@ -39,7 +35,7 @@ use Rattle.pts_tool.specs.Texts.{rows}
 use Rattle.afs_client.specs.Questions.{is_pt_answer, is_taken, is_user_id, pt_fits, pt_page_has_bits, users_database}
 use Rattle.afs_client.proofs.Asked.{Taken, sound_call}
 use Rattle.afs_client.proofs.Sounding.{AlwaysSound, Any, Sound, always_then, sound_gives, sound_if, sound_met, sound_own, sound_says, sound_with}
-use Rattle.afs_client.proofs.Words.{Fits, Fitting, IsShort, all_short, entry_name, first_short, first_true, let_through, new_name, parameter, second_true, some_short, values_fit}
+use Rattle.afs_client.proofs.Words.{Fitting, IsShort, entry_name, first_short, first_true, let_through, names_at, new_name, second_true, some_short}
 
 abbrev pub PtsSound : {A : Type 0} → Course A → Type 1
 PtsSound m = AlwaysSound users_database m
@@ -265,60 +261,50 @@ maximum_sound : (given : Type 0) (is_group : Bool) (id : Option ℤ)
 maximum_sound given is_group None = tt
 maximum_sound given is_group (Some id) = (does_sound (call.SetMax id is_group) (λ bytes. refl) refl refl given, tt)
 
-entries_at : (slots : List Slot) (ps : List Parameter) (place : ℕ) (must : Need) (switch : Switch) → map parameter slots ≡ ps → AllByRecursion Fits slots
-    → slice_get ps place ≡ Some (row switch must (Many form.Entry)) → AllByRecursion IsShort (values_at slots place)
-entries_at slots ps place must switch table forms at =
-    all_short form.Entry _ entry_name (values_fit slots ps place _ table forms at)
-
-entry_at : (slots : List Slot) (ps : List Parameter) (place : ℕ) (must : Need) (switch : Switch) → map parameter slots ≡ ps → AllByRecursion Fits slots
-    → slice_get ps place ≡ Some (row switch must (One form.Entry)) → AllByRecursion IsShort (values_at slots place)
-entry_at slots ps place must switch table forms at =
-    all_short form.Entry _ entry_name (values_fit slots ps place _ table forms at)
-
 -- the items of an operation whose words were understood
-tasks_sound : (o : Operation) (slots : List Slot) → map parameter slots ≡ parameters_of o → AllByRecursion Fits slots → (given : Type 0)
+tasks_sound : (o : Operation) (slots : List Slot) → AreGood (parameters_of o) slots → (given : Type 0)
     → AllByRecursion (λ t. Sound users_database given Any (task_course t)) (tasks_for o slots)
-tasks_sound op.CreateUser slots table forms given =
-    made_sound given false None _ _ tt (all_short form.NewName _ new_name (values_fit slots _ 0 _ table forms refl))
-tasks_sound op.CreateGroup slots table forms given =
-    made_sound given true _ _ _ (first_short _ (entry_at slots _ 1 _ _ table forms refl))
-    (all_short form.NewName _ new_name (values_fit slots _ 0 _ table forms refl))
-tasks_sound op.Delete slots table forms given =
-    each_item _ _ (λ word short. deletes_sound word short given) _ (entries_at slots _ 0 _ _ table forms refl)
-tasks_sound op.Rename slots table forms given = (
-  changes_sound _ _ None (some_short _ (entry_at slots _ 0 _ _ table forms refl))
-      (some_short _ (all_short form.NewName _ new_name (values_fit slots _ 1 _ table forms refl))) tt given,
+tasks_sound op.CreateUser slots good given =
+    made_sound given false None _ _ tt (names_at _ slots 0 _ _ _ good refl new_name)
+tasks_sound op.CreateGroup slots good given =
+    made_sound given true _ _ _ (first_short _ (names_at _ slots 1 _ _ _ good refl entry_name))
+    (names_at _ slots 0 _ _ _ good refl new_name)
+tasks_sound op.Delete slots good given =
+    each_item _ _ (λ word short. deletes_sound word short given) _ (names_at _ slots 0 _ _ _ good refl entry_name)
+tasks_sound op.Rename slots good given = (
+  changes_sound _ _ None (some_short _ (names_at _ slots 0 _ _ _ good refl entry_name))
+      (some_short _ (names_at _ slots 1 _ _ _ good refl new_name)) tt given,
   tt,
 )
-tasks_sound op.Chown slots table forms given = (
-  changes_sound _ [] (Some _) (some_short _ (entry_at slots _ 0 _ _ table forms refl)) refl
-      (some_short _ (entry_at slots _ 1 _ _ table forms refl)) given,
+tasks_sound op.Chown slots good given = (
+  changes_sound _ [] (Some _) (some_short _ (names_at _ slots 0 _ _ _ good refl entry_name)) refl
+      (some_short _ (names_at _ slots 1 _ _ _ good refl entry_name)) given,
   tt,
 )
-tasks_sound op.AddUser slots table forms given =
+tasks_sound op.AddUser slots good given =
     each_pair _ _ (λ user group user_short group_short. moves_sound user group true user_short group_short given) _ _
-    (entries_at slots _ 0 _ _ table forms refl) (entries_at slots _ 1 _ _ table forms refl)
-tasks_sound op.RemoveUser slots table forms given =
+    (names_at _ slots 0 _ _ _ good refl entry_name) (names_at _ slots 1 _ _ _ good refl entry_name)
+tasks_sound op.RemoveUser slots good given =
     each_pair _ _ (λ user group user_short group_short. moves_sound user group false user_short group_short given) _ _
-    (entries_at slots _ 0 _ _ table forms refl) (entries_at slots _ 1 _ _ table forms refl)
-tasks_sound op.Membership slots table forms given =
-    each_item _ _ (λ word short. lists_members_sound word short given) _ (entries_at slots _ 0 _ _ table forms refl)
-tasks_sound op.Examine slots table forms given =
-    each_item _ _ (λ word short. examines_sound word short given) _ (entries_at slots _ 0 _ _ table forms refl)
-tasks_sound op.ListOwned slots table forms given =
-    each_item _ _ (λ word short. lists_owned_sound word short given) _ (entries_at slots _ 0 _ _ table forms refl)
-tasks_sound op.ListEntries slots table forms given = (lists_entries_sound _ given, tt)
-tasks_sound op.ListMax slots table forms given = (lists_maxima_sound given, tt)
-tasks_sound op.SetMax slots table forms given =
+    (names_at _ slots 0 _ _ _ good refl entry_name) (names_at _ slots 1 _ _ _ good refl entry_name)
+tasks_sound op.Membership slots good given =
+    each_item _ _ (λ word short. lists_members_sound word short given) _ (names_at _ slots 0 _ _ _ good refl entry_name)
+tasks_sound op.Examine slots good given =
+    each_item _ _ (λ word short. examines_sound word short given) _ (names_at _ slots 0 _ _ _ good refl entry_name)
+tasks_sound op.ListOwned slots good given =
+    each_item _ _ (λ word short. lists_owned_sound word short given) _ (names_at _ slots 0 _ _ _ good refl entry_name)
+tasks_sound op.ListEntries slots good given = (lists_entries_sound _ given, tt)
+tasks_sound op.ListMax slots good given = (lists_maxima_sound given, tt)
+tasks_sound op.SetMax slots good given =
     let group : Option ℤ = number_at slots 0 in
     let user : Option ℤ = number_at slots 1 in
     all_append (λ t. Sound users_database given Any (task_course t)) (maximum true group) (maximum false user)
     (maximum_sound given true group) (maximum_sound given false user)
-tasks_sound op.SetFields slots table forms given =
+tasks_sound op.SetFields slots good given =
     each_item _ (fields (option_map flags_of (value_at slots 1)) (number_at slots 2)) (λ word short. sets_fields_sound word _ _ _ short given) _
-    (entries_at slots _ 0 _ _ table forms refl)
-tasks_sound _ slots table forms given = tt
+    (names_at _ slots 0 _ _ _ good refl entry_name)
+tasks_sound _ slots good given = tt
 
 -- each command of `pts` that was understood
 pub pts_sound : (c : Command) → Fitting c → PtsSound (pts_course c)
-pts_sound c fitting = works_sound (tasks_of c) (tasks_sound c.operation c.switches fitting.table fitting.forms)
+pts_sound c fitting = works_sound (tasks_of c) (tasks_sound c.operation c.switches fitting)

@@ -4,8 +4,8 @@ use Rattle.std.specs.Prelude.{nat_lt, if◌then◌else◌, length, is_some, IfSo
 use Rattle.std.specs.List.{AllByRecursion, list_all}
 use Rattle.afs_words.specs.Command.{Command}
 use Rattle.afs_words.specs.Given.{value_at, values_at}
+use Rattle.afs_words.specs.Good.{AreGood}
 use Rattle.afs_words.specs.Tables.{parameters_of}
-use Rattle.afs_words.specs.declared.tables.Form.TheVariants as form
 use Rattle.afs_words.specs.declared.tables.Operation.{Operation}
 use Rattle.afs_words.specs.declared.tables.Operation.TheVariants as op
 use Rattle.afs_words.specs.declared.values.Slot.{Slot}
@@ -46,7 +46,7 @@ use Rattle.afs_client.specs.Questions.{is_volume_id, vl_page_has_bits, vl_questi
 use Rattle.afs_client.proofs.Asked.{sound_call}
 use Rattle.afs_client.proofs.Giving.{sound_gives_up, sound_replacing}
 use Rattle.afs_client.proofs.Sounding.{AlwaysSound, Any, Sound, always_then, sound_gives, sound_if, sound_met, sound_says, sound_with}
-use Rattle.afs_client.proofs.Words.{Fits, Fitting, IsShort, all_short, first_short, first_true, let_through, new_volume_name, parameter, second_true, some_short, values_fit, volume_name}
+use Rattle.afs_client.proofs.Words.{Fitting, IsShort, first_short, first_true, let_through, names_at, new_volume_name, second_true, some_short, volume_name}
 
 abbrev pub VosSound : {A : Type 0} → Course A → Type 1
 VosSound m = AlwaysSound volumes_database m
@@ -245,20 +245,20 @@ text_sound op.ChangeAddr s names = changeaddr_sound _ _
 text_sound _ s names = value []
 
 -- the names of a command that was understood
-vos_names : (o : Operation) (slots : List Slot) → map parameter slots ≡ parameters_of o → AllByRecursion Fits slots → VosNames o slots
-vos_names op.AddEntry slots table forms = some_short _ (all_short form.NewVolume _ new_volume_name (values_fit slots _ 0 _ table forms refl))
-vos_names op.ListVldb slots table forms = first_short _ (all_short form.Volume _ volume_name (values_fit slots _ 0 _ table forms refl))
-vos_names op.Lock slots table forms = some_short _ (all_short form.Volume _ volume_name (values_fit slots _ 0 _ table forms refl))
-vos_names op.Unlock slots table forms = some_short _ (all_short form.Volume _ volume_name (values_fit slots _ 0 _ table forms refl))
-vos_names op.DelEntry slots table forms = all_short form.Volume _ volume_name (values_fit slots _ 0 _ table forms refl)
-vos_names op.AddSite slots table forms = some_short _ (all_short form.Volume _ volume_name (values_fit slots _ 2 _ table forms refl))
-vos_names op.RemSite slots table forms = some_short _ (all_short form.Volume _ volume_name (values_fit slots _ 2 _ table forms refl))
-vos_names op.ChangeLoc slots table forms = some_short _ (all_short form.Volume _ volume_name (values_fit slots _ 2 _ table forms refl))
-vos_names _ slots table forms = tt
+vos_names : (o : Operation) (slots : List Slot) → AreGood (parameters_of o) slots → VosNames o slots
+vos_names op.AddEntry slots good = some_short _ (names_at _ slots 0 _ _ _ good refl new_volume_name)
+vos_names op.ListVldb slots good = first_short _ (names_at _ slots 0 _ _ _ good refl volume_name)
+vos_names op.Lock slots good = some_short _ (names_at _ slots 0 _ _ _ good refl volume_name)
+vos_names op.Unlock slots good = some_short _ (names_at _ slots 0 _ _ _ good refl volume_name)
+vos_names op.DelEntry slots good = names_at _ slots 0 _ _ _ good refl volume_name
+vos_names op.AddSite slots good = some_short _ (names_at _ slots 2 _ _ _ good refl volume_name)
+vos_names op.RemSite slots good = some_short _ (names_at _ slots 2 _ _ _ good refl volume_name)
+vos_names op.ChangeLoc slots good = some_short _ (names_at _ slots 2 _ _ _ good refl volume_name)
+vos_names _ slots good = tt
 
 -- each command of `vos` that was understood
 pub vos_sound : (c : Command) → Fitting c → VosSound (vos_course c)
 unfolding vos_text
 vos_sound c fitting =
-    let names : VosNames c.operation c.switches = vos_names c.operation c.switches fitting.table fitting.forms in
+    let names : VosNames c.operation c.switches = vos_names c.operation c.switches fitting in
     chain (vos_text c) _ (text_sound c.operation c.switches names) (λ text. chain (says text) _ (λ given. sound_says volumes_database given text) (λ said. value tt))

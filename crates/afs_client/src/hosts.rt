@@ -1,9 +1,8 @@
 //! The hosts that a word names.
-ghost use Rattle.std.specs.Prelude.{◌≡◌, IfOk, true, false, Err, Some, None};
-ghost use Rattle.std.specs.List.{list_all};
-ghost use Rattle.afs_client.specs.Hosts.{are_distinct, are_some_hosts, hosts_of, is_address, named_hosts, parts_of};
+ghost use Rattle.std.specs.Prelude.{◌≡◌, IfOk, Err, Some, None};
+ghost use Rattle.afs_client.specs.Hosts.{are_distinct, are_some_hosts, hosts_of};
 
-use afs_words::address;
+use host_words::listed_hosts;
 use std::alloc::Global;
 use std::marker::Model;
 use ubik_types::{Host, MAXSERVERS, NoMemory};
@@ -49,7 +48,9 @@ impl Hosts {
         ensures hosts { IfOk result (λ hosts. hosts_of text.now ≡ Some hosts) }
         ensures malformed { result ≡ Err HostsFault.Malformed → hosts_of text.now ≡ None }
     {
-        let list = addresses(alloc, text)?;
+        let Some(list) = listed_hosts(alloc, text)? else {
+            return Err(HostsFault::Malformed);
+        };
         if are_some_hosts(list.as_slice()) {
             Ok(Hosts { list })
         } else {
@@ -63,24 +64,6 @@ impl Hosts {
     {
         self.list.as_slice()
     }
-}
-
-/// The hosts of the parts between commas, each of which must be a dotted address.
-fn addresses(alloc: Global, text: &[u8]) -> Result<Vec<Host>, HostsFault>
-    ensures addresses { IfOk result (λ hosts. list_all is_address (parts_of text.now) ≡ true) }
-    ensures named { IfOk result (λ hosts. hosts.items ≡ named_hosts text.now) }
-    ensures malformed { result ≡ Err HostsFault.Malformed → list_all is_address (parts_of text.now) ≡ false }
-{
-    let mut hosts = Vec::new(alloc);
-    for part in text.split(|byte| *byte == b',') {
-        let Some(number) = address(part) else {
-            return Err(HostsFault::Malformed);
-        };
-        if hosts.push(Host(number)).is_err() {
-            return Err(HostsFault::NoMemory);
-        }
-    }
-    Ok(hosts)
 }
 
 /// Whether these are at most 20 distinct hosts.

@@ -1,11 +1,10 @@
-use Rattle.std.proofs.Common.{◌≡◌, ℕ, Bool, true, false, List, Some, None, Result, Err, refl, sym, ap, ◌∙◌}
+use Rattle.std.proofs.Common.{◌≡◌, ℕ, Bool, true, false, List, Some, None, refl, sym, ap, ◌∙◌}
 use Rattle.std.specs.Prelude.{◌&&◌, if◌then◌else◌}
 use Rattle.std.specs.List.{list_all}
-use Rattle.std.proofs.lemmas.Result.{err_from_is_err_and}
+use Rattle.std.specs.Option.{is_some}
 use Rattle.ubik_types.specs.declared.hosts.Host.{Host}
-use Rattle.afs_client.specs.Hosts.{are_some_hosts, hosts_of, is_address, named_hosts, parts_of}
-use Rattle.afs_client.specs.declared.hosts.HostsFault.{HostsFault}
-use Rattle.afs_client.specs.declared.hosts.HostsFault.TheVariants.{Malformed}
+use Rattle.host_words.specs.Hosts.{is_address, named_hosts, parts_of}
+use Rattle.afs_client.specs.Hosts.{are_some_hosts, hosts_of}
 use Rattle.afs_client.proofs.hosts.Hosts.parse.Goals as goal
 
 chosen : (a b : Bool) (hosts : List Host) → a ≡ true → b ≡ true → (if a && b then Some hosts else None) ≡ Some hosts
@@ -39,20 +38,15 @@ no_hosts text list seen named same some =
     second_fails (list_all is_address (parts_of text)) (are_some_hosts (named_hosts text)) (named_hosts text)
     (ap are_some_hosts (sym named) ∙ ap are_some_hosts (sym same) ∙ sym some)
 
-refused : {T : Type 0} (fault given : HostsFault) (r : Result T HostsFault) → r ≡ Err given → given ≡ fault → r ≡ Err Malformed → fault ≡ Malformed
-refused fault given r is same malformed = cc
-
-pub returns-in_err-list-clause-malformed : goal.returns-in_err-list-clause-malformed
-returns-in_err-list-clause-malformed c = λ is.
-    let from = err_from_is_err_and c.from_residual.result c.from_residual.ensures.1 in
-    no_addresses c.args.text.now (sym (c.in_err-list.ensures.malformed (ap (λ (e : HostsFault). Err e) (refused _ _ _ from.1 from.2 is))))
+pub returns-in_default-clause-malformed : goal.returns-in_default-clause-malformed
+returns-in_default-clause-malformed c = λ is. no_addresses c.args.text.now (sym (ap is_some c.in_default.is) ∙ c.in_ok-list.ensures.addresses)
 
 pub returns-then-are_some_hosts-clause-hosts : goal.returns-then-are_some_hosts-clause-hosts
 returns-then-are_some_hosts-clause-hosts c =
-    are_hosts c.args.text.now c.in_ok-list.list.items c.as_slice.result.now (sym c.in_ok-list.ensures.addresses) c.in_ok-list.ensures.named
-    c.as_slice.ensures.value c.if-are_some_hosts.ensures
+    are_hosts c.args.text.now c.in-Some.list.items c.as_slice.result.now (sym (ap is_some c.in-Some.is) ∙ c.in_ok-list.ensures.addresses)
+    (rw c.in-Some.is at c.in_ok-list.ensures.hosts) c.as_slice.ensures.value c.if-are_some_hosts.ensures
 
 pub returns-else-are_some_hosts-clause-malformed : goal.returns-else-are_some_hosts-clause-malformed
 returns-else-are_some_hosts-clause-malformed c = λ is.
-    no_hosts c.args.text.now c.in_ok-list.list.items c.as_slice.result.now c.in_ok-list.ensures.named c.as_slice.ensures.value
+    no_hosts c.args.text.now c.in-Some.list.items c.as_slice.result.now (rw c.in-Some.is at c.in_ok-list.ensures.hosts) c.as_slice.ensures.value
     c.if-are_some_hosts.ensures
