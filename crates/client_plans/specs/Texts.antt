@@ -1,13 +1,17 @@
 -- What the programs say of themselves.
-use Rattle.std.specs.Prelude.{ℕ, if◌then◌else◌, List, [], ◌∷◌, codes, Option, Some, None}
+use Rattle.std.specs.Prelude.{ℕ, if◌then◌else◌, List, [], ◌∷◌, ◌++◌, codes, Option, Some, None}
 use Rattle.std.specs.Str.{bytes_eq}
 use Rattle.afs_words.specs.declared.tables.Tool.{Tool}
 use Rattle.afs_words.specs.declared.tables.Tool.TheVariants.{Vos, Pts}
-use Rattle.client_plans.specs.declared.texts.TheConstants.{VOS_HELP, PTS_HELP, VOS_VERSION, PTS_VERSION}
+use Rattle.client_plans.specs.declared.texts.TheConstants.{VOS_USAGE, PTS_USAGE, HELP_END, VOS_VERSION, PTS_VERSION}
 
+abbrev pub usage_text : Tool → List ℕ
+usage_text Vos = VOS_USAGE.now
+usage_text Pts = PTS_USAGE.now
+
+-- how a command is typed, and what is the same of both
 abbrev pub help_text : Tool → List ℕ
-help_text Vos = VOS_HELP.now
-help_text Pts = PTS_HELP.now
+help_text tool = usage_text tool ++ HELP_END.now
 
 abbrev pub version_text : Tool → List ℕ
 version_text Vos = VOS_VERSION.now

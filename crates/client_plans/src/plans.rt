@@ -44,8 +44,8 @@ pub fn make_plan(
 ) -> Result<Plan, NoMemory>
     ensures { IfOk result (λ plan. Plans string_bytes tool words.items (option_map string_bytes variable) file.now plan) }
 {
-    match asked_text(tool, &words) {
-        Some(text) => Ok(Plan::Say(told(alloc, text)?)),
+    match asked_text(alloc, tool, &words)? {
+        Some(text) => Ok(Plan::Say(told(text))),
         None => plan_words(alloc, tool, words, variable, file),
     }
 }
