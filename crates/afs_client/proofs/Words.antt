@@ -1,6 +1,6 @@
 -- The values of a command that was understood have the forms of its table; names are such as a call takes.
 use Rattle.std.proofs.Common.{◌≡◌, ℕ, Bool, true, false, List, [], ◌∷◌, ◌++◌, length, Option, Some, None, Result, Ok, refl, subst, arith}
-use Rattle.std.specs.Prelude.{◌&&◌, cond, nat_le, if◌then◌else◌, IfSome, option_map, slice_get, unwrap_or}
+use Rattle.std.specs.Prelude.{◌&&◌, nat_le, if◌then◌else◌, IfSome, option_map, slice_get, unwrap_or}
 use Rattle.std.specs.List.{AllByRecursion, list_all}
 use Rattle.std.specs.Option.{is_some}
 use Rattle.afs_commands.specs.Forms.{has_form}
