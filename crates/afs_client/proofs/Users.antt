@@ -1,11 +1,11 @@
 -- The courses of `pts` are sound, where the names in its words are such as a call takes.
-use Rattle.std.proofs.Common.{◌≡◌, ℕ, ℤ, Bool, true, false, List, [], ◌∷◌, ◌++◌, map, take, drop, length, Option, Some, None, Ok, Err, refl, subst, zero, suc, arith}
-use Rattle.std.specs.Prelude.{◌&&◌, nat_le, nat_lt, if◌then◌else◌, pos, IfSome, option_and_then, option_map, slice_get}
+use Rattle.std.proofs.Common.{◌≡◌, ℕ, ℤ, Bool, true, false, List, [], ◌∷◌, ◌++◌, map, take, drop, length, Option, Some, None, Ok, Err, refl, zero, suc, arith}
+use Rattle.std.specs.Prelude.{◌&&◌, nat_le, nat_lt, if◌then◌else◌, pos, IfSome, option_and_then, option_map}
 use Rattle.std.specs.List.{AllByRecursion, flat_map, list_all}
 use Rattle.std.specs.Ordering.{int_eq}
 use Rattle.script_words.specs.Numbers.{signed_of}
 use Rattle.afs_words.specs.Command.{Command}
-use Rattle.afs_words.specs.Given.{number_at, value_at, values_at}
+use Rattle.afs_words.specs.Given.{number_at, value_at}
 use Rattle.afs_words.specs.Good.{AreGood}
 use Rattle.afs_words.specs.Tables.{parameters_of}
 use Rattle.afs_words.specs.declared.tables.Operation.{Operation}

@@ -1,5 +1,5 @@
 -- The courses of `vos` are sound, where the names in its words are such as a call takes.
-use Rattle.std.proofs.Common.{◌≡◌, ℕ, Bool, true, List, [], ◌∷◌, ◌++◌, map, Option, Some, None, refl, zero, suc}
+use Rattle.std.proofs.Common.{◌≡◌, ℕ, Bool, true, List, [], ◌∷◌, ◌++◌, Option, Some, None, refl, zero, suc}
 use Rattle.std.specs.Prelude.{nat_lt, if◌then◌else◌, length, is_some, IfSome, option_and_then, fold}
 use Rattle.std.specs.List.{AllByRecursion, list_all}
 use Rattle.afs_words.specs.Command.{Command}
