@@ -1,9 +1,10 @@
 -- Why a server ends so that was not opened, or that was.
 use Rattle.std.proofs.Common.{◌≡◌, ◌<◌, ◌≤◌, ◌⊎◌, inl, inr, ℕ, Bool, true, false, List, length, Option, Some, None, IfSome, IsNone, refl, ap, sym, ◌∙◌, subst, arith}
-use Rattle.std.specs.Prelude.{if◌then◌else◌, MatchOption}
+use Rattle.std.specs.Prelude.{◌≢◌, if◌then◌else◌, MatchOption}
 use Rattle.ubik_types.specs.declared.versions.Version.{Version}
 use Rattle.disk_base.specs.declared.disks.Disk.{Ghosts}
 use Rattle.disk_base.specs.Files.{Files}
+use Rattle.disk_base.specs.Runs.{OnlyReads}
 use Rattle.page_file.specs.Pages.{image_of}
 use Rattle.ubik_log.proofs.Gates.{short_log_is_discarded}
 use Rattle.ubik_store.specs.declared.faults.StoreFault.{StoreFault}
@@ -27,7 +28,7 @@ use Rattle.server_texts.specs.declared.words.WordsFault.{WordsFault}
 use Rattle.server_texts.specs.declared.words.WordsFault.TheVariants.{Word, NoMemory}
 use Rattle.node_server.specs.declared.ends.ServerRun.{ServerRun}
 use Rattle.node_server.specs.Causes.{was_full}
-use Rattle.node_server.specs.Ends.{Explains, IsQuiet, IsNotRun, ShowsFiles, StandsForSome, kind_of_fault, kind_of_words}
+use Rattle.node_server.specs.Ends.{Explains, LeavesBadFiles, IsQuiet, IsNotRun, ShowsFiles, StandsForSome, kind_of_fault, kind_of_words}
 use Rattle.node_server.proofs.Showing.{shows_refused}
 
 -- an opening that fails under one name fails under another
@@ -83,10 +84,17 @@ not_refused (fault.TooLarge bytes) is = cc
 not_refused (fault.NotNewer own given) is = cc
 not_refused fault.NoMemory is = cc
 
+leaves_bad_files : {D : Type 0} (g : Ghosts D) (old new : D) (why : StoreFault) → (why ≢ fault.DiskFault → OnlyReads g old new ⊥) → LeavesBadFiles g old new (kind_of_fault why)
+leaves_bad_files g old new fault.DiskFault unchanged = tt
+leaves_bad_files g old new (fault.BadLabel len head) unchanged = unchanged (λ is. absurd cc)
+leaves_bad_files g old new (fault.TooLarge bytes) unchanged = tt
+leaves_bad_files g old new (fault.NotNewer own given) unchanged = tt
+leaves_bad_files g old new fault.NoMemory unchanged = tt
+
 refused_as : {D J : Type 0} (g : Ghosts D) (items_of : J → List JournalItem) (limits_of : J → Limits) (limits : Limits) (may_close may_refuse : Type 0) (old new : D) (why : StoreFault)
-    → IfSome (g.files old) (λ fs. RefusesFiles fs why) → IsOpening g old new (why ≡ fault.DiskFault)
+    → IfSome (g.files old) (λ fs. RefusesFiles fs why) → (why ≢ fault.DiskFault → OnlyReads g old new ⊥) → IsOpening g old new (why ≡ fault.DiskFault)
     → Explains g items_of limits_of limits may_close may_refuse old new (kind_of_fault why) None
-refused_as g items_of limits_of limits may_close may_refuse old new why files opening = record {
+refused_as g items_of limits_of limits may_close may_refuse old new why files unchanged opening = record {
   closed = λ is. absurd (not_closed why is);
   refused = λ is. absurd (not_refused why is);
   journal_full = λ entries bytes is. tt;
@@ -95,16 +103,16 @@ refused_as g items_of limits_of limits may_close may_refuse old new why files op
   run = λ none. not_run why;
   opened = tt;
   kept = tt;
-  disk = inr (opening_as g old new (why ≡ fault.DiskFault) (kind_of_fault why ≡ kind.DiskFault) (to_kind why) (from_kind why) opening);
+  disk = (leaves_bad_files g old new why unchanged, inr (opening_as g old new (why ≡ fault.DiskFault) (kind_of_fault why ≡ kind.DiskFault) (to_kind why) (from_kind why) opening));
 }
 
 -- a server that its store refuses
 pub refused : {D J : Type 0} (g : Ghosts D) (items_of : J → List JournalItem) (limits_of : J → Limits) (limits : Limits) (may_close may_refuse : Type 0) (old new : D) (why : StoreFault) (ended : ServerKind)
-    → ended ≡ kind_of_fault why → IfSome (g.files old) (λ fs. RefusesFiles fs why) → IsOpening g old new (why ≡ fault.DiskFault)
+    → ended ≡ kind_of_fault why → IfSome (g.files old) (λ fs. RefusesFiles fs why) → (why ≢ fault.DiskFault → OnlyReads g old new ⊥) → IsOpening g old new (why ≡ fault.DiskFault)
     → Explains g items_of limits_of limits may_close may_refuse old new ended None
-refused g items_of limits_of limits may_close may_refuse old new why ended is files opening =
+refused g items_of limits_of limits may_close may_refuse old new why ended is files unchanged opening =
     let P : ServerKind → Type 0 = λ e. Explains g items_of limits_of limits may_close may_refuse old new e None in
-    subst P (sym is) (refused_as g items_of limits_of limits may_close may_refuse old new why files opening)
+    subst P (sym is) (refused_as g items_of limits_of limits may_close may_refuse old new why files unchanged opening)
 
 shows_word : (files : Option Files) (place : ℕ) → IfSome files (λ fs. ShowsFiles fs (kind.Words place))
 shows_word None place = tt
@@ -125,7 +133,7 @@ unread_as g items_of limits_of limits may_close may_refuse disk (Word place) = r
   run = λ none. tt;
   opened = tt;
   kept = tt;
-  disk = inl refl;
+  disk = (tt, inl refl);
 }
 unread_as g items_of limits_of limits may_close may_refuse disk NoMemory = record {
   closed = λ is. absurd cc;
@@ -136,7 +144,7 @@ unread_as g items_of limits_of limits may_close may_refuse disk NoMemory = recor
   run = λ none. tt;
   opened = tt;
   kept = tt;
-  disk = inl refl;
+  disk = (tt, inl refl);
 }
 
 -- a server whose words are refused
@@ -178,7 +186,7 @@ served_with {D = D} g items_of limits_of limits may_close may_refuse old before 
       run = λ none. subst IsNotRun (sym short) tt;
       opened = tt;
       kept = tt;
-      disk = inr (subst P (sym is.disk) (opening_as g old before ⊥ (ended ≡ kind.DiskFault) (λ no. absurd no) never opening));
+      disk = (subst (LeavesBadFiles g old now) (sym short) tt, inr (subst P (sym is.disk) (opening_as g old before ⊥ (ended ≡ kind.DiskFault) (λ no. absurd no) never opening)));
     }
 served_with g items_of limits_of limits may_close may_refuse old before now ended (Some r) opening stands is =
     let low : g.faults old ≤ g.faults before = opening.calls.cause.never_falls in

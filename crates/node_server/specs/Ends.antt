@@ -4,6 +4,7 @@ use Rattle.ubik_types.specs.declared.versions.Version.{Version}
 use Rattle.disk_base.specs.declared.disks.Disk.{Ghosts}
 use Rattle.disk_base.specs.Crash.{IsSettled}
 use Rattle.disk_base.specs.Files.{Files}
+use Rattle.disk_base.specs.Runs.{OnlyReads}
 use Rattle.server_crew.specs.declared.running.CrewEnd.{CrewEnd}
 use Rattle.server_crew.specs.declared.running.CrewEnd.TheVariants as crew
 use Rattle.ubik_store.specs.declared.faults.StoreFault.{StoreFault}
@@ -71,10 +72,15 @@ StandsForSome fs = (version : Version) × (image : List ℕ) × StandsFor fs ver
 abbrev pub IsQuiet : {D : Type 0} → Ghosts D → D → Type 0
 IsQuiet g disk = IsSettled (g.files disk) (g.may_leave disk) × IfSome (g.files disk) StandsForSome
 
--- The disk that comes back. Of a server that was not opened it is the one handed in, or what the opening of a store leaves of that; of one that
--- was it is quiet, unless it has failed.
+-- a disk whose files are refused is not changed
+abbrev pub LeavesBadFiles : {D : Type 0} → Ghosts D → (old new : D) → ServerKind → Type 0
+LeavesBadFiles g old new (kind.BadFiles len head) = OnlyReads g old new ⊥
+LeavesBadFiles g old new _ = Unit {0}
+
+-- The disk that comes back. Of a server that was not opened it is the one handed in, or what the opening of a store leaves of that, and as it was
+-- where its files are refused; of one that was it is quiet, unless it has failed.
 abbrev pub GivesBack : {D J : Type 0} → Ghosts D → (old new : D) → ServerKind → Option (ServerRun J) → Type 0
-GivesBack g old new ended None = (new ≡ old) ⊎ IsOpening g old new (ended ≡ kind.DiskFault)
+GivesBack g old new ended None = LeavesBadFiles g old new ended × ((new ≡ old) ⊎ IsOpening g old new (ended ≡ kind.DiskFault))
 GivesBack g old new ended (Some run) = (g.faults old ≤ g.faults new) × ((g.faults old < g.faults new) ⊎ IsQuiet g new)
 
 -- What shows why a server ended so, beside its words: the net that may close by itself, the spawner that may refuse, its journal, which keeps to

@@ -17,4 +17,4 @@ returns-in-Ok-clause-explained g c =
 
 pub returns-in-Err-clause-explained : goal.returns-in-Err-clause-explained
 returns-in-Err-clause-explained g c =
-    refused g.D.Disk g.J.Keeper.items g.J.Keeper.limits _ _ _ _ _ _ _ c.kind_of_fault.ensures.kind c.in-Err.ensures.refused c.in-Err.ensures.opening
+    refused g.D.Disk g.J.Keeper.items g.J.Keeper.limits _ _ _ _ _ _ _ c.kind_of_fault.ensures.kind c.in-Err.ensures.refused c.in-Err.ensures.unchanged c.in-Err.ensures.opening
