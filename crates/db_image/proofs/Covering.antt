@@ -1,5 +1,5 @@
 -- What a read of a draft shows.
-use Rattle.std.proofs.Common.{◌≡◌, ℕ, ◌+◌, ◌-◌, ◌<◌, ◌≤◌, min, Option, Some, None, IfSome, List, length, slice_index, take, drop, refl, sym, ap, ◌∙◌, ⊎_elim, arith}
+use Rattle.std.proofs.Common.{◌≡◌, ℕ, ◌+◌, ◌-◌, ◌<◌, ◌≤◌, min, Option, Some, None, IfSome, IsSomeAnd, List, length, slice_index, take, drop, refl, sym, ap, ◌∙◌, ⊎_elim, arith}
 use Rattle.std.specs.Option.{option_map}
 use Rattle.std.proofs.lemmas.Bool.{cases_lt}
 use Rattle.std.proofs.lemmas.List.{ext_get_or, get_or-take, get_or-drop, get_or_past, length-take-le, length-drop}
@@ -78,3 +78,8 @@ over_none (Some bytes) o none told =
 pub over_told : (held : Option (List ℕ)) (o : Overlay) → IfSome (option_map (bytes_over o) held) (λ bytes. length bytes ≡ o.len)
 over_told None o = tt
 over_told (Some bytes) o = bytes_len o bytes
+
+-- where the bytes beneath are told, so are those over them
+pub told_over : (held : Option (List ℕ)) (o : Overlay) → IfSome held (λ old. IsSomeAnd (option_map (bytes_over o) held) (λ new. length new ≡ o.len))
+told_over None o = tt
+told_over (Some bytes) o = bytes_len o bytes

@@ -1,6 +1,7 @@
 pub mod BlockNumbers
 pub mod Bytes
 pub mod Covering
+pub mod Decided
 pub mod Differing
 pub mod Laid
 pub mod Laying

@@ -1,5 +1,5 @@
 -- How a call on a draft ends.
-use Rattle.std.specs.Prelude.{ℕ, ◌≡◌, ◌≤◌, List, Option, Some, length}
+use Rattle.std.specs.Prelude.{ℕ, ◌≡◌, ◌≤◌, Bool, List, Option, Some, None, IsSome, length}
 use Rattle.db_image.specs.declared.faults.RecordFault.{RecordFault}
 use Rattle.db_image.specs.declared.faults.RecordFault.TheVariants as fault
 use Rattle.db_image.specs.declared.draft_services.CallEnd.{CallEnd}
@@ -35,3 +35,19 @@ EndsBy o (end.BadRecord at) after = (end.BadRecord at ≡ end_of o.reply) × (af
 abbrev pub IsShort : CallEnd → Type 0
 IsShort (end.Done fields) = length fields ≤ 1048576
 IsShort ended = Unit {0}
+
+-- a call ended by what was decided of it, and not by a fault or as no call; its answer is short
+abbrev pub IsDecided : CallEnd → Type 0
+IsDecided (end.Done fields) = length fields ≤ 1048576
+IsDecided (end.Rule number) = Unit {0}
+IsDecided end.Malformed = ⊥
+IsDecided (end.BadRecord at) = ⊥
+IsDecided end.DiskFault = ⊥
+IsDecided end.NoMemory = ⊥
+
+-- Bytes that are no call end as malformed, and no call does, whatever the image holds. `writes` is what the database tells of the bytes;
+-- want of memory is free.
+abbrev pub KeepsGrammar : (writes : Option Bool) → CallEnd → Type 0
+KeepsGrammar writes end.Malformed = writes ≡ None
+KeepsGrammar writes end.NoMemory = Unit {0}
+KeepsGrammar writes ended = IsSome writes

@@ -1,6 +1,7 @@
 //! A database as a server sees it, which reads of an image what it needs.
-ghost use Rattle.std.specs.Prelude.{◌≡◌, ◌≤◌, ℕ, List, [], Option, IfSome, length};
-ghost use Rattle.db_image.specs.Ends.{EndsBy, IsShort};
+ghost use Rattle.std.specs.Prelude.{◌≡◌, ◌≢◌, ◌≤◌, ℕ, List, [], Option, Some, IfSome, length, true};
+ghost use Rattle.db_image.specs.Draft.{StaysAsItWas};
+ghost use Rattle.db_image.specs.Ends.{EndsBy, IsShort, KeepsGrammar, end_of};
 ghost use Rattle.db_image.specs.Images.{OnlyReads};
 ghost use Rattle.db_image.specs.Standing.{Standing, IsMeantOver};
 
@@ -49,13 +50,16 @@ pub trait DraftService {
     fn writes(call: &[u8]) -> Option<bool>
         ensures { result ≡ standing.database.writes call.now };
 
-    /// Makes a call at a moment on a draft of at most 16,777,216 bytes. Over an image that stands for a state it ends as the database
-    /// has it; over another one it answers anything, and `BadRecord` only there. After `DiskFault` and `NoMemory` the draft may hold
-    /// a part of the call, and is to be dropped.
+    /// Makes a call at a moment on a draft of at most 16,777,216 bytes. Whatever the image holds, `Malformed` is the answer to bytes that
+    /// are no call and to no other, and only a writing call changes the draft. Over an image that stands for a state a call ends as the
+    /// database has it; over another one it answers anything else, and `BadRecord` only there. After `BadRecord`, `DiskFault` and
+    /// `NoMemory` the draft may hold a part of a writing call, and is to be dropped.
     fn call<I: ImageRead>(alloc: Global, image: &mut Draft<I>, now: u32, call: &[u8]) -> CallEnd
         requires { image.old.len ≤ 16777216 }
         ensures meant { IfSome image.old.bytes (λ bytes. (s : standing.State) → standing.StandsFor bytes s
             → EndsBy (standing.database.call bytes now call.now) result image.new.bytes) }
+        ensures grammar { KeepsGrammar (standing.database.writes call.now) result }
+        ensures rests { standing.database.writes call.now ≢ Some true → StaysAsItWas image.old image.new }
         ensures short { IsShort result }
         ensures longer { image.old.len ≤ image.new.len }
         ensures layout { image.new.layout ≡ image.old.layout }
@@ -75,6 +79,14 @@ pub trait DraftService {
     /// Over an image that stands for a state, the database does what the call means in it.
     ghost is_meant: { (image : List ℕ) (s : standing.State) (now : ℕ) (call : List ℕ) → standing.StandsFor image s
         → IsMeantOver standing image s (standing.database.call image now call) (standing.meaning.call s now call) };
+
+    /// Over each image the database answers bytes that are no call as malformed, and no call so.
+    ghost keeps_grammar: { (image : List ℕ) (now : ℕ) (call : List ℕ)
+        → KeepsGrammar (standing.database.writes call) (end_of (standing.database.call image now call).reply) };
+
+    /// Over each image only a writing call leaves another one.
+    ghost only_writers_change: { (image : List ℕ) (now : ℕ) (call : List ℕ) → standing.database.writes call ≢ Some true
+        → (standing.database.call image now call).image ≡ image };
 
     /// No call leaves a shorter image. So the changes of a call lead to the image after it.
     ghost never_shrinks: { (image : List ℕ) (now : ℕ) (call : List ℕ)

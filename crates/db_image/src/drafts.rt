@@ -1,5 +1,5 @@
 //! A draft: an image with changed blocks.
-ghost use Rattle.std.specs.Prelude.{◌≡◌, ◌+◌, ◌<◌, ◌≤◌, ◌^◌, List, ℕ, IfSome, IfOk, IfErr, OnOk, OnErr, IsErrOf, length, max, take, drop};
+ghost use Rattle.std.specs.Prelude.{◌≡◌, ◌+◌, ◌<◌, ◌≤◌, ◌^◌, List, ℕ, IfSome, IfOk, IfErr, OnOk, OnErr, IsErrOf, IsSomeAnd, length, max, take, drop};
 ghost use Rattle.std.specs.Option.{option_map};
 ghost use Rattle.ubik_types.specs.Image.{changed};
 ghost use Rattle.ubik_types.specs.declared.images.Change.TheVariants.{Put};
@@ -72,9 +72,10 @@ impl<I: ImageRead> Draft<I> {
     }
 
     /// The image beneath, and one put of each whole block that is new or in which a byte is another one than beneath, ascending. The image
-    /// is not read.
+    /// is not read. Where it tells its bytes, those of the draft are told.
     pub fn finish(self) -> (I, Result<Changes, NoMemory>)
         ensures image { result.0 ≡ self.image }
+        ensures told { IfSome (I.held self.image) (λ old. IsSomeAnd self.bytes (λ new. length new ≡ self.len)) }
         ensures changes { IfOk result.1 (λ changes. IfSome (I.held self.image) (λ old. IfSome self.bytes (λ new.
             changes ≡ changes_between self.layout.head self.layout.block old new))) }
     {
