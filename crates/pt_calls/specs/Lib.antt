@@ -5,7 +5,6 @@ pub mod Meaning
 pub mod NameLaws
 pub mod Reading
 pub mod Shapes
-pub mod Standing
 pub mod Words
 pub mod Writes
 pub mod Writing

@@ -1,8 +1,8 @@
 //! The call that removes an entry, over a draft.
 ghost use Rattle.std.specs.Prelude.{◌≡◌, ◌≤◌, ◌<◌, ◌^◌, IfOk, OnOk, IfErr, IsErrOf};
+ghost use Rattle.db_image.specs.Ends.{IsDecided};
 ghost use Rattle.prdb_entries.specs.RecordEnds.{OnlyDrafts};
 ghost use Rattle.prdb_members.specs.Ends.{HasItsCause};
-ghost use Rattle.pt_calls.specs.Standing.{IsDecided};
 ghost use Rattle.pt_service.specs.Meaning.{leaves, of_entry};
 ghost use Rattle.pt_service.specs.State.{elements};
 ghost use Rattle.pt_changes.specs.Ends.{Always, HasChangeCause, Leaves, Makes};

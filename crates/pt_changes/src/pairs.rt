@@ -1,8 +1,8 @@
 //! The calls that put a user into a group and take one out of it, over a draft.
 ghost use Rattle.std.specs.Prelude.{◌≤◌, IfOk, IfErr, IsErrOf};
+ghost use Rattle.db_image.specs.Ends.{IsDecided};
 ghost use Rattle.prdb_entries.specs.RecordEnds.{OnlyDrafts};
 ghost use Rattle.prdb_members.specs.Ends.{HasItsCause};
-ghost use Rattle.pt_calls.specs.Standing.{IsDecided};
 ghost use Rattle.pt_service.specs.Meaning.{joins, of_pair, parts};
 ghost use Rattle.pt_changes.specs.Standing.{IsMeantOf};
 

@@ -1,10 +1,9 @@
 //! The calls that look for an entry and its pairs, over a draft.
 ghost use Rattle.std.specs.Prelude.{◌≡◌, ◌&&◌, ◌≤◌, pos, filter, length, not, is_none, IfOk, IfErr, IsErrOf};
 ghost use Rattle.std.specs.Ordering.{int_eq};
-ghost use Rattle.db_image.specs.Ends.{end_of};
+ghost use Rattle.db_image.specs.Ends.{IsDecided, end_of};
 ghost use Rattle.prdb_entries.specs.RecordEnds.{OnlyLooks};
 ghost use Rattle.prdb_members.specs.Ends.{HasItsCause};
-ghost use Rattle.pt_calls.specs.Standing.{IsDecided};
 ghost use Rattle.pt_calls.specs.declared.answers.PtAnswer.TheVariants as answer;
 ghost use Rattle.pt_service.specs.Meaning.{Answers, Verdict, counts_for, of_entry, of_pair, owned, reply_by, told_of, unless};
 ghost use Rattle.pt_service.specs.State.{elements, ids};

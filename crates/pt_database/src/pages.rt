@@ -1,9 +1,9 @@
 //! The call that lists entries of a kind, over a draft.
 ghost use Rattle.std.specs.Prelude.{◌≡◌, ◌≤◌, IfOk, IfErr, IsErrOf, length};
 ghost use Rattle.std.specs.List.{AllByRecursion};
+ghost use Rattle.db_image.specs.Ends.{IsDecided};
 ghost use Rattle.prdb_entries.specs.RecordEnds.{OnlyLooks, seen};
 ghost use Rattle.prdb_members.specs.Ends.{HasItsCause};
-ghost use Rattle.pt_calls.specs.Standing.{IsDecided};
 ghost use Rattle.pt_calls.specs.declared.limits.TheConstants.{MAX_PAGE};
 ghost use Rattle.pt_service.specs.Meaning.{are_kinds, is_of_kinds, page};
 ghost use Rattle.pt_database.specs.Pages.{HasShortName, page_of};

@@ -1,9 +1,9 @@
 //! The calls that make an entry, with the next id or with a given one, over a draft: what is decided, and then what is changed.
 ghost use Rattle.std.specs.Prelude.{◌≡◌, ◌<◌, ◌≤◌, ◌^◌, IfSome, IfOk, IfErr, OnOk, IsErrOf, is_none, true, if◌then◌else◌};
+ghost use Rattle.db_image.specs.Ends.{IsDecided};
 ghost use Rattle.prdb_entries.specs.RecordEnds.{Becomes, HasCause, OnlyDrafts, OnlyLooks, seen};
 ghost use Rattle.prdb_entries.specs.Records.{Holds, after_insert, after_set_maxima};
 ghost use Rattle.prdb_entries.specs.Registry.{AreMaxima, IsRecord, MayBeAdded};
-ghost use Rattle.pt_calls.specs.Standing.{IsDecided};
 ghost use Rattle.pt_service.specs.Entering.{kind_of};
 ghost use Rattle.pt_service.specs.Meaning.{first_unused, id_behind, made, new_entry, new_entry_of_id, raised};
 ghost use Rattle.pt_service.specs.State.{is_group, is_id};

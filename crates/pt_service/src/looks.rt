@@ -2,12 +2,11 @@
 ghost use Rattle.std.specs.Prelude.{◌≡◌, ◌<◌, ◌≤◌, ◌^◌, IfOk, IfErr, IsErrOf, length, map};
 ghost use Rattle.std.specs.Fmt.{signed_decimal};
 ghost use Rattle.std.specs.List.{AllByRecursion};
-ghost use Rattle.db_image.specs.Ends.{end_of};
+ghost use Rattle.db_image.specs.Ends.{IsDecided, end_of};
 ghost use Rattle.prdb_entries.specs.RecordEnds.{HasCause, OnlyLooks};
 ghost use Rattle.prdb_entries.specs.Records.{Holds};
 ghost use Rattle.pt_calls.specs.Answers.{AnswerHasSpelling, answer_spelling};
 ghost use Rattle.pt_calls.specs.Meaning.{id_or_anonymous};
-ghost use Rattle.pt_calls.specs.Standing.{IsDecided};
 ghost use Rattle.pt_calls.specs.declared.answers.PtAnswer.TheVariants as answer;
 ghost use Rattle.pt_calls.specs.declared.limits.TheConstants.{MAX_LIST};
 ghost use Rattle.pt_service.specs.Meaning.{Answers, name_of, reply_by};

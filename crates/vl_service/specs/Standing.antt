@@ -1,9 +1,8 @@
 -- The location database over images (layout of format 1).
-use Rattle.std.specs.Prelude.{ℕ, ◌≡◌, ◌≤◌, ◌==◌, List, length, Option, Some, if◌then◌else◌}
+use Rattle.std.specs.Prelude.{ℕ, ◌≡◌, ◌==◌, List, Option, Some, if◌then◌else◌}
 use Rattle.std.specs.Str.{bytes_eq}
 use Rattle.db_image.specs.Ends.{end_of}
 use Rattle.db_image.specs.declared.draft_services.CallEnd.{CallEnd}
-use Rattle.db_image.specs.declared.draft_services.CallEnd.TheVariants as end
 use Rattle.vldb_records.specs.Location.{Location}
 use Rattle.vldb_records.specs.Records.{after_insert, after_remove, after_replace, after_set_next, after_set_places}
 use Rattle.vl_service.specs.Meaning.{Change, NextVolume, Enter, Leave, Move, Verdict, Makes, reply_by, with_place_of}
@@ -28,12 +27,3 @@ image_by _ s image = image
 pub record IsDone (v : Verdict) (s : Location) (image : List ℕ) (ended : CallEnd) (after : Option (List ℕ)) : Type 0 where
   pub reply : ended ≡ end_of (reply_by v)
   pub leaves : after ≡ Some (image_by v s image)
-
--- a call ended by what was decided of it, and not by a fault; its answer has no more bytes than this
-abbrev pub IsDecidedEnd : CallEnd → Type 0
-IsDecidedEnd (end.Done fields) = length fields ≤ 1048576
-IsDecidedEnd (end.Rule number) = Unit {0}
-IsDecidedEnd end.Malformed = Unit {0}
-IsDecidedEnd (end.BadRecord at) = ⊥
-IsDecidedEnd end.DiskFault = ⊥
-IsDecidedEnd end.NoMemory = ⊥

@@ -1,11 +1,12 @@
 //! The calls that change the next volume id or remove an entry, over a draft.
 ghost use Rattle.std.specs.Prelude.{◌≡◌, ◌+◌, ◌<◌, ◌≤◌, ◌^◌, ◌||◌, Some, None, IfSome, IfOk, IfErr, IsErrOf, nat_lt, if◌then◌else◌};
+ghost use Rattle.db_image.specs.Ends.{IsDecided};
 ghost use Rattle.db_blocks.specs.Ends.{OnlyDrafts};
 ghost use Rattle.vldb_records.specs.Ends.{HasItsCause};
 ghost use Rattle.vldb_records.specs.Location.{Location};
 ghost use Rattle.vldb_records.specs.Records.{Holds};
 ghost use Rattle.vl_service.specs.Meaning.{leaves, max_id, new_volume_id, of_id};
-ghost use Rattle.vl_service.specs.Standing.{IsDecidedEnd, IsDone};
+ghost use Rattle.vl_service.specs.Standing.{IsDone};
 
 use crate::looks::{find_typed, is_volume_type, tell};
 use crate::rules::{BAD_BUMP, BAD_VOLUME_TYPE, NO_ENTRY};
@@ -40,7 +41,7 @@ pub fn take_volume_ids<I: ImageRead>(
     ensures meant { IfOk result (λ end. IfSome d.old.bytes (λ image. (s : Location) → Holds image s
         → IsDone (new_volume_id s bump) s image end d.new.bytes)) }
     ensures longer { d.old.len ≤ d.new.len }
-    ensures short { IfOk result IsDecidedEnd }
+    ensures short { IfOk result IsDecided }
     ensures fault { IfErr result (HasItsCause d.old.bytes) }
     ensures frame { OnlyDrafts I.ImageRead d.old d.new (IsErrOf result RecordFault.DiskFault) }
 {
@@ -64,7 +65,7 @@ pub fn delete_entry<I: ImageRead>(
     ensures meant { IfOk result (λ end. IfSome d.old.bytes (λ image. (s : Location) → Holds image s
         → IsDone (of_id s volume_type id leaves) s image end d.new.bytes)) }
     ensures longer { d.old.len ≤ d.new.len }
-    ensures short { IfOk result IsDecidedEnd }
+    ensures short { IfOk result IsDecided }
     ensures fault { IfErr result (HasItsCause d.old.bytes) }
     ensures frame { OnlyDrafts I.ImageRead d.old d.new (IsErrOf result RecordFault.DiskFault) }
 {

@@ -1,6 +1,6 @@
 //! The calls that put an entry in, over a draft.
 ghost use Rattle.std.specs.Prelude.{◌≡◌, ◌<◌, ◌≤◌, ◌^◌, IfSome, IfOk, IfErr, IsErrOf, OnOk, max};
-ghost use Rattle.db_image.specs.Ends.{end_of};
+ghost use Rattle.db_image.specs.Ends.{IsDecided, end_of};
 ghost use Rattle.db_image.specs.Images.{IsOfImage};
 ghost use Rattle.db_blocks.specs.Ends.{Becomes, OnlyDrafts};
 ghost use Rattle.vldb_records.specs.Ends.{HasCauseWhere, HasItsCause};
@@ -8,7 +8,7 @@ ghost use Rattle.vldb_records.specs.Location.{IsRecord, Location};
 ghost use Rattle.vldb_records.specs.Records.{Holds};
 ghost use Rattle.vl_service.specs.Entering.{IsThere, MayPut, MayStore, moved, stored};
 ghost use Rattle.vl_service.specs.Meaning.{Answers, created, entered, entered_unless, entry_faults, first_fault, of_masked, replaced, reply_by, with_lock};
-ghost use Rattle.vl_service.specs.Standing.{IsDecidedEnd, IsDone};
+ghost use Rattle.vl_service.specs.Standing.{IsDone};
 ghost use Rattle.vl_calls.specs.declared.answers.VlAnswer.TheVariants as answer;
 
 use crate::deciding::{Decision, Places, decide};
@@ -73,7 +73,7 @@ fn put<I: ImageRead>(
     ensures told { IfOk result (λ end. end ≡ end_of (reply_by (Answers answer.Done))) }
     ensures bytes { OnOk result (Becomes (λ image. stored own e.now (moved places.now image)) d.old d.new) }
     ensures longer { d.old.len ≤ d.new.len }
-    ensures short { IfOk result IsDecidedEnd }
+    ensures short { IfOk result IsDecided }
     ensures fault { IfErr result (HasCauseWhere (MayPut own e.now places.now) d.old.bytes) }
     ensures frame { OnlyDrafts I.ImageRead d.old d.new (IsErrOf result RecordFault.DiskFault) }
 {
@@ -113,7 +113,7 @@ fn enter<I: ImageRead>(
     ensures meant { IfOk result (λ end. IfSome d.old.bytes (λ image. (s : Location) → Holds image s
         → IsDone (entered_unless (first_fault (entry_faults s own e)) (entered s own operation moment e)) s image end d.new.bytes)) }
     ensures longer { d.old.len ≤ d.new.len }
-    ensures short { IfOk result IsDecidedEnd }
+    ensures short { IfOk result IsDecided }
     ensures fault { IfErr result (HasCauseWhere (IsThere own) d.old.bytes) }
     ensures frame { OnlyDrafts I.ImageRead d.old d.new (IsErrOf result RecordFault.DiskFault) }
 {
@@ -136,7 +136,7 @@ pub fn create_entry<I: ImageRead>(
     ensures meant { IfOk result (λ end. IfSome d.old.bytes (λ image. (s : Location) → Holds image s
         → IsDone (created s e) s image end d.new.bytes)) }
     ensures longer { d.old.len ≤ d.new.len }
-    ensures short { IfOk result IsDecidedEnd }
+    ensures short { IfOk result IsDecided }
     ensures fault { IfErr result (HasItsCause d.old.bytes) }
     ensures frame { OnlyDrafts I.ImageRead d.old d.new (IsErrOf result RecordFault.DiskFault) }
 {
@@ -157,7 +157,7 @@ pub fn replace_entry<I: ImageRead>(
     ensures meant { IfOk result (λ end. IfSome d.old.bytes (λ image. (s : Location) → Holds image s
         → IsDone (of_masked s volume_type id mask (replaced s e mask)) s image end d.new.bytes)) }
     ensures longer { d.old.len ≤ d.new.len }
-    ensures short { IfOk result IsDecidedEnd }
+    ensures short { IfOk result IsDecided }
     ensures fault { IfErr result (HasItsCause d.old.bytes) }
     ensures frame { OnlyDrafts I.ImageRead d.old d.new (IsErrOf result RecordFault.DiskFault) }
 {

@@ -1,12 +1,12 @@
 //! The calls that set and release the lock of an entry, over a draft.
 ghost use Rattle.std.specs.Prelude.{◌≡◌, ◌==◌, ◌≤◌, Some, IfSome, IfOk, IfErr, IsErrOf, OnOk, not, nat_lt};
-ghost use Rattle.db_image.specs.Ends.{end_of};
+ghost use Rattle.db_image.specs.Ends.{IsDecided, end_of};
 ghost use Rattle.db_blocks.specs.Ends.{Becomes, OnlyDrafts};
 ghost use Rattle.vldb_records.specs.Ends.{HasCauseWhere, HasItsCause};
 ghost use Rattle.vldb_records.specs.Location.{Location};
 ghost use Rattle.vldb_records.specs.Records.{Holds, after_replace};
 ghost use Rattle.vl_service.specs.Meaning.{Answers, is_operation, lock_released, lock_set, moment_left, of_masked, operation_left, reply_by};
-ghost use Rattle.vl_service.specs.Standing.{IsDecidedEnd, IsDone};
+ghost use Rattle.vl_service.specs.Standing.{IsDone};
 ghost use Rattle.vl_calls.specs.declared.answers.VlAnswer.TheVariants as answer;
 
 use crate::fitting::entry_fits;
@@ -67,7 +67,7 @@ fn put_lock<I: ImageRead>(
     ensures told { IfOk result (λ end. end ≡ end_of (reply_by (Answers answer.Done))) }
     ensures bytes { OnOk result (Becomes (after_replace e.rw (record e { lock_op = operation; lock_moment = moment })) d.old d.new) }
     ensures longer { d.old.len ≤ d.new.len }
-    ensures short { IfOk result IsDecidedEnd }
+    ensures short { IfOk result IsDecided }
     ensures fault { IfErr result (HasCauseWhere (λ s. s.entry e.rw ≡ Some e) d.old.bytes) }
     ensures frame { OnlyDrafts I.ImageRead d.old d.new (IsErrOf result RecordFault.DiskFault) }
 {
@@ -94,7 +94,7 @@ pub fn set_lock<I: ImageRead>(
     ensures meant { IfOk result (λ end. IfSome d.old.bytes (λ image. (s : Location) → Holds image s
         → IsDone (lock_set s volume_type id operation now) s image end d.new.bytes)) }
     ensures longer { d.old.len ≤ d.new.len }
-    ensures short { IfOk result IsDecidedEnd }
+    ensures short { IfOk result IsDecided }
     ensures fault { IfErr result (HasItsCause d.old.bytes) }
     ensures frame { OnlyDrafts I.ImageRead d.old d.new (IsErrOf result RecordFault.DiskFault) }
 {
@@ -126,7 +126,7 @@ pub fn release_lock<I: ImageRead>(
     ensures meant { IfOk result (λ end. IfSome d.old.bytes (λ image. (s : Location) → Holds image s
         → IsDone (of_masked s volume_type id mask (lock_released s mask)) s image end d.new.bytes)) }
     ensures longer { d.old.len ≤ d.new.len }
-    ensures short { IfOk result IsDecidedEnd }
+    ensures short { IfOk result IsDecided }
     ensures fault { IfErr result (HasItsCause d.old.bytes) }
     ensures frame { OnlyDrafts I.ImageRead d.old d.new (IsErrOf result RecordFault.DiskFault) }
 {

@@ -1,6 +1,6 @@
 //! The calls of the location database that look for an entry, over a draft.
 ghost use Rattle.std.specs.Prelude.{◌≡◌, ◌==◌, ◌<◌, ◌≤◌, ◌^◌, Some, IfSome, IfOk, IfErr, IsErrOf, filter, length, not};
-ghost use Rattle.db_image.specs.Ends.{end_of};
+ghost use Rattle.db_image.specs.Ends.{IsDecided, end_of};
 ghost use Rattle.db_blocks.specs.Ends.{OnlyLooks};
 ghost use Rattle.vldb_records.specs.Ends.{HasItsCause};
 ghost use Rattle.vldb_records.specs.Location.{Location, IsSmall};
@@ -9,7 +9,6 @@ ghost use Rattle.vl_calls.specs.Answers.{AnswerHasSpelling};
 ghost use Rattle.vl_service.specs.Meaning.{Answers, entry_of_type, is_of_type, is_volume_type, named_verdict, of_entry, of_id, reply_by, told, used};
 ghost use Rattle.vl_calls.specs.declared.limits.TheConstants.{MAX_HOSTS};
 ghost use Rattle.vl_calls.specs.declared.answers.VlAnswer.TheVariants as answer;
-ghost use Rattle.vl_service.specs.Standing.{IsDecidedEnd};
 
 use crate::rules::{BAD_NAME, BAD_VOLUME_TYPE, NO_ENTRY};
 use call_grammar::Items;
@@ -23,7 +22,7 @@ use vldb_records::{PLACES, VlEntry, addresses, find_id, find_name, is_name};
 pub(crate) fn tell(alloc: Global, answer: &VlAnswer) -> Result<CallEnd, NoMemory>
     requires { AnswerHasSpelling answer.now }
     ensures told { IfOk result (λ end. end ≡ end_of (reply_by (Answers answer.now))) }
-    ensures short { IfOk result IsDecidedEnd }
+    ensures short { IfOk result IsDecided }
 {
     let bytes = spell_answer(alloc, answer)?;
     Ok(CallEnd::Done(bytes))
@@ -33,7 +32,7 @@ pub(crate) fn tell(alloc: Global, answer: &VlAnswer) -> Result<CallEnd, NoMemory
 fn tell_entry(alloc: Global, found: Option<VlEntry>) -> Result<CallEnd, NoMemory>
     requires { IfSome found IsSmall }
     ensures told { IfOk result (λ end. end ≡ end_of (reply_by (of_entry found told))) }
-    ensures short { IfOk result IsDecidedEnd }
+    ensures short { IfOk result IsDecided }
 {
     match found {
         Some(entry) => tell(alloc, &VlAnswer::Entry(entry)),
@@ -50,7 +49,7 @@ pub fn entry_by_name<I: ImageRead>(
     requires { d.old.len < 2 ^ 31 }
     ensures meant { IfOk result (λ end. IfSome d.old.bytes (λ image. (s : Location) → Holds image s
         → end ≡ end_of (reply_by (named_verdict s name.now)))) }
-    ensures short { IfOk result IsDecidedEnd }
+    ensures short { IfOk result IsDecided }
     ensures fault { IfErr result (HasItsCause d.old.bytes) }
     ensures frame { OnlyLooks I.ImageRead d.old d.new (IsErrOf result RecordFault.DiskFault) }
 {
@@ -120,7 +119,7 @@ pub fn entry_by_id<I: ImageRead>(
     requires { d.old.len < 2 ^ 31 }
     ensures meant { IfOk result (λ end. IfSome d.old.bytes (λ image. (s : Location) → Holds image s
         → end ≡ end_of (reply_by (of_id s volume_type id told)))) }
-    ensures short { IfOk result IsDecidedEnd }
+    ensures short { IfOk result IsDecided }
     ensures fault { IfErr result (HasItsCause d.old.bytes) }
     ensures frame { OnlyLooks I.ImageRead d.old d.new (IsErrOf result RecordFault.DiskFault) }
 {
@@ -151,7 +150,7 @@ pub fn all_addresses<I: ImageRead>(alloc: Global, d: &mut Draft<I>) -> Result<Ca
     requires { d.old.len < 2 ^ 31 }
     ensures meant { IfOk result (λ end. IfSome d.old.bytes (λ image. (s : Location) → Holds image s
         → end ≡ end_of (reply_by (Answers (answer.Hosts (used s)))))) }
-    ensures short { IfOk result IsDecidedEnd }
+    ensures short { IfOk result IsDecided }
     ensures fault { IfErr result (HasItsCause d.old.bytes) }
     ensures frame { OnlyLooks I.ImageRead d.old d.new (IsErrOf result RecordFault.DiskFault) }
 {
@@ -164,7 +163,7 @@ pub fn all_addresses<I: ImageRead>(alloc: Global, d: &mut Draft<I>) -> Result<Ca
 /// Tells that the database answers.
 pub fn probe(alloc: Global) -> Result<CallEnd, NoMemory>
     ensures told { IfOk result (λ end. end ≡ end_of (reply_by (Answers answer.Done))) }
-    ensures short { IfOk result IsDecidedEnd }
+    ensures short { IfOk result IsDecided }
 {
     tell(alloc, &VlAnswer::Done)
 }

@@ -1,13 +1,14 @@
 //! The call that gives a server another address, over a draft.
 ghost use Rattle.std.specs.Prelude.{◌≡◌, ◌==◌, ◌&&◌, ◌<◌, ◌≤◌, ◌^◌, IfSome, IfOk, IfErr, IsErrOf, not};
 ghost use Rattle.std.specs.List.{list_any};
+ghost use Rattle.db_image.specs.Ends.{IsDecided};
 ghost use Rattle.db_blocks.specs.Ends.{OnlyDrafts, OnlyLooks};
 ghost use Rattle.vldb_records.specs.Ends.{HasItsCause};
 ghost use Rattle.vldb_records.specs.Location.{Location};
 ghost use Rattle.vldb_records.specs.Records.{Holds};
 ghost use Rattle.vl_service.specs.Meaning.{address_changed, entries, has_site_at, with_place_of};
 ghost use Rattle.vl_service.specs.Moving.{IsMovement};
-ghost use Rattle.vl_service.specs.Standing.{IsDecidedEnd, IsDone};
+ghost use Rattle.vl_service.specs.Standing.{IsDone};
 
 use crate::looks::tell;
 use crate::placing::{is_among, place_of};
@@ -122,7 +123,7 @@ pub fn change_address<I: ImageRead>(
     ensures meant { IfOk result (λ end. IfSome d.old.bytes (λ image. (s : Location) → Holds image s
         → IsDone (address_changed s old new) s image end d.new.bytes)) }
     ensures longer { d.old.len ≤ d.new.len }
-    ensures short { IfOk result IsDecidedEnd }
+    ensures short { IfOk result IsDecided }
     ensures fault { IfErr result (HasItsCause d.old.bytes) }
     ensures frame { OnlyDrafts I.ImageRead d.old d.new (IsErrOf result RecordFault.DiskFault) }
 {

@@ -1,7 +1,7 @@
 //! The call that lists entries by where they lie, over a draft.
 ghost use Rattle.std.specs.Prelude.{◌≡◌, ◌<◌, ◌≤◌, ◌^◌, IfSome, IfOk, IfErr, IsErrOf, length};
 ghost use Rattle.std.specs.List.{AllByRecursion};
-ghost use Rattle.db_image.specs.Ends.{end_of};
+ghost use Rattle.db_image.specs.Ends.{IsDecided, end_of};
 ghost use Rattle.db_blocks.specs.Ends.{OnlyLooks};
 ghost use Rattle.vldb_records.specs.Ends.{HasItsCause};
 ghost use Rattle.vldb_records.specs.Location.{Location, IsSmall};
@@ -9,7 +9,6 @@ ghost use Rattle.vldb_records.specs.Records.{Holds};
 ghost use Rattle.vl_calls.specs.declared.limits.TheConstants.{MAX_PAGE};
 ghost use Rattle.vl_service.specs.Meaning.{is_partition, page, reply_by};
 ghost use Rattle.vl_service.specs.Pages.{listing_of, page_of};
-ghost use Rattle.vl_service.specs.Standing.{IsDecidedEnd};
 
 use crate::given::MAX_PARTITION;
 use crate::looks::tell;
@@ -82,7 +81,7 @@ pub fn list_entries<I: ImageRead>(
     requires { d.old.len < 2 ^ 31 }
     ensures meant { IfOk result (λ end. IfSome d.old.bytes (λ image. (s : Location) → Holds image s
         → end ≡ end_of (reply_by (page s after host partition locked)))) }
-    ensures short { IfOk result IsDecidedEnd }
+    ensures short { IfOk result IsDecided }
     ensures fault { IfErr result (HasItsCause d.old.bytes) }
     ensures frame { OnlyLooks I.ImageRead d.old d.new (IsErrOf result RecordFault.DiskFault) }
 {
