@@ -1,3 +1,5 @@
+pub mod Answered
+pub mod Changing
 pub mod Grown
 pub mod GrownByTurns
 pub mod Made

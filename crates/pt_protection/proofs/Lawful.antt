@@ -1,32 +1,26 @@
 -- The laws of the protection database.
-use Rattle.std.proofs.Common.{◌≡◌, ◌≢◌, ℕ, ℤ, pos, negsuc, Bool, true, false, not, ◌&&◌, ◌||◌, cond, List, Option, Some, None, IsSome, refl, sym, ap, subst, ◌∙◌}
-use Rattle.std.specs.Prelude.{is_none, is_some, nat_lt}
+use Rattle.std.proofs.Common.{◌≡◌, ◌≢◌, ℕ, Bool, true, false, cond, List, Option, Some, None, IsSome, refl, sym, ap, subst, ◌∙◌}
+use Rattle.std.specs.Prelude.{is_some, nat_lt}
 use Rattle.std.specs.List.{list_all}
 use Rattle.std.specs.Option.{option_map}
-use Rattle.std.specs.Ordering.{int_eq}
 use Rattle.db_image.specs.declared.services.CallReply.TheVariants as reply
-use Rattle.prdb_entries.specs.Names.{lowered}
 use Rattle.prdb_entries.specs.Records.{whole}
-use Rattle.prdb_entries.specs.Registry.{Registry}
-use Rattle.prdb_entries.specs.State.{PrEntry}
 use Rattle.pt_calls.specs.declared.calls.PtCall.{PtCall}
-use Rattle.pt_calls.specs.declared.calls.PtCall.TheVariants as call
 use Rattle.pt_calls.specs.Calls.{call_kind, spelling}
 use Rattle.pt_calls.specs.Reading.{call_of}
 use Rattle.pt_calls.specs.Words.{call_in_words}
 use Rattle.pt_calls.proofs.Again.{spelling_again}
 use Rattle.pt_calls.proofs.WordLoop.{named_is_call}
-use Rattle.pt_service.specs.Meaning.{Answers, Makes, NoCall, Refuses, Verdict, are_bad_fields, are_kinds, asked, is_maximum, joins, of_entry, of_pair, parts, protection_meaning, reply_by, verdict}
+use Rattle.pt_service.specs.Meaning.{Answers, Makes, NoCall, Refuses, Verdict, asked, protection_meaning, reply_by, verdict}
 use Rattle.pt_service.specs.State.{State}
-use Rattle.pt_service.specs.Turning.{is_fixed, turn_fault}
 use Rattle.pt_database.specs.States.{HoldsState}
 use Rattle.pt_protection.specs.Laws.{AnswersCalls, HoldsOne, LeavesStates, NamesCalls}
 use Rattle.pt_calls.specs.Writes.{is_write}
 use Rattle.pt_protection.specs.Service.{protection_database}
 use Rattle.pt_protection.specs.ServiceLaws.{database_is_meant}
-use Rattle.pt_protection.proofs.Changing.{by_test, of_both, of_given, of_new, of_one, unless_one}
 use Rattle.pt_laws.specs.Told.{state_in}
 use Rattle.call_grammar.specs.Shown.{only_bytes}
+use Rattle.pt_laws.proofs.Answered.{IsAnswer, call_answers}
 use Rattle.pt_laws.proofs.ToldStates.{holds_one as one_state}
 
 -- ---- images and states
@@ -40,39 +34,6 @@ leaves_states image s now bytes holds same =
     holds_one image after s (subst (λ (i : List ℕ). HoldsState i after) same (database_is_meant image s now bytes holds).stands) holds
 
 -- ---- a call is answered as one
-
-abbrev IsAnswer : Verdict → Type 0
-IsAnswer NoCall = ⊥
-IsAnswer _ = Unit {0}
-
-one_answers : (o : Option PrEntry) (goes : PrEntry → Verdict) → ((e : PrEntry) → IsAnswer (goes e)) → IsAnswer (of_entry o goes)
-one_answers o goes each = of_one IsAnswer o goes (λ rule. tt) each
-
-pair_answers : (r : Registry) (user group : ℤ) (goes : Verdict) → IsAnswer goes → IsAnswer (of_pair r user group goes)
-pair_answers r user group goes is = of_both IsAnswer r user group goes (λ rule. tt) is
-
-call_answers : (s : State) (c : PtCall) → IsAnswer (verdict s (Some c))
-unfolding verdict
-call_answers s (call.NewEntry name kind owner) = of_new IsAnswer s.registry (lowered name) kind owner (λ rule. tt) (λ a e. tt)
-call_answers s (call.INewEntry name id owner) = of_given IsAnswer s.registry (lowered name) id owner (λ rule. tt) (λ a e. tt)
-call_answers s (call.NameToId names) = tt
-call_answers s (call.IdToName given) = tt
-call_answers s (call.Delete id) = one_answers (s.registry.entry id) _ (λ e. by_test IsAnswer (is_fixed e.id) _ _ tt tt)
-call_answers s (call.AddToGroup user group) =
-    pair_answers s.registry user group (joins s user group)
-    (by_test IsAnswer (int_eq group (negsuc 100) || int_eq group (negsuc 101)) _ _ tt (by_test IsAnswer (s.is_in user group) _ _ tt tt))
-call_answers s (call.RemoveFromGroup user group) = pair_answers s.registry user group (parts s user group) (by_test IsAnswer (s.is_in user group) _ _ tt tt)
-call_answers s (call.GetCps id) = one_answers (s.registry.entry id) _ (λ e. tt)
-call_answers s call.ListMax = tt
-call_answers s (call.SetMax id group) = by_test IsAnswer (is_maximum group id) _ _ tt tt
-call_answers s (call.ListEntry id) = one_answers (s.registry.entry id) _ (λ e. tt)
-call_answers s (call.ListEntries kinds after) = by_test IsAnswer (are_kinds kinds) _ _ tt tt
-call_answers s (call.ChangeEntry id name owner new_id) =
-    one_answers (s.registry.entry id) _ (λ e. unless_one IsAnswer (turn_fault s.registry e (lowered name) owner new_id) _ (λ rule. tt) tt)
-call_answers s (call.SetFields id mask flags quota) = one_answers (s.registry.entry id) _ (λ e. by_test IsAnswer (are_bad_fields mask flags quota) _ _ tt tt)
-call_answers s (call.ListElements id) = one_answers (s.registry.entry id) _ (λ e. tt)
-call_answers s (call.IsMemberOf user group) = pair_answers s.registry user group _ tt
-call_answers s (call.ListOwned id) = by_test IsAnswer (not (int_eq id (pos 0)) && is_none (s.registry.entry id)) _ _ tt tt
 
 not_malformed : (v : Verdict) → IsAnswer v → reply_by v ≢ reply.Malformed
 not_malformed NoCall is = λ e. is

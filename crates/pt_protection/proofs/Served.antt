@@ -1,18 +1,18 @@
 -- What the service answers is what was decided of the call.
-use Rattle.std.proofs.Common.{◌≡◌, ℕ, Bool, cond, List, Option, Some, None, IfSome, Result, Ok, Err, IfOk, refl, sym, ap, subst, ◌∙◌}
+use Rattle.std.proofs.Common.{◌≡◌, ℕ, Bool, true, false, cond, List, Option, Some, None, IfSome, Result, Ok, Err, IfOk, refl, sym, ap, subst, ◌∙◌}
+use Rattle.std.specs.Option.{option_map}
 use Rattle.call_grammar.proofs.Fitting.{bytes_fit}
 use Rattle.call_grammar.specs.Laws.{IsBytes}
-use Rattle.db_image.specs.Database.{Outcome}
-use Rattle.db_image.specs.Ends.{EndsBy, IsShort, end_of}
-use Rattle.db_image.specs.Images.{OnlyReads}
+use Rattle.db_image.specs.Ends.{EndsBy}
 use Rattle.db_image.specs.declared.draft_services.CallEnd.{CallEnd}
 use Rattle.db_image.specs.declared.draft_services.CallEnd.TheVariants as end
 use Rattle.db_image.specs.declared.faults.RecordFault.{RecordFault}
-use Rattle.db_image.specs.declared.images.ImageRead.{Ghosts}
+use Rattle.db_image.proofs.Decided.{ends_by}
 use Rattle.prdb_entries.specs.Registry.{Registry}
 use Rattle.pt_calls.specs.declared.calls.PtCall.{PtCall}
+use Rattle.pt_calls.specs.Calls.{call_kind}
 use Rattle.pt_calls.specs.Reading.{call_of}
-use Rattle.pt_calls.specs.Standing.{IsDecided}
+use Rattle.pt_calls.specs.Writes.{is_write}
 use Rattle.pt_service.specs.Meaning.{Answers, Enter, Join, Leave, Makes, Maxima, NoCall, Part, Refit, Refuses, Turn, Verdict, asked, reply_by, verdict}
 use Rattle.pt_service.specs.Standing as registry
 use Rattle.pt_service.specs.State.{State}
@@ -22,22 +22,10 @@ use Rattle.pt_changes.specs.Standing as pairs
 use Rattle.pt_turns.specs.Standing as turns
 use Rattle.pt_laws.specs.Standing.{IsDone, IsMeantOf, image_by}
 use Rattle.pt_protection.specs.Service.{protection_database}
+use Rattle.pt_laws.proofs.Changing.{IsLook, IsPaired, IsPlain, IsTurned, image_same}
 use Rattle.pt_laws.proofs.ToldStates.{state_told}
 
 -- ---- calls that only look
-
--- nothing is changed by it
-abbrev pub IsLook : Verdict → Type 0
-IsLook NoCall = Unit {0}
-IsLook (Refuses rule) = Unit {0}
-IsLook (Answers a) = Unit {0}
-IsLook (Makes a change) = ⊥
-
-image_same : (v : Verdict) (s : State) (image : List ℕ) → IsLook v → image_by v s image ≡ image
-image_same NoCall s image is = refl
-image_same (Refuses rule) s image is = refl
-image_same (Answers a) s image is = refl
-image_same (Makes a change) s image is = absurd is
 
 -- the call is this one
 as_asked : (bytes after : Option (List ℕ)) (call p : PtCall) (ended : CallEnd) → call ≡ p → IsMeantOf bytes (λ s. verdict s (Some p)) ended after
@@ -60,14 +48,6 @@ look_ok (Ok ended) bytes after call p is same look told =
     as_asked bytes after call p ended is (looked bytes after (λ s. verdict s (Some p)) ended same look told)
 
 -- ---- calls that touch no pair
-
--- the change is not one of pairs
-abbrev pub IsPlain : Verdict → Type 0
-IsPlain (Makes a (Maxima user group)) = Unit {0}
-IsPlain (Makes a (Enter e user group)) = Unit {0}
-IsPlain (Makes a (Refit e)) = Unit {0}
-IsPlain (Makes a change) = ⊥
-IsPlain v = Unit {0}
 
 image_plain : (v : Verdict) (s : State) (image : List ℕ) → IsPlain v → registry.image_by v image ≡ Some (image_by v s image)
 image_plain NoCall s image is = refl
@@ -98,14 +78,6 @@ plain_ok (Ok ended) bytes after v call p is kind of done =
 
 -- ---- calls that change pairs, and one that lets an entry leave
 
--- the change is one of pairs, or an entry that leaves
-abbrev pub IsPaired : Verdict → Type 0
-IsPaired (Makes a (Leave id)) = Unit {0}
-IsPaired (Makes a (Join user group)) = Unit {0}
-IsPaired (Makes a (Part user group)) = Unit {0}
-IsPaired (Makes a change) = ⊥
-IsPaired v = Unit {0}
-
 image_paired : (v : Verdict) (s : State) (image : List ℕ) → IsPaired v → pairs.image_by v s image ≡ Some (image_by v s image)
 image_paired NoCall s image is = refl
 image_paired (Refuses rule) s image is = refl
@@ -133,12 +105,6 @@ paired_ok (Ok ended) bytes after call p is kind done =
 
 -- ---- a call that lets an entry turn
 
--- the change is an entry that turns
-abbrev pub IsTurned : Verdict → Type 0
-IsTurned (Makes a (Turn e name owner id user group)) = Unit {0}
-IsTurned (Makes a change) = ⊥
-IsTurned v = Unit {0}
-
 image_turned : (v : Verdict) (s : State) (image : List ℕ) → IsTurned v → turns.image_by v s image ≡ Some (image_by v s image)
 image_turned NoCall s image is = refl
 image_turned (Refuses rule) s image is = refl
@@ -164,10 +130,19 @@ turned_ok (Err fault) bytes after call p is kind done = tt
 turned_ok (Ok ended) bytes after call p is kind done =
     as_asked bytes after call p ended is (turned bytes after (λ s. verdict s (Some p)) ended kind done)
 
+-- a call that writes is none that only reads
+pub no_reader : (call p : PtCall) → call ≡ p → is_write (call_kind p) ≡ true → is_write (call_kind call) ≡ false → ⊥
+no_reader call p is writes reads = let same = ap (λ (c : PtCall). is_write (call_kind c)) is in cc
+
 -- ---- the call that bytes are
 
 pub asked_is : (bytes : List ℕ) → IsBytes bytes → asked bytes ≡ call_of bytes
 asked_is bytes are = ap (λ (b : Bool). cond b (call_of bytes) None) (bytes_fit bytes are)
+
+-- whether it writes
+pub writes_as : (bytes : List ℕ) (o : Option PtCall) → IsBytes bytes → o ≡ call_of bytes
+    → protection_database.writes bytes ≡ option_map is_write (option_map call_kind o)
+writes_as bytes o are is = ap (λ (x : Option PtCall). option_map is_write (option_map call_kind x)) (asked_is bytes are ∙ sym is)
 
 pub no_call_done : (bytes : Option (List ℕ)) (o : Option PtCall) → o ≡ None → IsMeantOf bytes (λ s. verdict s o) end.Malformed bytes
 unfolding verdict
@@ -175,39 +150,11 @@ no_call_done None o none = tt
 no_call_done (Some image) o none = λ s holds.
     subst (λ (x : Option PtCall). IsDone (verdict s x) s image end.Malformed (Some image)) (sym none) (record { reply = refl; leaves = refl })
 
-pub call_done : (r : Result CallEnd RecordFault) (bytes after : Option (List ℕ)) (o p : Option PtCall) → o ≡ p
-    → IfOk r (λ ended. IsMeantOf bytes (λ s. verdict s p) ended after) → IfOk r (λ ended. IsMeantOf bytes (λ s. verdict s o) ended after)
-call_done r bytes after o p same done =
-    subst (λ (x : Option PtCall). IfOk r (λ ended. IsMeantOf bytes (λ s. verdict s x) ended after)) (sym same) done
+pub call_done : (bytes after : Option (List ℕ)) (o p : Option PtCall) (ended : CallEnd) → o ≡ p
+    → IsMeantOf bytes (λ s. verdict s p) ended after → IsMeantOf bytes (λ s. verdict s o) ended after
+call_done bytes after o p ended same done = subst (λ (x : Option PtCall). IsMeantOf bytes (λ s. verdict s x) ended after) (sym same) done
 
 -- ---- the service
-
--- a call that was decided gives a short answer, and no fault
-pub decided_short : (ended : CallEnd) → IsDecided ended → IsShort ended
-decided_short (end.Done told) h = h
-decided_short (end.Rule fault) h = tt
-decided_short end.Malformed h = tt
-decided_short (end.BadRecord at) h = tt
-decided_short end.DiskFault h = tt
-decided_short end.NoMemory h = tt
-
-pub decided_reads : {I : Type 0} (g : Ghosts I) (old new : I) (failed : Type 0) (ended : CallEnd) → IsDecided ended → OnlyReads g old new failed
-    → OnlyReads g old new (ended ≡ end.DiskFault)
-decided_reads g old new failed ended h r = record {
-  held = r.held;
-  size = r.size;
-  came = r.came;
-  never_falls = r.never_falls;
-  cause = λ fault. absurd (subst IsDecided fault h);
-}
-
-ends_by : (o : Outcome) (ended : CallEnd) (after : Option (List ℕ)) → ended ≡ end_of o.reply → after ≡ Some o.image → EndsBy o ended after
-ends_by o (end.Done told) after reply leaves = (reply, leaves)
-ends_by o (end.Rule fault) after reply leaves = (reply, leaves)
-ends_by o end.Malformed after reply leaves = (reply, leaves)
-ends_by o (end.BadRecord at) after reply leaves = (reply, leaves)
-ends_by o end.DiskFault after reply leaves = tt
-ends_by o end.NoMemory after reply leaves = tt
 
 abbrev EndsIn : (image bytes : List ℕ) → CallEnd → Option (List ℕ) → State → Type 0
 EndsIn image bytes ended after s =

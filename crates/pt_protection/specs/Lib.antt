@@ -1,4 +1,5 @@
 pub mod Answers
+pub mod GrammarLaws
 pub mod Laws
 pub mod Service
 pub mod ServiceLaws

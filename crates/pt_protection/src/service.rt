@@ -1,15 +1,16 @@
 //! The protection database as a service.
 #![tactic(auto, unfolding(pt_service::specs::Meaning::verdict))]
 
-ghost use Rattle.std.specs.Prelude.{◌≡◌, ◌≤◌, Some, IfOk, IfErr, IsErrOf};
+ghost use Rattle.std.specs.Prelude.{◌≡◌, ◌≤◌, Some, IfOk, IfErr, IsErrOf, false};
 ghost use Rattle.std.specs.Option.{option_map};
+ghost use Rattle.db_image.specs.Draft.{StaysAsItWas};
+ghost use Rattle.db_image.specs.Ends.{IsDecided};
 ghost use Rattle.prdb_entries.specs.RecordEnds.{OnlyDrafts};
 ghost use Rattle.prdb_members.specs.Ends.{HasItsCause};
 ghost use Rattle.pt_calls.specs.Calls.{HasSpelling, call_kind};
 ghost use Rattle.pt_calls.specs.Reading.{call_of};
-ghost use Rattle.pt_calls.specs.Standing.{IsDecided};
 ghost use Rattle.pt_calls.specs.Writes.{is_write};
-ghost use Rattle.pt_service.specs.Meaning.{asked, verdict};
+ghost use Rattle.pt_service.specs.Meaning.{verdict};
 ghost use Rattle.pt_laws.specs.Standing.{IsMeantOf};
 
 use crate::answers::reply_words;
@@ -48,6 +49,7 @@ fn answer<I: ImageRead>(
     ensures longer { d.old.len ≤ d.new.len }
     ensures short { IfOk result IsDecided }
     ensures fault { IfErr result (HasItsCause d.old.bytes) }
+    ensures rests { is_write (call_kind call) ≡ false → StaysAsItWas d.old d.new }
     ensures frame { OnlyDrafts I.ImageRead d.old d.new (IsErrOf result RecordFault.DiskFault) }
 {
     match call {
@@ -83,31 +85,13 @@ fn answer<I: ImageRead>(
     }
 }
 
-/// Makes the call that bytes are.
-fn evaluate<I: ImageRead>(
-    alloc: Global,
-    d: &mut Draft<I>,
-    bytes: &[u8],
-) -> Result<CallEnd, RecordFault>
-    requires { d.old.len ≤ 16777216 }
-    ensures meant { IfOk result (λ end. IsMeantOf d.old.bytes (λ s. verdict s (asked bytes.now)) end d.new.bytes) }
-    ensures longer { d.old.len ≤ d.new.len }
-    ensures short { IfOk result IsDecided }
-    ensures fault { IfErr result (HasItsCause d.old.bytes) }
-    ensures frame { OnlyDrafts I.ImageRead d.old d.new (IsErrOf result RecordFault.DiskFault) }
-{
-    let Some(call) = read_call(alloc, bytes)? else {
-        return Ok(CallEnd::Malformed);
-    };
-    answer(alloc, d, call)
-}
-
 /// The protection database.
 #[derive(Drop)]
 pub struct PtService;
 
 impl DraftService for PtService {
     ghost use Rattle.pt_protection.specs.Service.{protection_standing};
+    ghost use Rattle.pt_protection.specs.GrammarLaws.{database_keeps_grammar, database_rests};
     ghost use Rattle.pt_protection.specs.ServiceLaws.{database_is_meant, database_never_shrinks, empty_stands};
 
     ghost standing = { protection_standing };
@@ -116,6 +100,10 @@ impl DraftService for PtService {
 
     ghost is_meant = { database_is_meant };
 
+    ghost keeps_grammar = { database_keeps_grammar };
+
+    ghost only_writers_change = { database_rests };
+
     ghost never_shrinks = { database_never_shrinks };
 
     fn writes(call: &[u8]) -> Option<bool> {
@@ -123,7 +111,13 @@ impl DraftService for PtService {
     }
 
     fn call<I: ImageRead>(alloc: Global, image: &mut Draft<I>, _now: u32, call: &[u8]) -> CallEnd {
-        match evaluate(alloc, image, call) {
+        let Ok(read) = read_call(alloc, call) else {
+            return CallEnd::NoMemory;
+        };
+        let Some(asked) = read else {
+            return CallEnd::Malformed;
+        };
+        match answer(alloc, image, asked) {
             Ok(end) => end,
             Err(fault) => fault.into(),
         }

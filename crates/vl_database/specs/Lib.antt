@@ -1,3 +1,5 @@
+pub mod GrammarLaws
+pub mod Judged
 pub mod Laws
 pub mod Service
 pub mod ServiceLaws

@@ -1,8 +1,10 @@
 //! The location database as a service.
 #![tactic(auto, unfolding(vl_service::specs::Meaning::verdict))]
 
-ghost use Rattle.std.specs.Prelude.{◌≡◌, ◌≤◌, Some, IfSome, IfOk, IfErr, IsErrOf};
+ghost use Rattle.std.specs.Prelude.{◌≡◌, ◌≤◌, Some, IfSome, IfOk, IfErr, IsErrOf, false};
 ghost use Rattle.std.specs.Option.{option_map};
+ghost use Rattle.db_image.specs.Draft.{StaysAsItWas};
+ghost use Rattle.db_image.specs.Ends.{IsDecided};
 ghost use Rattle.db_blocks.specs.Ends.{OnlyDrafts};
 ghost use Rattle.vldb_records.specs.Ends.{HasItsCause};
 ghost use Rattle.vldb_records.specs.Location.{Location};
@@ -10,8 +12,8 @@ ghost use Rattle.vldb_records.specs.Records.{Holds};
 ghost use Rattle.vl_calls.specs.Calls.{call_kind};
 ghost use Rattle.vl_calls.specs.Reading.{call_of};
 ghost use Rattle.vl_calls.specs.Writes.{is_write};
-ghost use Rattle.vl_service.specs.Meaning.{asked, verdict};
-ghost use Rattle.vl_service.specs.Standing.{IsDecidedEnd, IsDone};
+ghost use Rattle.vl_service.specs.Meaning.{verdict};
+ghost use Rattle.vl_service.specs.Standing.{IsDone};
 
 use call_grammar::{bytes_fit, push_words};
 use db_blocks::BLOCK_LEN;
@@ -48,8 +50,9 @@ fn answer<I: ImageRead>(
     ensures meant { IfOk result (λ end. IfSome d.old.bytes (λ image. (s : Location) → Holds image s
         → IsDone (verdict s now (Some call)) s image end d.new.bytes)) }
     ensures longer { d.old.len ≤ d.new.len }
-    ensures short { IfOk result IsDecidedEnd }
+    ensures short { IfOk result IsDecided }
     ensures fault { IfErr result (HasItsCause d.old.bytes) }
+    ensures rests { is_write (call_kind call) ≡ false → StaysAsItWas d.old d.new }
     ensures frame { OnlyDrafts I.ImageRead d.old d.new (IsErrOf result RecordFault.DiskFault) }
 {
     match call {
@@ -89,33 +92,13 @@ fn answer<I: ImageRead>(
     }
 }
 
-/// Makes the call that bytes are.
-fn evaluate<I: ImageRead>(
-    alloc: Global,
-    d: &mut Draft<I>,
-    now: u32,
-    bytes: &[u8],
-) -> Result<CallEnd, RecordFault>
-    requires { d.old.len ≤ 16777216 }
-    ensures meant { IfOk result (λ end. IfSome d.old.bytes (λ image. (s : Location) → Holds image s
-        → IsDone (verdict s now (asked now bytes.now)) s image end d.new.bytes)) }
-    ensures longer { d.old.len ≤ d.new.len }
-    ensures short { IfOk result IsDecidedEnd }
-    ensures fault { IfErr result (HasItsCause d.old.bytes) }
-    ensures frame { OnlyDrafts I.ImageRead d.old d.new (IsErrOf result RecordFault.DiskFault) }
-{
-    let Some(call) = read_call(alloc, bytes)? else {
-        return Ok(CallEnd::Malformed);
-    };
-    answer(alloc, d, now, call)
-}
-
 /// The location database.
 #[derive(Drop)]
 pub struct VlService;
 
 impl DraftService for VlService {
     ghost use Rattle.vl_database.specs.Service.{vl_standing};
+    ghost use Rattle.vl_database.specs.GrammarLaws.{database_keeps_grammar, database_rests};
     ghost use Rattle.vl_database.specs.ServiceLaws.{database_is_meant, database_never_shrinks, empty_stands};
 
     ghost standing = { vl_standing };
@@ -124,6 +107,10 @@ impl DraftService for VlService {
 
     ghost is_meant = { database_is_meant };
 
+    ghost keeps_grammar = { database_keeps_grammar };
+
+    ghost only_writers_change = { database_rests };
+
     ghost never_shrinks = { database_never_shrinks };
 
     fn writes(call: &[u8]) -> Option<bool> {
@@ -131,7 +118,13 @@ impl DraftService for VlService {
     }
 
     fn call<I: ImageRead>(alloc: Global, image: &mut Draft<I>, now: u32, call: &[u8]) -> CallEnd {
-        match evaluate(alloc, image, now, call) {
+        let Ok(read) = read_call(alloc, call) else {
+            return CallEnd::NoMemory;
+        };
+        let Some(asked) = read else {
+            return CallEnd::Malformed;
+        };
+        match answer(alloc, image, now, asked) {
             Ok(end) => end,
             Err(fault) => fault.into(),
         }

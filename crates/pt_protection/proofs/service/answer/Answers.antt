@@ -8,8 +8,8 @@ use Rattle.pt_calls.specs.declared.calls.PtCall.TheVariants as call
 use Rattle.pt_calls.specs.Meaning.{id_or_anonymous}
 use Rattle.pt_service.specs.Meaning.{Answers, fields_set, maximum_set, name_of, new_entry, new_entry_of_id, of_entry, verdict}
 use Rattle.pt_database.proofs.States.{err_so}
-use Rattle.pt_protection.proofs.Changing.{fields_plain, given_plain, join_paired, leave_paired, maximum_plain, new_plain, part_paired, reads_look, turn_turned}
-use Rattle.pt_protection.proofs.Served.{look_ok, paired_ok, plain_ok, turned_ok}
+use Rattle.pt_laws.proofs.Changing.{fields_plain, given_plain, join_paired, leave_paired, maximum_plain, new_plain, part_paired, reads_look, turn_turned}
+use Rattle.pt_protection.proofs.Served.{look_ok, no_reader, paired_ok, plain_ok, turned_ok}
 use Rattle.pt_protection.proofs.service.answer.Goals as goal
 
 pub returns-in-NewEntry-clause-meant : goal.returns-in-NewEntry-clause-meant
@@ -217,3 +217,27 @@ pub id_to_name-requires-clause-count : goal.id_to_name-requires-clause-count
 id_to_name-requires-clause-count g c =
     let spelled = rw c.in-IdToName.is at c.requires.call in
     omega (arith, ap length c.as_slice-in-IdToName.ensures, spelled.0)
+
+pub returns-in-NewEntry-clause-rests : goal.returns-in-NewEntry-clause-rests
+returns-in-NewEntry-clause-rests g c = λ reads. absurd (no_reader c.args.call _ c.in-NewEntry.is refl reads)
+
+pub returns-in-INewEntry-clause-rests : goal.returns-in-INewEntry-clause-rests
+returns-in-INewEntry-clause-rests g c = λ reads. absurd (no_reader c.args.call _ c.in-INewEntry.is refl reads)
+
+pub returns-in-Delete-clause-rests : goal.returns-in-Delete-clause-rests
+returns-in-Delete-clause-rests g c = λ reads. absurd (no_reader c.args.call _ c.in-Delete.is refl reads)
+
+pub returns-in-AddToGroup-clause-rests : goal.returns-in-AddToGroup-clause-rests
+returns-in-AddToGroup-clause-rests g c = λ reads. absurd (no_reader c.args.call _ c.in-AddToGroup.is refl reads)
+
+pub returns-in-RemoveFromGroup-clause-rests : goal.returns-in-RemoveFromGroup-clause-rests
+returns-in-RemoveFromGroup-clause-rests g c = λ reads. absurd (no_reader c.args.call _ c.in-RemoveFromGroup.is refl reads)
+
+pub returns-in-SetMax-clause-rests : goal.returns-in-SetMax-clause-rests
+returns-in-SetMax-clause-rests g c = λ reads. absurd (no_reader c.args.call _ c.in-SetMax.is refl reads)
+
+pub returns-in-ChangeEntry-clause-rests : goal.returns-in-ChangeEntry-clause-rests
+returns-in-ChangeEntry-clause-rests g c = λ reads. absurd (no_reader c.args.call _ c.in-ChangeEntry.is refl reads)
+
+pub returns-in-SetFields-clause-rests : goal.returns-in-SetFields-clause-rests
+returns-in-SetFields-clause-rests g c = λ reads. absurd (no_reader c.args.call _ c.in-SetFields.is refl reads)

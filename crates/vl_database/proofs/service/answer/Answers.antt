@@ -1,9 +1,10 @@
-use Rattle.std.proofs.Common.{FitsSigned, Some, ap, rules}
+use Rattle.std.proofs.Common.{FitsSigned, Some, ap, refl, rules}
 use Rattle.std.specs.Int.{w32}
 use Rattle.std.proofs.lemmas.Int.{to_z-of_z}
 use Rattle.vldb_records.specs.Location.{Location}
 use Rattle.vl_service.specs.Meaning.{named_verdict, of_id, told, verdict}
-use Rattle.vl_database.proofs.Served.{by_id_look, look_ok, named_look}
+use Rattle.vl_database.specs.Judged.{by_id_look, named_look}
+use Rattle.vl_database.proofs.Served.{look_ok, no_reader}
 use Rattle.vl_database.proofs.service.answer.Goals as goal
 
 pub returns-in-GetEntryById-clause-meant : goal.returns-in-GetEntryById-clause-meant
@@ -24,3 +25,24 @@ returns-in-GetEntryByName-clause-meant g c =
     (λ (s : Location). verdict s c.args.now (Some c.args.call)) c.entry_by_name.ensures.frame.same.bytes
     (λ s. named_look s c.in-GetEntryByName.name) (λ s. ap (λ call. verdict s c.args.now (Some call)) c.in-GetEntryByName.is)
     (rw c.as_slice.ensures at meant)
+
+pub returns-in-GetNewVolumeId-clause-rests : goal.returns-in-GetNewVolumeId-clause-rests
+returns-in-GetNewVolumeId-clause-rests g c = λ reads. absurd (no_reader c.args.call _ c.in-GetNewVolumeId.is refl reads)
+
+pub returns-in-CreateEntry-clause-rests : goal.returns-in-CreateEntry-clause-rests
+returns-in-CreateEntry-clause-rests g c = λ reads. absurd (no_reader c.args.call _ c.in-CreateEntry.is refl reads)
+
+pub returns-in-DeleteEntry-clause-rests : goal.returns-in-DeleteEntry-clause-rests
+returns-in-DeleteEntry-clause-rests g c = λ reads. absurd (no_reader c.args.call _ c.in-DeleteEntry.is refl reads)
+
+pub returns-in-ReplaceEntry-clause-rests : goal.returns-in-ReplaceEntry-clause-rests
+returns-in-ReplaceEntry-clause-rests g c = λ reads. absurd (no_reader c.args.call _ c.in-ReplaceEntry.is refl reads)
+
+pub returns-in-SetLock-clause-rests : goal.returns-in-SetLock-clause-rests
+returns-in-SetLock-clause-rests g c = λ reads. absurd (no_reader c.args.call _ c.in-SetLock.is refl reads)
+
+pub returns-in-ReleaseLock-clause-rests : goal.returns-in-ReleaseLock-clause-rests
+returns-in-ReleaseLock-clause-rests g c = λ reads. absurd (no_reader c.args.call _ c.in-ReleaseLock.is refl reads)
+
+pub returns-in-ChangeAddr-clause-rests : goal.returns-in-ChangeAddr-clause-rests
+returns-in-ChangeAddr-clause-rests g c = λ reads. absurd (no_reader c.args.call _ c.in-ChangeAddr.is refl reads)

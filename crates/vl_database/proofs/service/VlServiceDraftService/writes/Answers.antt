@@ -1,12 +1,7 @@
-use Rattle.std.proofs.Common.{Option, ap, sym, ◌∙◌, arith}
-use Rattle.std.specs.Option.{option_map}
-use Rattle.vl_calls.specs.Calls.{call_kind}
-use Rattle.vl_calls.specs.declared.calls.VlCall.{VlCall}
-use Rattle.vl_calls.specs.Writes.{is_write}
-use Rattle.vl_database.proofs.Served.{asked_is}
+use Rattle.std.proofs.Common.{refl, sym, ◌∙◌, arith}
+use Rattle.vl_calls.specs.Reading.{call_of}
+use Rattle.vl_database.proofs.Served.{writes_as}
 use Rattle.vl_database.proofs.service.VlServiceDraftService.writes.Goals as goal
 
 pub returns : goal.returns
-returns c =
-    c.writes.ensures
-    ∙ ap (λ (o : Option VlCall). option_map is_write (option_map call_kind o)) (sym (asked_is 0 c.args.call.now (omega arith) (λ i. omega (arith, c.type_inv.call i))))
+returns c = c.writes.ensures ∙ sym (writes_as c.args.call.now (call_of c.args.call.now) (λ i. omega (arith, c.type_inv.call i)) refl)

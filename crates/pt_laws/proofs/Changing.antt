@@ -1,5 +1,5 @@
 -- What kind of change each call makes, if it makes one.
-use Rattle.std.proofs.Common.{◌≡◌, ℕ, ℤ, pos, negsuc, Bool, true, false, not, ◌&&◌, ◌||◌, cond, eqb, List, Option, Some, None, Result, Ok, Err}
+use Rattle.std.proofs.Common.{◌≡◌, ℕ, ℤ, pos, negsuc, Bool, true, false, not, ◌&&◌, ◌||◌, cond, eqb, List, Option, Some, None, Result, Ok, Err, refl}
 use Rattle.std.specs.Prelude.{is_none, is_some}
 use Rattle.std.specs.Ordering.{int_eq}
 use Rattle.prdb_entries.specs.Names.{lowered}
@@ -10,13 +10,44 @@ use Rattle.pt_calls.specs.declared.answers.PtAnswer.{PtAnswer}
 use Rattle.pt_calls.specs.declared.answers.PtAnswer.TheVariants as answer
 use Rattle.pt_calls.specs.declared.calls.PtCall.{PtCall}
 use Rattle.pt_calls.specs.declared.calls.PtCall.TheVariants as call
-use Rattle.pt_service.specs.Meaning.{Makes, Refuses, Verdict, are_bad_fields, are_kinds, enters, entry_made, fields_set, is_maximum, joins, leaves}
+use Rattle.pt_service.specs.Meaning.{Answers, Enter, Join, Leave, Makes, Maxima, NoCall, Part, Refit, Refuses, Turn, Verdict, are_bad_fields, are_kinds, enters, entry_made, fields_set, is_maximum, joins, leaves}
 use Rattle.pt_service.specs.Meaning.{maxima_with, maximum_set, new_entry, new_entry_of_id, next_id, of_entry, of_owner, of_pair, owned}
 use Rattle.pt_service.specs.Meaning.{owner_for, page, parts, turns, unless, verdict, with_given, with_next}
 use Rattle.pt_service.specs.State.{State, is_group, is_id}
 use Rattle.pt_service.specs.Turning.{is_fixed, turn_fault}
 use Rattle.pt_calls.specs.Writes.{is_write}
-use Rattle.pt_protection.proofs.Served.{IsLook, IsPaired, IsPlain, IsTurned}
+use Rattle.pt_laws.specs.Standing.{image_by}
+
+-- ---- kinds of change
+
+-- nothing is changed by it
+abbrev pub IsLook : Verdict → Type 0
+IsLook NoCall = Unit {0}
+IsLook (Refuses rule) = Unit {0}
+IsLook (Answers a) = Unit {0}
+IsLook (Makes a change) = ⊥
+
+-- the change is not one of pairs
+abbrev pub IsPlain : Verdict → Type 0
+IsPlain (Makes a (Maxima user group)) = Unit {0}
+IsPlain (Makes a (Enter e user group)) = Unit {0}
+IsPlain (Makes a (Refit e)) = Unit {0}
+IsPlain (Makes a change) = ⊥
+IsPlain v = Unit {0}
+
+-- the change is one of pairs, or an entry that leaves
+abbrev pub IsPaired : Verdict → Type 0
+IsPaired (Makes a (Leave id)) = Unit {0}
+IsPaired (Makes a (Join user group)) = Unit {0}
+IsPaired (Makes a (Part user group)) = Unit {0}
+IsPaired (Makes a change) = ⊥
+IsPaired v = Unit {0}
+
+-- the change is an entry that turns
+abbrev pub IsTurned : Verdict → Type 0
+IsTurned (Makes a (Turn e name owner id user group)) = Unit {0}
+IsTurned (Makes a change) = ⊥
+IsTurned v = Unit {0}
 
 -- ---- verdicts that are put together
 
@@ -99,6 +130,12 @@ reads_look s (call.RemoveFromGroup user group) is = absurd cc
 reads_look s (call.SetMax id group) is = absurd cc
 reads_look s (call.ChangeEntry id name owner new_id) is = absurd cc
 reads_look s (call.SetFields id mask flags quota) is = absurd cc
+
+pub image_same : (v : Verdict) (s : State) (image : List ℕ) → IsLook v → image_by v s image ≡ image
+image_same NoCall s image is = refl
+image_same (Refuses rule) s image is = refl
+image_same (Answers a) s image is = refl
+image_same (Makes a change) s image is = absurd is
 
 -- ---- calls that touch no pair
 
