@@ -1,6 +1,7 @@
 //! A small database: a call answers the image and appends its bytes to it.
-ghost use Rattle.std.specs.Prelude.{◌≡◌, ◌≢◌, ◌≤◌, IfOk, IfErr, IfSome, IsErrOf};
-ghost use Rattle.db_image.specs.Ends.{EndsBy, IsShort};
+ghost use Rattle.std.specs.Prelude.{◌≡◌, ◌≤◌, IfOk, IfErr, IfSome, IsErrOf, length};
+ghost use Rattle.db_image.specs.Draft.{StaysAsItWas};
+ghost use Rattle.db_image.specs.Ends.{EndsBy, IsDecided};
 ghost use Rattle.db_image.specs.Images.{IsOfImage, OnlyReads};
 ghost use Rattle.ubik_node.specs.Appending.{appended, appending};
 
@@ -21,18 +22,16 @@ fn append<I: ImageRead>(
     d: &mut Draft<I>,
     call: &[u8],
 ) -> Result<CallEnd, RecordFault>
-    requires { d.old.len ≤ 16777216 }
+    requires len { d.old.len ≤ 16777216 }
+    requires call { length call.now ≤ 2097152 }
     ensures meant { IfOk result (λ end. IfSome d.old.bytes (λ image. EndsBy (appended image call.now) end d.new.bytes)) }
-    ensures short { IfOk result IsShort }
-    ensures no_fault { IfOk result (λ end. (end ≢ CallEnd.DiskFault) × (end ≢ CallEnd.NoMemory)) }
+    ensures short { IfOk result IsDecided }
+    ensures rests { length call.now ≡ 0 → StaysAsItWas d.old d.new }
     ensures longer { d.old.len ≤ d.new.len }
     ensures layout { d.new.layout ≡ d.old.layout }
     ensures fault { IfErr result IsOfImage }
     ensures reads { OnlyReads I.ImageRead d.old.image d.new.image (IsErrOf result RecordFault.DiskFault) }
 {
-    if call.len() > MOST {
-        return Ok(CallEnd::Malformed);
-    }
     let len = d.len();
     if len > 1_048_576 {
         return Ok(CallEnd::Rule(7));
@@ -47,13 +46,17 @@ fn append<I: ImageRead>(
 
 impl DraftService for Appending {
     ghost use Rattle.std.specs.Prelude.{refl};
-    ghost use Rattle.ubik_node.specs.Appending.{appending, appending_grows, appending_is_meant};
+    ghost use Rattle.ubik_node.specs.Appending.{appending, appending_grows, appending_is_meant, appending_keeps_grammar, only_appending_changes};
 
     ghost standing = { appending };
 
     ghost empty_is_first = { refl };
 
     ghost is_meant = { appending_is_meant };
+
+    ghost keeps_grammar = { appending_keeps_grammar };
+
+    ghost only_writers_change = { only_appending_changes };
 
     ghost never_shrinks = { appending_grows };
 
@@ -66,6 +69,9 @@ impl DraftService for Appending {
     }
 
     fn call<I: ImageRead>(alloc: Global, image: &mut Draft<I>, _now: u32, call: &[u8]) -> CallEnd {
+        if call.len() > MOST {
+            return CallEnd::Malformed;
+        }
         match append(alloc, image, call) {
             Ok(end) => end,
             Err(fault) => fault.into(),

@@ -1,8 +1,10 @@
 -- A small database, which the tests serve: each call answers the image and appends its bytes to it.
-use Rattle.std.specs.Prelude.{◌≡◌, ◌≢◌, ◌≤◌, ℕ, Bool, true, false, List, [], ◌++◌, ◌==◌, if◌then◌else◌, not, nat_lt, length, Some, None}
-use Rattle.std.proofs.Common.{ap, sym, ◌∙◌, arith, length-append}
+use Rattle.std.specs.Prelude.{◌≡◌, ◌≢◌, ◌≤◌, ℕ, Bool, true, false, List, [], ◌∷◌, ◌++◌, ◌==◌, if◌then◌else◌, not, nat_lt, length, Some, None}
+use Rattle.std.proofs.Common.{ap, append-nil, cond, refl, sym, ◌∙◌, arith, length-append}
+use Rattle.std.proofs.lemmas.Bool.{ne_eqb}
 use Rattle.db_image.specs.declared.services.CallReply.TheVariants as reply
 use Rattle.db_image.specs.Database.{Outcome}
+use Rattle.db_image.specs.Ends.{KeepsGrammar, end_of}
 use Rattle.db_image.specs.Standing.{Standing, IsMeantOver}
 
 -- by whether the call is too long, and the image
@@ -54,3 +56,26 @@ appending_is_meant image s now call stands = record {
   stands = ap (λ (i : List ℕ). (appended i call).image) stands;
   stays = λ same. ap (λ (i : List ℕ). (appended i call).image) stands ∙ same ∙ sym stands;
 }
+
+keeps_by : (a b : Bool) (image call : List ℕ)
+    → KeepsGrammar (cond a None (Some (not (length call == 0)))) (end_of (appended_by a b image call).reply)
+keeps_by true b image call = refl
+keeps_by false true image call = refl
+keeps_by false false image call = refl
+
+pub appending_keeps_grammar : (image : List ℕ) (now : ℕ) (call : List ℕ)
+    → KeepsGrammar (appending.database.writes call) (end_of (appending.database.call image now call).reply)
+appending_keeps_grammar image now call = keeps_by (nat_lt 2097152 (length call)) (nat_lt 1048576 (length image)) image call
+
+rests_by : (a b : Bool) (image call : List ℕ) → cond a None (Some (not (length call == 0))) ≢ Some true
+    → (appended_by a b image call).image ≡ image
+rests_by true b image call reads = refl
+rests_by false true image call reads = refl
+rests_by false false image [] reads = append-nil image
+rests_by false false image (first ∷ bytes) reads =
+    let none : (length (first ∷ bytes) == 0) ≡ false = ne_eqb (length (first ∷ bytes)) 0 (λ none. omega arith) in
+    absurd (reads (ap (λ (b : Bool). Some (not b)) none))
+
+pub only_appending_changes : (image : List ℕ) (now : ℕ) (call : List ℕ) → appending.database.writes call ≢ Some true
+    → (appending.database.call image now call).image ≡ image
+only_appending_changes image now call reads = rests_by (nat_lt 2097152 (length call)) (nat_lt 1048576 (length image)) image call reads
