@@ -25,7 +25,7 @@ use db_image::{DraftWords, VecImage};
 use disk_base::StopDisk;
 use script_laws::law_cells_go_on;
 use std::alloc::Global;
-use ubik_node::{Outputs, SteadyDisk};
+use ubik_node::Outputs;
 use ubik_types::{Bytes, Host, NoMemory};
 use write_laws::law_writes_spread;
 
@@ -35,7 +35,7 @@ const FIRST_HOST: u32 = 167_772_161;
 /// A cell that stands: its servers with their clocks and disks, and the packets between them. It runs one line of a script after
 /// the other. Servers are numbered from 1, as packets are.
 #[derive(Drop)]
-pub struct OpenCell<D: SteadyDisk + StopDisk, V: DraftWords> {
+pub struct OpenCell<D: StopDisk, V: DraftWords> {
     pub alloc: Global,
     pub hosts: Vec<Host>,
     pub sites: Vec<Site<D, V>>,
@@ -45,7 +45,7 @@ pub struct OpenCell<D: SteadyDisk + StopDisk, V: DraftWords> {
     pub calls: Vec<Bytes>,
 }
 
-impl<D: SteadyDisk + StopDisk, V: DraftWords> OpenCell<D, V> {
+impl<D: StopDisk, V: DraftWords> OpenCell<D, V> {
     /// A cell of so many servers, none of which is opened. Room for all of them is taken here.
     pub fn new(alloc: Global, servers: usize) -> Result<OpenCell<D, V>, NoMemory>
         requires some { 1 ≤ servers }
@@ -151,7 +151,7 @@ fn tell_opened(server: u32, end: OpenEnd, text: &mut String) -> Result<(), NoMem
 }
 
 /// A cell all of whose servers were opened stands for the opened cell of some choices.
-pub fn law_cell_opened<D: SteadyDisk + StopDisk, V: DraftWords>()
+pub fn law_cell_opened<D: StopDisk, V: DraftWords>()
     ensures { (db : ScriptDatabase) (clock : ℕ) (k : Kind) (given : List D) (running : AnOpenCell D V) (text_before text_after : List ℕ) →
         IsMoment clock → HasRoom running → length given ≡ length running.hosts.items →
         ArePartOpened D.Disk db clock given running text_before text_after →

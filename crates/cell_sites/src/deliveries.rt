@@ -22,10 +22,10 @@ use disk_base::StopDisk;
 use script_laws::law_cells_go_on;
 use std::alloc::Global;
 use ubik_calls::{Body, Packet};
-use ubik_node::{NodeEvent, SteadyDisk};
+use ubik_node::NodeEvent;
 use ubik_types::{Host, NoMemory, bytes_of};
 
-impl<D: SteadyDisk + StopDisk, V: DraftWords> OpenCell<D, V> {
+impl<D: StopDisk, V: DraftWords> OpenCell<D, V> {
     /// Hands the packet of a number to its receiver, whether it waits or not. A server that is down loses it.
     pub fn deliver(&mut self, number: u64, text: &mut String) -> Result<(), LineFault>
         requires { (bounds : Bounds) × IsSound D.Disk V.standing.database bounds self.old }

@@ -14,9 +14,8 @@ use cell_script::Why;
 use db_image::DraftWords;
 use disk_base::StopDisk;
 use script_laws::law_cells_go_on;
-use ubik_node::SteadyDisk;
 
-impl<D: SteadyDisk + StopDisk, V: DraftWords> OpenCell<D, V> {
+impl<D: StopDisk, V: DraftWords> OpenCell<D, V> {
     /// The number of a packet that was sent.
     pub(crate) fn sent_number(&self, number: u64) -> Result<u32, Why>
         ensures sent { IfOk result (λ n. (n ≡ number) × (0 < n) × (n ≤ length self.now.packets.sent)) }

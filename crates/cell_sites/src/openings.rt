@@ -12,7 +12,7 @@ use crate::sites::Server;
 use db_image::DraftWords;
 use disk_base::{Refused, StopDisk};
 use std::alloc::Global;
-use ubik_node::{Node, SteadyDisk, StoreFault};
+use ubik_node::{Node, StoreFault};
 use ubik_types::{Cell, Host, Version};
 
 /// How the opening of a server ended.
@@ -27,7 +27,7 @@ pub enum OpenEnd {
 }
 
 /// Opens the server at a place of the cell of these hosts over its disk, at a moment in seconds. Where it stays down, the disk is revived.
-pub(crate) fn open_server<D: SteadyDisk + StopDisk, V: DraftWords>(
+pub(crate) fn open_server<D: StopDisk, V: DraftWords>(
     alloc: Global,
     hosts: &[Host],
     me: usize,

@@ -25,11 +25,10 @@ use cell_script::Why;
 use db_image::DraftWords;
 use disk_base::{Fill, StopDisk};
 use script_laws::law_cells_go_on;
-use ubik_node::SteadyDisk;
 use ubik_types::NoMemory;
 use write_laws::law_writes_spread;
 
-impl<D: SteadyDisk + StopDisk, V: DraftWords> OpenCell<D, V> {
+impl<D: StopDisk, V: DraftWords> OpenCell<D, V> {
     /// Has the disk of a server that is up stop after so many further changing calls, and then leave its files so.
     pub fn stop(&mut self, server: u64, calls: u32, fill: Fill) -> Result<(), Why>
         requires { (bounds : Bounds) × IsSound D.Disk V.standing.database bounds self.old }

@@ -9,9 +9,8 @@ use crate::sites::Server;
 use cell_script::Why;
 use db_image::DraftWords;
 use disk_base::StopDisk;
-use ubik_node::SteadyDisk;
 
-impl<D: SteadyDisk + StopDisk, V: DraftWords> OpenCell<D, V> {
+impl<D: StopDisk, V: DraftWords> OpenCell<D, V> {
     /// The place of the server of a number, which is counted from 1.
     pub(crate) fn place(&self, server: u64) -> Result<usize, Why>
         ensures place { IfOk result (λ k. (k ≡ server - 1) × (k < length self.now.sites.items)) }

@@ -16,9 +16,8 @@ use crate::sites::Server;
 use cell_runs::{Showing, tell_show};
 use db_image::DraftWords;
 use disk_base::StopDisk;
-use ubik_node::SteadyDisk;
 
-impl<D: SteadyDisk + StopDisk, V: DraftWords> OpenCell<D, V> {
+impl<D: StopDisk, V: DraftWords> OpenCell<D, V> {
     /// Tells the state of a server: of a halted one what it kept.
     pub fn show(&self, server: u64, text: &mut String) -> Result<(), LineFault>
         requires { (bounds : Bounds) × IsSound D.Disk V.standing.database bounds self.now }

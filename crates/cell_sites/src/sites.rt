@@ -4,18 +4,18 @@ ghost use Rattle.cell_sites.specs.Sites.{server_disk};
 
 use db_image::DraftWords;
 use disk_base::StopDisk;
-use ubik_node::{Node, SteadyDisk};
+use ubik_node::Node;
 
 /// A server, with its disk.
 #[derive(Drop)]
-pub enum Server<D: SteadyDisk + StopDisk, V: DraftWords> {
+pub enum Server<D: StopDisk, V: DraftWords> {
     /// It is down.
     Down(D),
     /// It is up, or halted.
     Up(Node<D, V>),
 }
 
-impl<D: SteadyDisk + StopDisk, V: DraftWords> Server<D, V> {
+impl<D: StopDisk, V: DraftWords> Server<D, V> {
     /// The disk, with the server taken down.
     pub(crate) fn close(self) -> D
         ensures { result ≡ server_disk self }
@@ -29,7 +29,7 @@ impl<D: SteadyDisk + StopDisk, V: DraftWords> Server<D, V> {
 
 /// A server with its clock, in seconds.
 #[derive(Drop)]
-pub struct Site<D: SteadyDisk + StopDisk, V: DraftWords> {
+pub struct Site<D: StopDisk, V: DraftWords> {
     pub clock: u32,
     pub server: Server<D, V>,
 }

@@ -34,11 +34,11 @@ use disk_base::StopDisk;
 use flight_laws::law_writes_stand;
 use recovery_laws::law_images_stand;
 use script_laws::law_cells_go_on;
-use ubik_node::{Node, NodeEvent, Outputs, SteadyDisk, StepEnd};
+use ubik_node::{Node, NodeEvent, Outputs, StepEnd};
 use ubik_types::{Bytes, NoMemory, bytes_of};
 use write_laws::{law_replies_tell_memory, law_writes_spread};
 
-impl<D: SteadyDisk + StopDisk, V: DraftWords> OpenCell<D, V> {
+impl<D: StopDisk, V: DraftWords> OpenCell<D, V> {
     /// A beacon turn of a server, which is counted from 1.
     pub fn beacon(&mut self, server: u64, text: &mut String) -> Result<(), LineFault>
         requires { (bounds : Bounds) × IsSound D.Disk V.standing.database bounds self.old }
@@ -290,7 +290,7 @@ pub enum SiteEnd {
 }
 
 /// A step of a server that is up, at a moment. Where it is halted in it by a fault of the disk that is no stop, the files are opened anew.
-fn step_node<D: SteadyDisk + StopDisk, V: DraftWords>(
+fn step_node<D: StopDisk, V: DraftWords>(
     node: &mut Node<D, V>,
     clock: u32,
     event: NodeEvent,

@@ -18,10 +18,9 @@ use cell_script::Why;
 use db_image::DraftWords;
 use disk_base::StopDisk;
 use script_laws::law_cells_go_on;
-use ubik_node::SteadyDisk;
 use ubik_types::SKEW;
 
-impl<D: SteadyDisk + StopDisk, V: DraftWords> OpenCell<D, V> {
+impl<D: StopDisk, V: DraftWords> OpenCell<D, V> {
     /// The clock of a server goes forward. That is refused where it would be more than 7 seconds past another one.
     pub fn tick(&mut self, server: u64, seconds: u32) -> Result<(), Why>
         requires { (bounds : Bounds) × IsSound D.Disk V.standing.database bounds self.old × (bounds.clock + seconds ≤ MAX_MOMENT) }
@@ -65,7 +64,7 @@ impl<D: SteadyDisk + StopDisk, V: DraftWords> OpenCell<D, V> {
 }
 
 /// The clocks of these servers go forward.
-fn tick_sites<D: SteadyDisk + StopDisk, V: DraftWords>(sites: &mut [Site<D, V>], seconds: u32)
+fn tick_sites<D: StopDisk, V: DraftWords>(sites: &mut [Site<D, V>], seconds: u32)
     requires { (k : ℕ) (site : ASite D V) → slice_get sites.old k ≡ Some site → site.clock + seconds ≤ MAX_MOMENT }
     ensures { sites.new ≡ map (ticked_on seconds) sites.old }
 {
@@ -75,11 +74,7 @@ fn tick_sites<D: SteadyDisk + StopDisk, V: DraftWords>(sites: &mut [Site<D, V>],
 }
 
 /// Whether a clock at a place is not more than 7 seconds past any other one.
-fn is_near<D: SteadyDisk + StopDisk, V: DraftWords>(
-    sites: &[Site<D, V>],
-    k: usize,
-    now: u32,
-) -> bool
+fn is_near<D: StopDisk, V: DraftWords>(sites: &[Site<D, V>], k: usize, now: u32) -> bool
     ensures { IsTrue result ↔ IsNearAt sites.now k now }
 {
     for j in 0..sites.len() {

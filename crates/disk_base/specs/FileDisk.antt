@@ -1,5 +1,5 @@
 -- The counts of a disk over a folder, and why one is not opened.
-use Rattle.std.specs.Prelude.{ℕ}
+use Rattle.std.specs.Prelude.{ℕ, ◌≡◌, Bool, true, false}
 use Rattle.std.specs.declared.io.ErrorKind.{ErrorKind}
 use Rattle.std.specs.declared.io.ErrorKind.TheVariants.{OutOfMemory}
 use Rattle.disk_base.specs.declared.file_disks.FileDisk.{FileDisk}
@@ -18,3 +18,7 @@ file_faults disk = disk.faults
 abbrev pub fault_of : ErrorKind → OpenFault
 fault_of OutOfMemory = NoMemory
 fault_of _ = Failed
+
+-- it tells nothing
+pub untold : {A : Type 0} → ◌≡◌ {A = Bool} false true → A
+untold none = absurd cc

@@ -110,6 +110,9 @@ pub trait Disk {
     /// A disk that tells its files now is one that tells them.
     ghost tells_now: { (disk : Self) → IsSome (files disk) → tells disk ≡ true };
 
+    /// A disk that tells its files tells what is pending. So a read that fails leaves its files as they were.
+    ghost tells_pending: { (disk : Self) → tells disk ≡ true → IsSome (pending disk) };
+
     /// A crash may leave what the pending calls make of what was last synced, and nothing else.
     ghost leaves_pending: { (disk : Self) → IfSome (pending disk) (λ p. (c : Files) → may_leave disk c ↔ MayLeave p c) };
 

@@ -106,7 +106,7 @@ impl FileDisk {
 }
 
 impl Disk for FileDisk {
-    ghost use Rattle.disk_base.specs.FileDisk.{file_steps, file_faults};
+    ghost use Rattle.disk_base.specs.FileDisk.{file_steps, file_faults, untold};
 
     ghost files = { λ disk. None };
 
@@ -139,6 +139,8 @@ impl Disk for FileDisk {
     ghost tells_both = { λ disk told. told };
 
     ghost tells_now = { λ disk told. told };
+
+    ghost tells_pending = { λ disk told. untold told };
 
     ghost leaves_pending = { λ disk. tt };
 

@@ -206,6 +206,7 @@ impl Disk for MemDisk {
     ghost use Rattle.disk_base.specs.MemDisk.{now_of, pending_of, disk_room, disk_stop, disk_plan, disk_steps, disk_faults, disk_own_faults};
     ghost use Rattle.disk_base.specs.MemDisk.{disk_may_leave, disk_left_since, disk_tells};
     ghost use Rattle.disk_base.specs.MemDisk.{disk_fails, disk_passage, done_unless, known_unless, end_of, FailsUnlessPassed};
+    ghost use Rattle.std.specs.Prelude.{refl};
     ghost use Rattle.disk_base.specs.MemLaws.{counts_now, only_now, may_be_read, has_room, tells_both, tells_now, leaves_pending};
 
     ghost files = { λ disk. Some (now_of disk) };
@@ -239,6 +240,8 @@ impl Disk for MemDisk {
     ghost tells_both = { tells_both };
 
     ghost tells_now = { tells_now };
+
+    ghost tells_pending = { λ disk told. refl };
 
     ghost leaves_pending = { leaves_pending };
 

@@ -263,6 +263,8 @@ impl<D: Disk> Disk for Mirrored<D> {
 
     ghost tells_now = { λ disk told. refl };
 
+    ghost tells_pending = { λ disk told. refl };
+
     ghost leaves_pending = { λ disk c. (λ left. left, λ left. left) };
 
     fn len(&mut self, f: FileNo) -> LenEnd

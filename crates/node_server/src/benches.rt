@@ -3,11 +3,11 @@ ghost use Rattle.std.specs.Prelude.{◌≡◌, ◌+◌, ◌<◌, ◌≤◌, true
 ghost use Rattle.ubik_types.specs.Moment.{IsMoment};
 
 use db_image::DraftService;
+use disk_base::Disk;
 use server_crew::{Bench, Seats};
 use server_rounds::{Sendings, Turn, TurnEnd};
 use server_station::{Keeper, Opening, Seat, Station};
 use std::marker::{Brand, PhantomData};
-use ubik_node::SteadyDisk;
 
 /// A server that was opened, named by the call that runs it.
 pub(crate) trait Running: Opening {
@@ -48,7 +48,7 @@ impl<L: Opening> Drop for Whole<L> {
 }
 
 /// A station whose seats are lent to the workers of a crew. What it began with is named by its opening.
-pub(crate) struct StationBench<D: SteadyDisk, V: DraftService, L: Running, J: Keeper> {
+pub(crate) struct StationBench<D: Disk, V: DraftService, L: Running, J: Keeper> {
     pub(crate) station: Station<D, V, L, J>,
     pub(crate) whole: Whole<L>,
     ghost limits: { J.limits station.recorded.journal ≡ L.limits },
@@ -56,7 +56,7 @@ pub(crate) struct StationBench<D: SteadyDisk, V: DraftService, L: Running, J: Ke
     ghost halted: { station.recorded.node.halted ≡ true → L.failed_before < D.faults station.recorded.node.store.disk },
 }
 
-impl<D: SteadyDisk + Send, V: DraftService + Send, L: Running + Send, J: Keeper + Send> Bench
+impl<D: Disk + Send, V: DraftService + Send, L: Running + Send, J: Keeper + Send> Bench
     for StationBench<D, V, L, J> {
     ghost use Rattle.node_server.specs.Causes.{is_seen};
 
@@ -78,7 +78,7 @@ impl<D: SteadyDisk + Send, V: DraftService + Send, L: Running + Send, J: Keeper 
 }
 
 /// Lends a seat to each worker of a crew.
-pub(crate) fn lend<D: SteadyDisk, V: DraftService, L: Opening, J: Keeper>(
+pub(crate) fn lend<D: Disk, V: DraftService, L: Opening, J: Keeper>(
     station: &mut Station<D, V, L, J>,
 ) -> Seats<Seat<L>>
     requires lent { station.old.recorded.shares.lent ≡ 0 }

@@ -11,7 +11,7 @@ ghost use Rattle.node_server.specs.Ends.{Explains, IsQuiet, IsNotForWords, Shows
 use crate::benches::{Running, StationBench, Whole, lend};
 use crate::ends::ServerRun;
 use db_image::DraftService;
-use disk_base::Refused;
+use disk_base::{Disk, Refused};
 use io_base::{Clock, Gate, Net, Spawner};
 use server_crew::{CrewEnd, Outside, run_crew};
 use server_station::{Keeper, Station};
@@ -21,7 +21,7 @@ use std::marker::Brand;
 use std::sync::Wait;
 use std::sync::ledger::Blank;
 use std::thread::Threads;
-use ubik_node::{Node, SteadyDisk, StoreFault};
+use ubik_node::{Node, StoreFault};
 
 /// How a server ended, with its disk and, where it was opened, its run.
 pub(crate) struct Served<D, J> {
@@ -33,7 +33,7 @@ pub(crate) struct Served<D, J> {
 /// Opens a server of one of the databases over its disk, and runs it to its end.
 #[tactic(auto, using(crate::proofs::Explaining::is_up))]
 pub(crate) fn open_and_serve<
-    D: SteadyDisk + Drop + Send,
+    D: Disk + Drop + Send,
     V: DraftService + Send,
     J: Keeper + Send,
     N: Net,
@@ -113,7 +113,7 @@ fn kind_of_end(end: CrewEnd) -> ServerKind
 /// Runs an opened server to its end.
 #[tactic(auto, using(crate::proofs::Showing::shows_unit))]
 fn serve_as<
-    D: SteadyDisk + Drop + Send,
+    D: Disk + Drop + Send,
     V: DraftService + Send,
     L: Running + Send + Sync,
     J: Keeper + Send,

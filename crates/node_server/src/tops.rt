@@ -8,7 +8,7 @@ ghost use Rattle.server_texts.specs.Words.{meaning_of};
 
 use crate::ends::ServerEnd;
 use crate::openings::{Served, open_and_serve};
-use disk_base::Sink;
+use disk_base::{Disk, Sink};
 use io_base::{Clock, Gate, Net, Spawner};
 use pt_protection::PtService;
 use server_crew::Outside;
@@ -17,7 +17,6 @@ use server_texts::{Database, ServerKind, ServerWords, WordsFault, read_words, sa
 use std::alloc::Global;
 use std::sync::Wait;
 use std::thread::Threads;
-use ubik_node::SteadyDisk;
 use vl_database::VlService;
 
 /// How much the journal in memory holds: entries, and bytes.
@@ -32,7 +31,7 @@ const JOURNAL_LIMITS: Limits = Limits {
 /// Statuses: 0 the net has closed by itself, 5 memory ran out, 6 a worker got no thread, 7 the journal is full, 8 the disk failed, 9 the
 /// files are no database, 10 a word does not fit.
 pub fn server_top<
-    D: SteadyDisk + Drop + Send,
+    D: Disk + Drop + Send,
     N: Net,
     C: Clock,
     P: Spawner,
@@ -67,7 +66,7 @@ pub fn server_top<
 
 /// Runs a server as `server_top` does, over an empty journal of any form.
 pub fn server_over<
-    D: SteadyDisk + Drop + Send,
+    D: Disk + Drop + Send,
     J: Keeper + Send,
     N: Net,
     C: Clock,
@@ -113,7 +112,7 @@ pub fn server_over<
 
 /// Reads the words, and runs the server that they name.
 fn read_and_serve<
-    D: SteadyDisk + Drop + Send,
+    D: Disk + Drop + Send,
     J: Keeper + Send,
     N: Net,
     C: Clock,
@@ -156,7 +155,7 @@ fn kind_of_words(fault: WordsFault) -> ServerKind
 
 /// Runs a server of the database that the words name.
 fn serve<
-    D: SteadyDisk + Drop + Send,
+    D: Disk + Drop + Send,
     J: Keeper + Send,
     N: Net,
     C: Clock,

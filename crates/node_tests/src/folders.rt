@@ -5,12 +5,12 @@ ghost use Rattle.disk_base.specs.Mirrored.{mirrored_files, mirrored_may_leave};
 ghost use Rattle.ubik_node.specs.Node.{IsStored};
 
 use crate::servers::{Server, ask, is_announcement, is_answer, opened, step, version};
-use disk_base::{FileDisk, Mirrored, MostBytes, Refused};
+use disk_base::{Disk, FileDisk, Mirrored, MostBytes, Refused};
 use std::alloc::Global;
 use std::process::Abort;
 use std::test::Fail;
 use std::{env, fs, process};
-use ubik_node::{NodeEvent, SteadyDisk, StepEnd};
+use ubik_node::{NodeEvent, StepEnd};
 use ubik_types::{Host, Phase, Version};
 
 /// A cell of one server.
@@ -45,12 +45,7 @@ fn mirrored(rt: &HostRuntime, folder: &str) -> Result<Mirrored<FileDisk>, Fail>
 }
 
 /// The server of a disk once it leads its cell at a moment: it was opened 76 seconds before, and so may vote.
-fn led<D: SteadyDisk + Drop>(
-    rt: &impl Abort,
-    alloc: Global,
-    disk: D,
-    now: u32,
-) -> Result<Server<D>, Fail>
+fn led<D: Disk + Drop>(rt: &impl Abort, alloc: Global, disk: D, now: u32) -> Result<Server<D>, Fail>
     requires settled { IsSettled (D.files disk) (D.may_leave disk) }
     ensures stored { IfOk result (IsStored D.Disk) }
 {
@@ -79,7 +74,7 @@ fn led<D: SteadyDisk + Drop>(
 }
 
 /// The server of a disk answers a call so; whether it announced a change before.
-fn answers<D: SteadyDisk + Drop>(
+fn answers<D: Disk + Drop>(
     rt: &impl Abort,
     alloc: Global,
     disk: D,
@@ -98,7 +93,7 @@ fn answers<D: SteadyDisk + Drop>(
 }
 
 /// The version of the database of a disk.
-fn version_on<D: SteadyDisk + Drop>(
+fn version_on<D: Disk + Drop>(
     rt: &impl Abort,
     alloc: Global,
     disk: D,

@@ -8,11 +8,11 @@ use crate::servers::{
     opened, revived, step, version,
 };
 use crate::writes::reads;
-use disk_base::{MemDisk, StopDisk};
+use disk_base::{Disk, MemDisk, StopDisk};
 use std::alloc::Global;
 use std::process::Abort;
 use std::test::Fail;
-use ubik_node::{Body, NodeEvent, SteadyDisk, StepEnd};
+use ubik_node::{Body, NodeEvent, StepEnd};
 use ubik_types::{Host, Phase, Version, bytes_of};
 
 /// How long the images are that go over.
@@ -110,7 +110,7 @@ fn is_piece(body: &Body, image: &[u8], place: u32) -> bool {
 }
 
 /// A sync site in lease by its own vote, which has polled the second host: that has this version.
-fn polled<D: SteadyDisk + StopDisk + Drop>(
+fn polled<D: StopDisk + Drop>(
     rt: &impl Abort,
     alloc: Global,
     disk: D,
@@ -145,7 +145,7 @@ fn polled<D: SteadyDisk + StopDisk + Drop>(
 }
 
 /// The second host keeps the version, which is announced then, and the image is read.
-fn serves<D: SteadyDisk>(
+fn serves<D: Disk>(
     rt: &impl Abort,
     alloc: Global,
     node: &mut Server<D>,
@@ -165,7 +165,7 @@ fn serves<D: SteadyDisk>(
 }
 
 /// An image is fetched. Before each piece the question gets lost, and is asked again; behind each, it comes once more, to no effect.
-fn is_fetched<D: SteadyDisk + StopDisk + Drop>(
+fn is_fetched<D: StopDisk + Drop>(
     rt: &impl Abort,
     alloc: Global,
     disk: D,
@@ -208,7 +208,7 @@ fn is_fetched<D: SteadyDisk + StopDisk + Drop>(
 
 /// An image is sent. Each piece gets lost once: the first one is sent again at a poll, and another one where the answer to the one before
 /// comes again.
-fn is_sent<D: SteadyDisk + StopDisk + Drop>(
+fn is_sent<D: StopDisk + Drop>(
     rt: &impl Abort,
     alloc: Global,
     disk: D,
@@ -254,7 +254,7 @@ fn is_sent<D: SteadyDisk + StopDisk + Drop>(
 
 /// A piece comes to another server that takes an image: it keeps the version once the last one has come. Another one than the last comes twice:
 /// the first one begins the text anew, and another one does not go on where it ends.
-fn takes_piece<D: SteadyDisk>(
+fn takes_piece<D: Disk>(
     rt: &impl Abort,
     alloc: Global,
     node: &mut Server<D>,
@@ -283,7 +283,7 @@ fn takes_piece<D: SteadyDisk>(
 }
 
 /// An image is taken by another server, piece by piece.
-fn is_taken<D: SteadyDisk + StopDisk + Drop>(
+fn is_taken<D: StopDisk + Drop>(
     rt: &impl Abort,
     alloc: Global,
     disk: D,

@@ -11,9 +11,7 @@ use disk_base::{Disk, DiskEnd, FileNo, Refused, RoomEnd, StopDisk};
 use std::alloc::Global;
 use std::process::Abort;
 use std::test::Fail;
-use ubik_node::{
-    Body, Node, NodeEvent, Output, Outputs, Packet, Reply, SteadyDisk, StepEnd, StoreFault,
-};
+use ubik_node::{Body, Node, NodeEvent, Output, Outputs, Packet, Reply, StepEnd, StoreFault};
 use ubik_types::{Cell, Host, MAX_COUNTER, Version, bytes_of};
 
 pub type Server<D> = Node<D, Appending>;
@@ -61,7 +59,7 @@ pub fn filled<D: Disk + Drop>(
 }
 
 /// Opens a server of a cell of these hosts at a moment.
-pub fn open<D: SteadyDisk + Drop>(
+pub fn open<D: Disk + Drop>(
     rt: &impl Abort,
     alloc: Global,
     place: (&[Host], usize),
@@ -78,7 +76,7 @@ pub fn open<D: SteadyDisk + Drop>(
 }
 
 /// Opens it over a disk on which nothing is amiss.
-pub fn opened<D: SteadyDisk + Drop>(
+pub fn opened<D: Disk + Drop>(
     rt: &impl Abort,
     alloc: Global,
     place: (&[Host], usize),
@@ -95,7 +93,7 @@ pub fn opened<D: SteadyDisk + Drop>(
 }
 
 /// One step, which ends so, and what it put out.
-pub fn step<D: SteadyDisk>(
+pub fn step<D: Disk>(
     rt: &impl Abort,
     alloc: Global,
     node: &mut Server<D>,
@@ -132,7 +130,7 @@ fn is_built(body: &Body) -> bool
 }
 
 /// A packet comes from one host to another, and what the step puts out.
-pub fn comes<D: SteadyDisk>(
+pub fn comes<D: Disk>(
     rt: &impl Abort,
     alloc: Global,
     node: &mut Server<D>,
@@ -156,7 +154,7 @@ pub fn comes<D: SteadyDisk>(
 }
 
 /// Asks, in a step that ends so.
-pub fn ask<D: SteadyDisk>(
+pub fn ask<D: Disk>(
     rt: &impl Abort,
     alloc: Global,
     node: &mut Server<D>,

@@ -6,11 +6,11 @@ use crate::servers::{
     LAID, Said, Server, ask, comes, filled, is_announcement, meaning, only, open, opened, revived,
     step, version, write_database,
 };
-use disk_base::{Fill, MemDisk, StopDisk};
+use disk_base::{Disk, Fill, MemDisk, StopDisk};
 use std::alloc::Global;
 use std::process::Abort;
 use std::test::Fail;
-use ubik_node::{Body, NodeEvent, Output, Reply, SteadyDisk, StepEnd, StoreFault};
+use ubik_node::{Body, NodeEvent, Output, Reply, StepEnd, StoreFault};
 use ubik_types::{Host, Phase, Version};
 
 /// Cells of one server and of three.
@@ -34,7 +34,7 @@ fn a_file_without_a_label_is_refused(rt: HostRuntime) -> Result<(), Fail> {
 }
 
 /// A beacon turn and a recovery turn of a server that is alone, and what they announced.
-fn turns<D: SteadyDisk>(
+fn turns<D: Disk>(
     rt: &impl Abort,
     alloc: Global,
     node: &mut Server<D>,
@@ -68,11 +68,7 @@ fn an_epoch_ahead_of_the_clock_is_waited_for(rt: HostRuntime) -> Result<(), Fail
 }
 
 /// A call of 1,048,600 bytes is refused at 1077, since its changes would have so many bytes.
-fn is_too_large<D: SteadyDisk>(
-    rt: &impl Abort,
-    alloc: Global,
-    node: &mut Server<D>,
-) -> Result<(), Fail>
+fn is_too_large<D: Disk>(rt: &impl Abort, alloc: Global, node: &mut Server<D>) -> Result<(), Fail>
     requires stored { IsStored D.Disk node.old }
     ensures stored { IsStored D.Disk node.new }
 {
@@ -160,11 +156,7 @@ fn changes_that_are_too_large_are_not_sent(rt: HostRuntime) -> Result<(), Fail> 
 }
 
 /// Votes that come to the first of three, which sent its beacon at 1076, and the end of the lease after each.
-fn hears_votes<D: SteadyDisk>(
-    rt: &impl Abort,
-    alloc: Global,
-    node: &mut Server<D>,
-) -> Result<(), Fail>
+fn hears_votes<D: Disk>(rt: &impl Abort, alloc: Global, node: &mut Server<D>) -> Result<(), Fail>
     requires stored { IsStored D.Disk node.old }
     ensures stored { IsStored D.Disk node.new }
 {
@@ -224,11 +216,7 @@ fn a_first_lease_over_odd_votes(rt: HostRuntime) -> Result<(), Fail> {
 
 /// Whether a beacon that the second of three hears gets its vote, and what the server tells then: the host of the sync site that it
 /// heard, and its last yes.
-fn hears_beacons<D: SteadyDisk>(
-    rt: &impl Abort,
-    alloc: Global,
-    node: &mut Server<D>,
-) -> Result<(), Fail>
+fn hears_beacons<D: Disk>(rt: &impl Abort, alloc: Global, node: &mut Server<D>) -> Result<(), Fail>
     requires stored { IsStored D.Disk node.old }
     ensures stored { IsStored D.Disk node.new }
 {
@@ -267,7 +255,7 @@ fn a_server_tells_its_last_yes(rt: HostRuntime) -> Result<(), Fail> {
 }
 
 /// A call at a server whose disk has failed.
-fn halts<D: SteadyDisk>(
+fn halts<D: Disk>(
     rt: &impl Abort,
     alloc: Global,
     node: &mut Server<D>,

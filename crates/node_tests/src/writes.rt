@@ -4,11 +4,11 @@ ghost use Rattle.ubik_node.specs.Node.{IsStored};
 
 use crate::servers::{Server, ask, comes, filled, is_answer, opened, revived};
 use Sent::{Begin, BeginAt, BeginLonger, BeginMany, Commit, GiveUp, Piece, PieceAt, Set, Strange};
-use disk_base::{MemDisk, StopDisk};
+use disk_base::{Disk, MemDisk, StopDisk};
 use std::alloc::Global;
 use std::process::Abort;
 use std::test::Fail;
-use ubik_node::{Body, Output, SteadyDisk, StepEnd};
+use ubik_node::{Body, Output, StepEnd};
 use ubik_types::{Host, Version, bytes_of};
 
 const OLD: Version = Version {
@@ -110,7 +110,7 @@ fn body_of(rt: &impl Abort, alloc: Global, sent: Sent) -> Result<Body, Fail> {
 }
 
 /// The version that the second server says to have once a packet has come; none where it says nothing.
-fn hears<D: SteadyDisk>(
+fn hears<D: Disk>(
     rt: &impl Abort,
     alloc: Global,
     node: &mut Server<D>,
@@ -137,11 +137,7 @@ fn hears<D: SteadyDisk>(
 }
 
 /// The second server, over an empty disk on which the image before the write is laid.
-fn second<D: SteadyDisk + StopDisk + Drop>(
-    rt: &impl Abort,
-    alloc: Global,
-    disk: D,
-) -> Result<Server<D>, Fail>
+fn second<D: StopDisk + Drop>(rt: &impl Abort, alloc: Global, disk: D) -> Result<Server<D>, Fail>
     ensures stored { IfOk result (IsStored D.Disk) }
 {
     let disk = filled(rt, alloc, disk, BEFORE)?;
@@ -150,7 +146,7 @@ fn second<D: SteadyDisk + StopDisk + Drop>(
 }
 
 /// Packets come to a server, of which only the last may be answered. What it answers.
-fn hears_all<D: SteadyDisk>(
+fn hears_all<D: Disk>(
     rt: &impl Abort,
     alloc: Global,
     node: &mut Server<D>,
@@ -167,7 +163,7 @@ fn hears_all<D: SteadyDisk>(
 }
 
 /// What a server reads that knows by a beacon that its version is the one of the sync site.
-pub fn reads<D: SteadyDisk>(
+pub fn reads<D: Disk>(
     rt: &impl Abort,
     alloc: Global,
     node: &mut Server<D>,

@@ -8,10 +8,10 @@ ghost use Rattle.page_file.specs.declared.label.TheConstants.{MAX_DATABASE_LEN};
 ghost use Rattle.server_bench.specs.Answers.{is_answer, answers};
 
 use crate::turns::{Asked, call_of};
-use disk_base::{DiskEnd, FileNo, MemDisk, RoomEnd, StopDisk};
+use disk_base::{Disk, DiskEnd, FileNo, MemDisk, RoomEnd, StopDisk};
 use pt_protection::PtService;
 use std::alloc::Global;
-use ubik_node::{Node, NodeEvent, Output, Outputs, Reply, SteadyDisk, StepEnd};
+use ubik_node::{Node, NodeEvent, Output, Outputs, Reply, StepEnd};
 use ubik_types::{Bytes, Cell, Host, NoMemory};
 
 /// The moment of the opening, in seconds.
@@ -49,7 +49,7 @@ pub fn filled<D: StopDisk + Drop>(disk: D, file: &[u8]) -> Option<D>
 }
 
 /// One step of a server at the moment of all steps, and what it put out; none where it was not made.
-pub fn step<D: SteadyDisk>(
+pub fn step<D: Disk>(
     alloc: Global,
     node: &mut Server<D>,
     event: NodeEvent,
@@ -68,7 +68,7 @@ pub fn step<D: SteadyDisk>(
 }
 
 /// A server alone in its cell over a disk, after a beacon turn and a recovery turn; none where one of them was not made.
-fn started<D: SteadyDisk + Drop>(alloc: Global, disk: D) -> Result<Option<Server<D>>, NoMemory>
+fn started<D: Disk + Drop>(alloc: Global, disk: D) -> Result<Option<Server<D>>, NoMemory>
     requires settled { IsSettled (D.files disk) (D.may_leave disk) }
     ensures stored { IfOk result (λ started. IfSome started (IsStored D.Disk)) }
 {
@@ -116,7 +116,7 @@ fn answers(out: &mut Outputs) -> bool
 }
 
 /// A call at a server that is alone, and what it put out; none where the step was not made.
-fn ask<D: SteadyDisk>(
+fn ask<D: Disk>(
     alloc: Global,
     node: &mut Server<D>,
     id: u32,
@@ -129,7 +129,7 @@ fn ask<D: SteadyDisk>(
 }
 
 /// Asks so many calls, one after the other, and says how many of them were answered.
-fn asked_often<D: SteadyDisk>(
+fn asked_often<D: Disk>(
     alloc: Global,
     node: &mut Server<D>,
     asked: Asked,

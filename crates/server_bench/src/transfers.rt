@@ -7,10 +7,10 @@ ghost use Rattle.ubik_node.specs.Node.{IsStored};
 ghost use Rattle.ubik_types.specs.Version.{IsVersion};
 
 use crate::node_calls::{OPENED, Server, filled, step};
-use disk_base::MemDisk;
+use disk_base::{Disk, MemDisk};
 use std::alloc::Global;
 use std::collections::VecDeque;
-use ubik_node::{Body, Node, NodeEvent, Output, Outputs, Packet, SteadyDisk};
+use ubik_node::{Body, Node, NodeEvent, Output, Outputs, Packet};
 use ubik_types::{Cell, Host, MAX_COUNTER, NoMemory, Phase, Version};
 
 /// More packets than the longest image takes: a piece has 8,192 bytes, and each has its answer.
@@ -18,14 +18,14 @@ const MOST_PACKETS: u32 = 10_000;
 
 /// Two servers of a cell, hosts 1 and 2, and the packets on the way between them.
 #[derive(Drop)]
-struct Pair<D: SteadyDisk> {
+struct Pair<D: Disk> {
     first: Server<D>,
     second: Server<D>,
     way: VecDeque<Packet>,
 }
 
 /// A server of a cell of two, of which it is one; none where its disk was refused.
-fn one_of_two<D: SteadyDisk + Drop>(
+fn one_of_two<D: Disk + Drop>(
     alloc: Global,
     disk: D,
     me: usize,
@@ -71,11 +71,7 @@ fn send(way: &mut VecDeque<Packet>, out: Outputs) -> Result<(), NoMemory> {
 }
 
 /// A turn of the first server; whether it was made.
-fn turn<D: SteadyDisk>(
-    alloc: Global,
-    pair: &mut Pair<D>,
-    event: NodeEvent,
-) -> Result<bool, NoMemory>
+fn turn<D: Disk>(alloc: Global, pair: &mut Pair<D>, event: NodeEvent) -> Result<bool, NoMemory>
     requires built { IsBuilt event }
     requires first { IsStored D.Disk pair.old.first }
     requires second { IsStored D.Disk pair.old.second }
@@ -90,7 +86,7 @@ fn turn<D: SteadyDisk>(
 }
 
 /// What a packet has its host put out; none where it is not taken.
-fn heard<D: SteadyDisk>(
+fn heard<D: Disk>(
     alloc: Global,
     pair: &mut Pair<D>,
     packet: Packet,
@@ -111,11 +107,7 @@ fn heard<D: SteadyDisk>(
 }
 
 /// A packet comes to its host, and what that sends is on the way. Whether it was taken.
-fn arrives<D: SteadyDisk>(
-    alloc: Global,
-    pair: &mut Pair<D>,
-    packet: Packet,
-) -> Result<bool, NoMemory>
+fn arrives<D: Disk>(alloc: Global, pair: &mut Pair<D>, packet: Packet) -> Result<bool, NoMemory>
     requires first { IsStored D.Disk pair.old.first }
     requires second { IsStored D.Disk pair.old.second }
     ensures first { IsStored D.Disk pair.new.first }
@@ -129,7 +121,7 @@ fn arrives<D: SteadyDisk>(
 }
 
 /// All packets come, each before those that it brings about; whether each was taken.
-fn all_come<D: SteadyDisk>(alloc: Global, pair: &mut Pair<D>) -> Result<bool, NoMemory>
+fn all_come<D: Disk>(alloc: Global, pair: &mut Pair<D>) -> Result<bool, NoMemory>
     requires first { IsStored D.Disk pair.old.first }
     requires second { IsStored D.Disk pair.old.second }
     ensures first { IsStored D.Disk pair.new.first }
@@ -148,7 +140,7 @@ fn all_come<D: SteadyDisk>(alloc: Global, pair: &mut Pair<D>) -> Result<bool, No
 
 /// Opens two servers over these disks. If it is to, the first one is elected, and sends its database to the second: whether both have
 /// it then under one version.
-fn goes_over<D: SteadyDisk + Drop>(
+fn goes_over<D: Disk + Drop>(
     alloc: Global,
     full: D,
     empty: D,

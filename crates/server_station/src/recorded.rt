@@ -9,9 +9,10 @@ ghost use Rattle.server_station.specs.Lone.{IsSeamless-prop, IsWithinImage-prop}
 
 use crate::shorts::shorts_in;
 use db_image::DraftService;
+use disk_base::Disk;
 use server_journal::{Full, JournalItem, Keeper, Opening, Seat, Shares};
 use std::sync::ledger::Blank;
-use ubik_node::{Node, NodeEvent, Outputs, SteadyDisk, StepEnd};
+use ubik_node::{Node, NodeEvent, Outputs, StepEnd};
 
 /// How a step of a station ended.
 #[derive(Clone, Copy, Debug, PartialEq, Eq)]
@@ -37,7 +38,7 @@ fn refused(full: Full) -> StationEnd
 }
 
 /// A node with the journal of its steps, which are counted over those who made them.
-pub(crate) struct Recorded<D: SteadyDisk, V: DraftService, L: Opening, J: Keeper> {
+pub(crate) struct Recorded<D: Disk, V: DraftService, L: Opening, J: Keeper> {
     pub(crate) node: Node<D, V>,
     pub(crate) journal: J,
     pub(crate) shares: Shares<L>,
@@ -48,7 +49,7 @@ pub(crate) struct Recorded<D: SteadyDisk, V: DraftService, L: Opening, J: Keeper
 }
 
 // Derived, it would be spelled out for each field wherever a caller lets one go.
-impl<D: SteadyDisk + Drop, V: DraftService, L: Opening, J: Keeper> Drop for Recorded<D, V, L, J> {
+impl<D: Disk + Drop, V: DraftService, L: Opening, J: Keeper> Drop for Recorded<D, V, L, J> {
     fn drop(self) {
         let Self {
             node: _,
@@ -58,7 +59,7 @@ impl<D: SteadyDisk + Drop, V: DraftService, L: Opening, J: Keeper> Drop for Reco
     }
 }
 
-impl<D: SteadyDisk, V: DraftService, L: Opening, J: Keeper> Recorded<D, V, L, J> {
+impl<D: Disk, V: DraftService, L: Opening, J: Keeper> Recorded<D, V, L, J> {
     ghost use Rattle.server_station.specs.Recording.{Records};
 
     /// The moment of a step that is to be made at `now`: time does not go back.

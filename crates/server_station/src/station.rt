@@ -8,15 +8,15 @@ ghost use Rattle.server_station.specs.Fit.{IsFit, IsNext};
 use crate::askers::Askers;
 use crate::recorded::{Recorded, StationEnd};
 use db_image::DraftService;
-use disk_base::Refused;
+use disk_base::{Disk, Refused};
 use server_journal::{Keeper, Opening, Seat, Shares};
 use std::alloc::Global;
 use std::sync::ledger::Blank;
-use ubik_node::{DebugIs, Node, NodeEvent, Outputs, SteadyDisk};
+use ubik_node::{DebugIs, Node, NodeEvent, Outputs};
 use ubik_types::NoMemory;
 
 /// A server that all workers share: its node, the journal of the node's steps, and the clients that wait for a reply.
-pub struct Station<D: SteadyDisk, V: DraftService, L: Opening, J: Keeper> {
+pub struct Station<D: Disk, V: DraftService, L: Opening, J: Keeper> {
     pub(crate) alloc: Global,
     pub(crate) recorded: Recorded<D, V, L, J>,
     pub(crate) askers: Askers,
@@ -25,7 +25,7 @@ pub struct Station<D: SteadyDisk, V: DraftService, L: Opening, J: Keeper> {
     ghost sent: { outputs ≡ [] },
 }
 
-impl<D: SteadyDisk + Drop, V: DraftService, L: Opening, J: Keeper> Drop for Station<D, V, L, J> {
+impl<D: Disk + Drop, V: DraftService, L: Opening, J: Keeper> Drop for Station<D, V, L, J> {
     fn drop(self) {
         let Self {
             alloc: _,
@@ -36,7 +36,7 @@ impl<D: SteadyDisk + Drop, V: DraftService, L: Opening, J: Keeper> Drop for Stat
     }
 }
 
-impl<D: SteadyDisk, V: DraftService, L: Opening, J: Keeper> Station<D, V, L, J> {
+impl<D: Disk, V: DraftService, L: Opening, J: Keeper> Station<D, V, L, J> {
     ghost use Rattle.cell_model.specs.Node.{halted_from};
     ghost use Rattle.ubik_node.specs.Debug.{debug_of};
     ghost use Rattle.ubik_node.specs.Node.{IsStored, own_member, up_server};

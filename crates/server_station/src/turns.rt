@@ -10,12 +10,13 @@ use crate::askers::Asker;
 use crate::recorded::StationEnd;
 use crate::spelling::send_all;
 use db_image::DraftService;
+use disk_base::Disk;
 use server_journal::{Keeper, Opening, Seat};
 use server_rounds::{Sending, Sendings, Turn, TurnEnd};
 use ubik_calls::{Frame, FrameFault, decode, encode};
-use ubik_node::{NodeEvent, SteadyDisk};
+use ubik_node::NodeEvent;
 
-impl<D: SteadyDisk, V: DraftService, L: Opening, J: Keeper> Station<D, V, L, J> {
+impl<D: Disk, V: DraftService, L: Opening, J: Keeper> Station<D, V, L, J> {
     ghost use Rattle.ubik_calls.specs.Reading.{frame_of};
     ghost use Rattle.ubik_node.specs.Node.{own_member};
     ghost use Rattle.server_journal.specs.Counts.{asks_of};

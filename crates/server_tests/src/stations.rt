@@ -3,14 +3,14 @@ ghost use Rattle.std.specs.Prelude.{◌≡◌, [], IfOk};
 ghost use Rattle.disk_base.specs.Crash.{IsSettled};
 
 use db_image::DraftService;
-use disk_base::{MemDisk, StopDisk};
+use disk_base::{Disk, MemDisk, StopDisk};
 use pt_protection::PtService;
 use server_station::{Keeper, Opening, Station};
 use std::alloc::Global;
 use std::process::Abort;
 use std::sync::ledger::Blank;
 use std::test::Fail;
-use ubik_node::{Node, SteadyDisk};
+use ubik_node::Node;
 use ubik_types::{Bytes, Cell, Host};
 
 /// The moment at which each station is opened, in seconds.
@@ -45,7 +45,7 @@ pub fn opened<L: Opening, J: Keeper>(
 }
 
 /// A station over a disk on which nothing is pending.
-fn opened_over<D: SteadyDisk + Drop, V: DraftService, L: Opening, J: Keeper>(
+fn opened_over<D: Disk + Drop, V: DraftService, L: Opening, J: Keeper>(
     rt: &impl Abort,
     alloc: Global,
     disk: D,

@@ -4,6 +4,7 @@ ghost use Rattle.ubik_types.specs.Moment.{IsMoment};
 
 use crate::stations::{bytes_in, opened};
 use db_image::DraftService;
+use disk_base::Disk;
 use server_rounds::{Sending, Sendings, Turn, TurnEnd};
 use server_station::{GhostJournal, Journal, Keeper, Limits, Opening, Seat, Station};
 use std::alloc::Global;
@@ -11,7 +12,6 @@ use std::marker::Brand;
 use std::process::Abort;
 use std::sync::ledger::Blank;
 use std::test::Fail;
-use ubik_node::SteadyDisk;
 
 /// A frame that comes from peer 5 at 1076, as words; what goes back to that peer, if anything; and how many items the journal then has.
 struct Row {
@@ -60,7 +60,7 @@ const ROWS: [Row; 6] = [
 ];
 
 /// A row, at a station that was just opened.
-fn answers<D: SteadyDisk + Drop, V: DraftService, L: Opening, J: Keeper>(
+fn answers<D: Disk + Drop, V: DraftService, L: Opening, J: Keeper>(
     rt: &impl Abort,
     alloc: Global,
     mut station: Station<D, V, L, J>,
@@ -133,7 +133,7 @@ fn frames_are_answered(rt: HostRuntime) -> Result<(), Fail> {
 const LIMITS: [(u64, u64, u64, u64); 2] = [(2, 1000, 3, 96), (10, 64, 3, 96)];
 
 /// A beacon turn, which leaves nothing to be sent.
-fn turn_ends<D: SteadyDisk, V: DraftService, L: Opening, J: Keeper>(
+fn turn_ends<D: Disk, V: DraftService, L: Opening, J: Keeper>(
     rt: &impl Abort,
     station: &mut Station<D, V, L, J>,
     seat: &mut Seat<L>,
@@ -152,7 +152,7 @@ fn turn_ends<D: SteadyDisk, V: DraftService, L: Opening, J: Keeper>(
 }
 
 /// Two turns are made at a station that was just opened, and the third is refused. Its journal.
-fn third_ends_so<D: SteadyDisk + Drop, V: DraftService, L: Opening, J: Keeper>(
+fn third_ends_so<D: Disk + Drop, V: DraftService, L: Opening, J: Keeper>(
     rt: &impl Abort,
     alloc: Global,
     mut station: Station<D, V, L, J>,

@@ -9,13 +9,12 @@ use crate::servers::{Server, Servers};
 use crate::wires::Wire;
 use cell_script::{Kind, Line, line_meaning};
 use db_image::DraftWords;
-use disk_base::{MemDisk, StopDisk};
+use disk_base::{Disk, MemDisk, StopDisk};
 use pt_protection::PtService;
 use server_station::Opening;
 use std::alloc::Global;
 use std::marker::Brand;
 use std::sync::ledger::Blank;
-use ubik_node::SteadyDisk;
 use ubik_types::MAX_MOMENT;
 use vl_database::VlService;
 
@@ -86,7 +85,7 @@ fn run_as<V: DraftWords, A: Opening, B: Opening, C: Opening>(
 }
 
 /// Opens the server at a place of the cell over a disk that is opened anew, so that nothing is pending on it.
-fn open<D: SteadyDisk + StopDisk + Drop, V: DraftWords, L: Opening>(
+fn open<D: StopDisk + Drop, V: DraftWords, L: Opening>(
     alloc: Global,
     blank: Blank,
     me: usize,
@@ -103,7 +102,7 @@ fn open<D: SteadyDisk + StopDisk + Drop, V: DraftWords, L: Opening>(
 }
 
 /// Runs the lines of a script; what was seen.
-fn run_lines<D: SteadyDisk + Drop, V: DraftWords, A: Opening, B: Opening, C: Opening>(
+fn run_lines<D: Disk + Drop, V: DraftWords, A: Opening, B: Opening, C: Opening>(
     alloc: Global,
     mut cell: Cell<D, V, A, B, C>,
     lines: &[u8],

@@ -6,9 +6,9 @@ use crate::servers::Servers;
 use crate::wires::{Landed, Wire};
 use cell_script::{Line, Words};
 use db_image::DraftWords;
+use disk_base::Disk;
 use server_rounds::{Sendings, Turn, TurnEnd};
 use server_station::Opening;
-use ubik_node::SteadyDisk;
 
 /// The most packets that one line hands over.
 const MOST_PACKETS: u32 = 100_000;
@@ -24,12 +24,12 @@ fn place_of(server: u64) -> Result<u32, Fault> {
 }
 
 /// A cell of three, whose servers are named in the type, with what lies between them.
-pub struct Cell<D: SteadyDisk, V: DraftWords, A: Opening, B: Opening, C: Opening> {
+pub struct Cell<D: Disk, V: DraftWords, A: Opening, B: Opening, C: Opening> {
     pub servers: Servers<D, V, A, B, C>,
     pub wire: Wire,
 }
 
-impl<D: SteadyDisk + Drop, V: DraftWords, A: Opening, B: Opening, C: Opening> Drop
+impl<D: Disk + Drop, V: DraftWords, A: Opening, B: Opening, C: Opening> Drop
     for Cell<D, V, A, B, C> {
     fn drop(self) {
         let Self {
@@ -39,7 +39,7 @@ impl<D: SteadyDisk + Drop, V: DraftWords, A: Opening, B: Opening, C: Opening> Dr
     }
 }
 
-impl<D: SteadyDisk + Drop, V: DraftWords, A: Opening, B: Opening, C: Opening> Cell<D, V, A, B, C> {
+impl<D: Disk + Drop, V: DraftWords, A: Opening, B: Opening, C: Opening> Cell<D, V, A, B, C> {
     /// Runs a line of a script.
     pub fn run(&mut self, line: Line) -> Result<(), Fault>
         requires { (A.all ≡ A.parts) × (B.all ≡ B.parts) × (C.all ≡ C.parts) }

@@ -5,18 +5,19 @@ ghost use Rattle.disk_base.specs.Crash.{IsSettled};
 
 use crate::faults::Fault;
 use db_image::DraftService;
+use disk_base::Disk;
 use server_rounds::{Sendings, Turn, TurnEnd};
 use server_station::{GhostJournal, Opening, Seat, Station};
 use std::alloc::Global;
 use std::sync::ledger::Blank;
-use ubik_node::{Node, SteadyDisk};
+use ubik_node::Node;
 use ubik_types::{Cell, Host, MAX_MOMENT};
 
 /// The hosts of the three servers.
 pub const HOSTS: [Host; 3] = [Host(167_772_161), Host(167_772_162), Host(167_772_163)];
 
 /// A server with its clock, in seconds, and the seat from which its turns are made.
-pub struct Server<D: SteadyDisk, V: DraftService, L: Opening> {
+pub struct Server<D: Disk, V: DraftService, L: Opening> {
     station: Station<D, V, L, GhostJournal>,
     seat: Seat<L>,
     clock: u32,
@@ -24,7 +25,7 @@ pub struct Server<D: SteadyDisk, V: DraftService, L: Opening> {
     ghost moment: { clock < 2 ^ 31 },
 }
 
-impl<D: SteadyDisk + Drop, V: DraftService, L: Opening> Drop for Server<D, V, L> {
+impl<D: Disk + Drop, V: DraftService, L: Opening> Drop for Server<D, V, L> {
     fn drop(self) {
         let Self {
             station: _,
@@ -34,7 +35,7 @@ impl<D: SteadyDisk + Drop, V: DraftService, L: Opening> Drop for Server<D, V, L>
     }
 }
 
-impl<D: SteadyDisk + Drop, V: DraftService, L: Opening> Server<D, V, L> {
+impl<D: Disk + Drop, V: DraftService, L: Opening> Server<D, V, L> {
     /// Opens the server at a place of the cell, over a disk on which nothing is pending.
     pub fn open(
         alloc: Global,
@@ -94,13 +95,13 @@ impl<D: SteadyDisk + Drop, V: DraftService, L: Opening> Server<D, V, L> {
 }
 
 /// The three servers.
-pub struct Servers<D: SteadyDisk, V: DraftService, A: Opening, B: Opening, C: Opening> {
+pub struct Servers<D: Disk, V: DraftService, A: Opening, B: Opening, C: Opening> {
     pub first: Server<D, V, A>,
     pub second: Server<D, V, B>,
     pub third: Server<D, V, C>,
 }
 
-impl<D: SteadyDisk + Drop, V: DraftService, A: Opening, B: Opening, C: Opening> Drop
+impl<D: Disk + Drop, V: DraftService, A: Opening, B: Opening, C: Opening> Drop
     for Servers<D, V, A, B, C> {
     fn drop(self) {
         let Self {
@@ -111,13 +112,7 @@ impl<D: SteadyDisk + Drop, V: DraftService, A: Opening, B: Opening, C: Opening> 
     }
 }
 
-impl<D: SteadyDisk + Drop, V: DraftService, A: Opening, B: Opening, C: Opening> Servers<
-    D,
-    V,
-    A,
-    B,
-    C,
-> {
+impl<D: Disk + Drop, V: DraftService, A: Opening, B: Opening, C: Opening> Servers<D, V, A, B, C> {
     /// Makes a turn of the server at a place, 0 to 2.
     pub fn turn(&mut self, place: u32, turn: Turn, out: &mut Sendings) -> TurnEnd
         requires all { (A.all ≡ A.parts) × (B.all ≡ B.parts) × (C.all ≡ C.parts) }

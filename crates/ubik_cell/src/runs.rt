@@ -19,20 +19,19 @@ use disk_base::StopDisk;
 use pt_protection::PtService;
 use std::alloc::Global;
 use std::mem::replace;
-use ubik_node::SteadyDisk;
 use ubik_types::NoMemory;
 use vl_database::VlService;
 
 /// A run over the database that its cell keeps. Before a cell stands it is over either of them.
 #[derive(Drop)]
-pub enum ScriptRun<D: SteadyDisk + StopDisk> {
+pub enum ScriptRun<D: StopDisk> {
     /// Over the protection database.
     Protection(CellRun<D, PtService>),
     /// Over the location database.
     Location(CellRun<D, VlService>),
 }
 
-impl<D: SteadyDisk + StopDisk> ScriptRun<D> {
+impl<D: StopDisk> ScriptRun<D> {
     /// A run before its first line. It takes the disks out of their list, disk i for server i + 1.
     pub fn new(alloc: Global, disks: &mut Vec<D>) -> Result<ScriptRun<D>, NoMemory>
         requires twenty { vec_len disks.old ≡ MAXSERVERS }

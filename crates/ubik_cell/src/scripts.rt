@@ -30,7 +30,6 @@ use db_image::DraftWords;
 use disk_base::StopDisk;
 use std::alloc::Global;
 use std::mem::replace;
-use ubik_node::SteadyDisk;
 use ubik_types::NoMemory;
 
 /// Why a script goes no further.
@@ -44,7 +43,7 @@ pub enum RunEnd {
 
 /// What the lines of a script so far left: a cell, once one is opened.
 #[derive(Drop)]
-pub struct CellRun<D: SteadyDisk + StopDisk, V: DraftWords> {
+pub struct CellRun<D: StopDisk, V: DraftWords> {
     alloc: Global,
     lines: u32,
     asks: u32,
@@ -52,7 +51,7 @@ pub struct CellRun<D: SteadyDisk + StopDisk, V: DraftWords> {
     spare: Vec<D>,
 }
 
-impl<D: SteadyDisk + StopDisk, V: DraftWords> CellRun<D, V> {
+impl<D: StopDisk, V: DraftWords> CellRun<D, V> {
     /// A run before its first line. It takes the disks out of their list, disk i for server i + 1.
     pub fn new(alloc: Global, disks: &mut Vec<D>) -> Result<CellRun<D, V>, NoMemory>
         requires twenty { vec_len disks.old ≡ MAXSERVERS }
@@ -311,7 +310,7 @@ impl<D: SteadyDisk + StopDisk, V: DraftWords> CellRun<D, V> {
 }
 
 /// Opens the servers of a cell over these disks, one after the other. Each disk has its place in the cell also where memory ran out.
-fn open_servers<D: SteadyDisk + StopDisk, V: DraftWords>(
+fn open_servers<D: StopDisk, V: DraftWords>(
     cell: &mut OpenCell<D, V>,
     spare: &mut Vec<D>,
     servers: u32,
@@ -345,7 +344,7 @@ fn open_servers<D: SteadyDisk + StopDisk, V: DraftWords>(
 }
 
 /// A line in a cell that stands, but for an ask.
-fn run_in_cell<D: SteadyDisk + StopDisk, V: DraftWords>(
+fn run_in_cell<D: StopDisk, V: DraftWords>(
     cell: &mut OpenCell<D, V>,
     line: &Line,
     text: &mut String,

@@ -27,7 +27,6 @@ use script_laws::{
 };
 use script_promises::{law_scripts_keep_promises, law_words_are_calls};
 use std::alloc::Global;
-use ubik_node::SteadyDisk;
 
 /// How a script ends that ends at this line.
 fn kind_at(line: u32, ending: Ending) -> CellKind
@@ -66,7 +65,7 @@ fn write_line<K: Sink>(
 }
 
 /// Reads one line of the script, and runs and tells it. None: the script goes on.
-fn turn<S: Source, K: Sink, D: SteadyDisk + StopDisk>(
+fn turn<S: Source, K: Sink, D: StopDisk>(
     reader: &mut LineReader,
     input: &mut S,
     out: &mut K,
@@ -110,7 +109,7 @@ fn turn<S: Source, K: Sink, D: SteadyDisk + StopDisk>(
 }
 
 /// Runs a script to its end, over the disks.
-fn run_script<S: Source, K: Sink, D: SteadyDisk + StopDisk>(
+fn run_script<S: Source, K: Sink, D: StopDisk>(
     alloc: Global,
     input: &mut S,
     out: &mut K,
@@ -147,7 +146,7 @@ fn run_script<S: Source, K: Sink, D: SteadyDisk + StopDisk>(
 /// Runs the script that the source gives, one line after the other, and writes its exact trace. It takes no
 /// words: where one is given, nothing is read or written. There are 20 disks; disk i is that of server i + 1, and
 /// each stands in its place at every end, with nothing pending on it.
-pub fn cell_top<S: Source, K: Sink, D: SteadyDisk + StopDisk>(
+pub fn cell_top<S: Source, K: Sink, D: StopDisk>(
     alloc: Global,
     words: &[String],
     input: &mut S,

@@ -7,7 +7,6 @@ pub mod Disk
 pub mod Evaluation
 pub mod Node
 pub mod Serving
-pub mod Steady
 pub mod StoreImages
 pub mod Taking
 pub mod Unanswered

@@ -12,15 +12,15 @@ ghost use Rattle.ubik_node.specs.Built.{BodyTakesNoMemory, IsBuiltBody};
 
 use crate::nodes::Node;
 use crate::pieces::read_piece;
-use crate::steady_disks::SteadyDisk;
 use db_image::DraftService;
+use disk_base::Disk;
 use server_rules::{Act, packet_heard, recovery_turn};
 use server_state::{Outputs, State};
 use ubik_calls::Body;
 use ubik_store::StoreFault;
 use ubik_types::{Bytes, Host};
 
-impl<D: SteadyDisk, V: DraftService> Node<D, V> {
+impl<D: Disk, V: DraftService> Node<D, V> {
     ghost use Rattle.ubik_node.specs.Node.{Ends, EndsSo, held, IsMeantIn, IsStored, Knows, NeedsFiles, own_member, up_server};
 
     /// A packet of a server of the cell: what is to be done is decided, and then done.

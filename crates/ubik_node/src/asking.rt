@@ -14,16 +14,16 @@ use crate::database::commit_all;
 use crate::evaluations::{Evaluation, evaluate, evaluate_before};
 use crate::nodes::Node;
 use crate::serving::{Turn, reply_of, turn_of};
-use crate::steady_disks::SteadyDisk;
 use crate::verdicts::{Verdict, verdict_of};
 use cell_model::Output;
 use db_image::DraftService;
+use disk_base::Disk;
 use server_state::{HeldImage, Outputs};
 use ubik_calls::Reply;
 use ubik_store::StoreFault;
 use ubik_types::{Bytes, Changes, Version};
 
-impl<D: SteadyDisk, V: DraftService> Node<D, V> {
+impl<D: Disk, V: DraftService> Node<D, V> {
     ghost use Rattle.cell_model.specs.Asks.{asked};
     ghost use Rattle.cell_model.specs.Step.{is_short};
     ghost use Rattle.cell_model.specs.Writes.{announced_image, is_free, next_version, write_turn, written_in};

@@ -8,9 +8,9 @@ ghost use Rattle.ubik_store.specs.DurableCall.{HasFailed};
 ghost use Rattle.ubik_store.specs.Store.{IsSound, StaysAsItWas, image_in};
 ghost use Rattle.ubik_node.specs.Evaluation.{IsMadeOf, IsShortReply};
 
-use crate::steady_disks::SteadyDisk;
 use crate::store_images::StoreImage;
 use db_image::{CallEnd, CallReply, DraftService, ImageRead};
+use disk_base::Disk;
 use std::alloc::Global;
 use ubik_store::{Store, StoreFault};
 use ubik_types::{Changes, NoMemory};
@@ -59,7 +59,7 @@ fn evaluate_over<I: ImageRead, V: DraftService>(
 }
 
 /// Makes a call at a moment over the image of a store. A read that fails is a fault of the disk, whatever the database makes of it.
-pub fn evaluate<D: SteadyDisk, V: DraftService>(
+pub fn evaluate<D: Disk, V: DraftService>(
     alloc: Global,
     store: &mut Store<D>,
     now: u32,
@@ -93,7 +93,7 @@ pub fn evaluate<D: SteadyDisk, V: DraftService>(
 }
 
 /// Makes a call at a moment over the image before the write in flight. Else as `evaluate`.
-pub fn evaluate_before<D: SteadyDisk, V: DraftService>(
+pub fn evaluate_before<D: Disk, V: DraftService>(
     alloc: Global,
     store: &mut Store<D>,
     flight: &Flight,

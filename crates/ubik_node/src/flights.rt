@@ -13,9 +13,9 @@ ghost use Rattle.server_state.specs.Writing.{own_of, waiting_of};
 
 use crate::database::commit_all;
 use crate::nodes::Node;
-use crate::steady_disks::SteadyDisk;
 use crate::store_images::StoreImage;
 use db_image::DraftService;
+use disk_base::Disk;
 use server_state::{HeldImage, Outputs, own_write};
 use std::alloc::Global;
 use ubik_store::{Store, StoreFault};
@@ -23,7 +23,7 @@ use ubik_types::{Bytes, Changes, MAXSERVERS, Marks, NoMemory, Version};
 use ubik_write::{Flight, FlightFault, text_len};
 
 /// The flight of changes that are to be made to the image of a store, of which it reads what they overwrite.
-pub fn flight_over<D: SteadyDisk>(
+pub fn flight_over<D: Disk>(
     alloc: Global,
     store: &mut Store<D>,
     id: u32,
@@ -62,7 +62,7 @@ pub fn flight_over<D: SteadyDisk>(
     }
 }
 
-impl<D: SteadyDisk, V: DraftService> Node<D, V> {
+impl<D: Disk, V: DraftService> Node<D, V> {
     ghost use Rattle.cell_model.specs.Writes.{written_in};
     ghost use Rattle.ubik_node.specs.Node.{Ends, held, IsStored, own_member, up_server};
     ghost use Rattle.ubik_node.specs.Verdict.{IsWritten};

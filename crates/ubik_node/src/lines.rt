@@ -4,12 +4,12 @@ ghost use Rattle.cell_model.specs.Writes.{is_free, next_turns, settled_with_turn
 ghost use Rattle.server_state.specs.Writing.{waiting_of};
 
 use crate::nodes::Node;
-use crate::steady_disks::SteadyDisk;
 use db_image::DraftService;
+use disk_base::Disk;
 use server_state::Outputs;
 use ubik_store::StoreFault;
 
-impl<D: SteadyDisk, V: DraftService> Node<D, V> {
+impl<D: Disk, V: DraftService> Node<D, V> {
     ghost use Rattle.ubik_node.specs.Node.{EndsSo, held, IsMeantIn, IsStored, own_member, up_server};
 
     /// Holders have come: a write that a majority has is over, and those that wait have their turns.

@@ -14,10 +14,9 @@ ghost use Rattle.ubik_node.specs.Built.{BodyTakesNoMemory, IsBuilt, IsBuiltBody,
 ghost use Rattle.server_state.specs.Recovering.{IsOfCell};
 
 use crate::asking::put_reply;
-use crate::steady_disks::SteadyDisk;
 use cell_model::NodeEvent;
 use db_image::DraftService;
-use disk_base::{Fill, Refused, StopDisk};
+use disk_base::{Disk, Fill, Refused, StopDisk};
 use server_state::{Dropped, Heard, HeldImage, Outputs, State};
 use std::alloc::Global;
 use std::marker::PhantomData;
@@ -40,7 +39,7 @@ pub enum StepEnd {
 }
 
 /// A server that is up, over the store of its disk, and the database that it serves.
-pub struct Node<D: SteadyDisk, V: DraftService> {
+pub struct Node<D: Disk, V: DraftService> {
     pub(crate) alloc: Global,
     pub(crate) store: Store<D>,
     pub(crate) state: State,
@@ -50,7 +49,7 @@ pub struct Node<D: SteadyDisk, V: DraftService> {
 }
 
 // Derived, it would be spelled out for each field wherever a caller lets a server go, and proved there.
-impl<D: SteadyDisk + Drop, V: DraftService> Drop for Node<D, V> {
+impl<D: Disk + Drop, V: DraftService> Drop for Node<D, V> {
     fn drop(self) {
         let Self {
             alloc: _,
@@ -63,7 +62,7 @@ impl<D: SteadyDisk + Drop, V: DraftService> Drop for Node<D, V> {
     }
 }
 
-impl<D: SteadyDisk, V: DraftService> Node<D, V> {
+impl<D: Disk, V: DraftService> Node<D, V> {
     ghost use Rattle.ubik_node.specs.Debug.{debug_of, host_or_none};
     ghost use Rattle.ubik_types.specs.Phase.{phase_of};
     ghost use Rattle.ubik_types.specs.Lease.{lease_end};
@@ -374,7 +373,7 @@ impl<D: SteadyDisk, V: DraftService> Node<D, V> {
     }
 }
 
-impl<D: SteadyDisk + StopDisk, V: DraftService> Node<D, V> {
+impl<D: StopDisk, V: DraftService> Node<D, V> {
     ghost use Rattle.ubik_node.specs.Disk.{IsArmed, IsRevived};
     ghost use Rattle.ubik_node.specs.Node.{IsStored};
 

@@ -14,8 +14,8 @@ ghost use Rattle.server_state.specs.Recovering.{IsServing};
 
 use crate::database::commit_all;
 use crate::nodes::Node;
-use crate::steady_disks::SteadyDisk;
 use db_image::DraftService;
+use disk_base::Disk;
 use server_rules::TextEnd;
 use server_state::{HeldImage, Outputs};
 use ubik_calls::Body;
@@ -23,7 +23,7 @@ use ubik_recovery::{Recovery, TextSource};
 use ubik_store::StoreFault;
 use ubik_types::{Changes, Host, NoMemory, Version};
 
-impl<D: SteadyDisk, V: DraftService> Node<D, V> {
+impl<D: Disk, V: DraftService> Node<D, V> {
     ghost use Rattle.ubik_node.specs.Node.{Ends, held, IsStored, own_member, up_server};
 
     /// The database gets another version, and a host is told so.

@@ -12,15 +12,15 @@ ghost use Rattle.server_state.specs.Recovering.{IsOfCell};
 
 use crate::nodes::Node;
 use crate::pieces::first_piece;
-use crate::steady_disks::SteadyDisk;
 use db_image::DraftService;
+use disk_base::Disk;
 use server_state::{Given, HeldImage, Outputs};
 use ubik_calls::MAX_PIECE;
 use ubik_recovery::Recovery;
 use ubik_store::StoreFault;
 use ubik_types::{Version, bytes_of};
 
-impl<D: SteadyDisk, V: DraftService> Node<D, V> {
+impl<D: Disk, V: DraftService> Node<D, V> {
     ghost use Rattle.ubik_node.specs.Node.{Ends, held, IsStored, Knows, own_member, up_server};
 
     /// The database gets a version, the first of its epoch, for the poll of a recovery.

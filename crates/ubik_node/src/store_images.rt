@@ -1,21 +1,21 @@
 //! The image of a store, of which a database reads what it needs.
 ghost use Rattle.std.specs.Prelude.{None};
 
-use crate::steady_disks::SteadyDisk;
 use db_image::{ImageRead, ReadEnd};
+use disk_base::Disk;
 use std::marker::Model;
 use ubik_store::Store;
 
 /// The image of a store that is lent. After a read has failed the store has failed, and so does every other read. It is made as a
 /// literal: a caller that lends the store to a function would know nothing of it after.
 #[derive(Drop)]
-pub struct StoreImage<'a, D: SteadyDisk> {
+pub struct StoreImage<'a, D: Disk> {
     pub store: &'a mut Store<D>,
     /// How many reads have failed.
     pub faults: u64,
 }
 
-impl<'a, D: SteadyDisk> Model for StoreImage<'a, D> {
+impl<'a, D: Disk> Model for StoreImage<'a, D> {
     ghost use Rattle.ubik_node.specs.StoreImages.{IsImage, Lent};
 
     ghost Value = { Lent D };
@@ -25,7 +25,7 @@ impl<'a, D: SteadyDisk> Model for StoreImage<'a, D> {
     ghost invariant = { λ i. IsImage D.Disk (record { store = i.store; faults = i.faults }) };
 }
 
-impl<'a, D: SteadyDisk> ImageRead for StoreImage<'a, D> {
+impl<'a, D: Disk> ImageRead for StoreImage<'a, D> {
     ghost use Rattle.ubik_node.specs.StoreImages.{told_image, ComesByReads, comes_itself, comes_then};
 
     ghost held = { λ image. told_image (D.tells image.store.now.disk) (D.files image.store.now.disk) };

@@ -2,11 +2,12 @@
 ghost use Rattle.std.specs.Prelude.{◌≡◌};
 ghost use Rattle.ubik_node.specs.Taking.{is_for};
 
-use crate::{Node, SteadyDisk};
+use crate::Node;
 use db_image::DraftService;
+use disk_base::Disk;
 use ubik_calls::Packet;
 
-impl<D: SteadyDisk, V: DraftService> Node<D, V> {
+impl<D: Disk, V: DraftService> Node<D, V> {
     ghost use Rattle.ubik_node.specs.Node.{own_member};
 
     /// Whether a packet is for this server, and comes from another one of the cell.

@@ -4,11 +4,11 @@ ghost use Rattle.site_writes.specs.Site.{flight_in};
 ghost use Rattle.ubik_node.specs.Unanswered.{IsLeastOf, ids_of, unanswered};
 
 use crate::nodes::Node;
-use crate::steady_disks::SteadyDisk;
 use db_image::DraftService;
+use disk_base::Disk;
 use site_writes::SiteWrites;
 
-impl<D: SteadyDisk, V: DraftService> Node<D, V> {
+impl<D: Disk, V: DraftService> Node<D, V> {
     ghost use Rattle.ubik_node.specs.Node.{node_of};
 
     /// The least id of a call that was taken since the opening and is not replied to yet: that of the write in flight, or of a call that
