@@ -1,5 +1,5 @@
 //! Clocks that several threads read: the real one, and one whose moments are given.
-ghost use Rattle.std.specs.Prelude.{◌≡◌, ◌≢◌, ◌+◌, ◌-◌, ◌<◌, [], length, slice_index, min, max};
+ghost use Rattle.std.specs.Prelude.{◌≡◌, ◌≢◌, ◌+◌, ◌-◌, ◌<◌, ℕ, [], length, slice_index, min, max};
 ghost use Rattle.std.specs.List.{All};
 ghost use Rattle.ubik_types.specs.Moment.{IsMoment};
 ghost use Rattle.io_base.specs.Clock.{NeverFalls};
@@ -12,9 +12,14 @@ use ubik_types::MAX_MOMENT;
 
 /// What tells the moment.
 pub trait Clock: Sync {
+    /// That it gave this moment. Code that is generic in the clock learns it from `now` alone, so a moment of which it is
+    /// known was not made up.
+    ghost gave: { Self → ℕ → Type 0 };
+
     /// A whole second, from 1 to 2^31 - 1. It is never refused.
     fn now(&self) -> u32
-        ensures { IsMoment result };
+        ensures moment { IsMoment result }
+        ensures gave { gave self.now result };
 }
 
 /// The clock of the machine.
@@ -30,6 +35,8 @@ impl<R: time::Clock + Drop> WallClock<R> {
 }
 
 impl<R: time::Clock + Drop + Sync> Clock for WallClock<R> {
+    ghost gave = { λ clock moment. Unit {0} };
+
     /// The Unix second, but at least 1 and at most 2^31 - 1; 1 where the machine does not tell it.
     fn now(&self) -> u32 {
         let since = match SystemTime::now(&self.rt) {
@@ -105,6 +112,8 @@ impl<R: Wait + Drop> ListClock<R> {
 }
 
 impl<R: Wait + Drop + Sync> Clock for ListClock<R> {
+    ghost gave = { λ clock moment. Unit {0} };
+
     fn now(&self) -> u32 {
         self.moments.lock(&self.rt).take()
     }
