@@ -2,40 +2,17 @@
 use crate::texts::{NO_TEXT, asked_text, message_of};
 use afs_client::client_top;
 use client_plans::client_help;
-use client_shell::{behind_name, say_said};
+use client_shell::{Either, behind_name, flush_out, say_said};
 use disk_base::{Sink, WriterSink};
 use io_base::TcpLink;
 use std::env::Args;
-use std::io::{self, BufWriter, ErrorKind, Write};
+use std::io::{self, BufWriter, ErrorKind};
 use tool_base::{Stop, say};
 use tool_help::Said;
 use ubik_types::NoMemory;
 
 /// The status of words that mean nothing.
 const BAD_WORDS: u8 = 2;
-
-/// Standard output or standard error, since a command takes both as one kind.
-#[derive(Drop)]
-enum Stream<A: Write + Drop, B: Write + Drop> {
-    Output(A),
-    Errors(B),
-}
-
-impl<A: Write + Drop, B: Write + Drop> Write for Stream<A, B> {
-    fn write(&mut self, buf: &[u8]) -> io::Result<usize> {
-        match self {
-            Stream::Output(writer) => writer.write(buf),
-            Stream::Errors(writer) => writer.write(buf),
-        }
-    }
-
-    fn flush(&mut self) -> io::Result<()> {
-        match self {
-            Stream::Output(writer) => writer.flush(),
-            Stream::Errors(writer) => writer.flush(),
-        }
-    }
-}
 
 /// The exit status of the program, which is given these words and its name before them. A word that is not UTF-8
 /// is invalid data.
@@ -80,8 +57,8 @@ fn help_or_run(rt: &HostRuntime, words: &[String]) -> u8 {
 
 /// Says what was asked of the commands: at status 0 on standard output, else on standard error.
 fn help(rt: &HostRuntime, said: &Said) -> u8 {
-    let mut out = WriterSink::new(Stream::Output(io::writer(rt)));
-    let mut errors = WriterSink::new(Stream::Errors(rt.stderr()));
+    let mut out = Either::First(WriterSink::new(io::writer(rt)));
+    let mut errors = Either::Second(WriterSink::new(rt.stderr()));
     say_said(said, &mut out, &mut errors)
 }
 
@@ -98,12 +75,9 @@ fn run(rt: &HostRuntime, words: &[String]) -> u8 {
     let Ok(writer) = BufWriter::new(alloc, io::writer(rt)) else {
         return Stop::NoMemory.status();
     };
-    let mut out = WriterSink::new(Stream::Output(writer));
-    let mut errors = WriterSink::new(Stream::Errors(rt.stderr()));
+    let mut out = Either::First(WriterSink::new(writer));
+    let mut errors = Either::Second(WriterSink::new(rt.stderr()));
     let mut link = TcpLink::make(*rt, alloc);
     let status = client_top(alloc, words, &mut link, &mut out, &mut errors);
-    match out.into_inner().flush() {
-        Ok(()) => status,
-        Err(_) => Stop::WriteFault.status(),
-    }
+    flush_out(out, status)
 }

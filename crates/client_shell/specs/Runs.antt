@@ -58,3 +58,8 @@ abbrev pub PlanDone : Begun → Tool → Plan → Standing → Standing → ℕ 
 PlanDone begun tool (Say said) before after status = Spoken said before after status
 PlanDone begun tool (Command words) before after status = CommandDone begun tool (map string_bytes words.items) before after status
 PlanDone begun tool (Source hosts file) before after status = Refused tool NESTED.now before after status
+
+-- it names no file of commands
+abbrev pub IsNoFile : Plan → Type 0
+IsNoFile (Source hosts file) = ⊥
+IsNoFile _ = Unit {0}

@@ -11,7 +11,7 @@ mod sinks;
 mod sources;
 
 pub use links::CommandLink;
-pub use programs::{behind_name, main_of};
+pub use programs::{behind_name, flush_out, main_of};
 pub use runs::run_plan;
 pub use sayings::say_said;
 pub use sinks::Either;

@@ -1,5 +1,6 @@
 //! A program from its words to its status, over the real streams and a link over TCP.
-ghost use Rattle.std.specs.Prelude.{◌≡◌, IfOk, drop};
+ghost use Rattle.std.specs.Prelude.{◌≡◌, ◌≢◌, ◌⊎◌, [], IfOk, drop};
+ghost use Rattle.std.specs.Io.Buffered.{writer_buffer};
 ghost use Rattle.std.specs.Vec.Iter.{into_iter_items};
 
 use crate::runs::run_plan;
@@ -100,7 +101,7 @@ fn run_buffered(rt: &HostRuntime, tool: Tool, plan: &Plan) -> u8 {
     };
     let mut out = Either::First(WriterSink::new(writer));
     let status = run_to(rt, tool, plan, &mut out);
-    flushed(out, status)
+    flush_out(out, status)
 }
 
 /// Does what was planned, with this for standard output.
@@ -115,16 +116,29 @@ fn run_to<A: Sink + Drop>(
     run_plan(rt, tool, plan, &mut link, out, &mut err)
 }
 
-/// Has what is left in the buffer go out: the status, or 4 where it does not.
-fn flushed<W: Write + Drop, B: Sink + Drop>(out: Either<WriterSink<W>, B>, status: u8) -> u8 {
+/// Has what is left in the buffer before standard output go out: the status, or 4 where it does not.
+pub fn flush_out<W: Write + Drop, B: Sink + Drop>(
+    out: Either<WriterSink<BufWriter<W>>, B>,
+    status: u8,
+) -> u8
+    ensures { (result ≡ status) ⊎ (result ≡ 4) }
+{
     match out {
         Either::First(sink) => {
-            let mut writer = sink.into_inner();
-            match writer.flush() {
-                Ok(()) => status,
-                Err(_) => Stop::WriteFault.status(),
-            }
+            let (status, _) = flushed(sink.into_inner(), status);
+            status
         }
         Either::Second(_) => status,
+    }
+}
+
+/// Has what is left in a buffer go out. The status is 4 where any of it stays.
+fn flushed<W: Write + Drop>(mut writer: BufWriter<W>, status: u8) -> (u8, BufWriter<W>)
+    ensures status { (result.0 ≡ status) ⊎ (result.0 ≡ 4) }
+    ensures whole { result.0 ≢ 4 → writer_buffer result.1 ≡ [] }
+{
+    match writer.flush() {
+        Ok(()) => (status, writer),
+        Err(_) => (Stop::WriteFault.status(), writer),
     }
 }

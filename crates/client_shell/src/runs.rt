@@ -1,10 +1,10 @@
 //! What comes of the words of a program.
 ghost use Rattle.std.specs.Prelude.{◌≡◌, true, false, IfOk, Err, map, string_bytes};
-ghost use Rattle.client_shell.specs.Runs.{CommandDone, names_hosts};
+ghost use Rattle.client_shell.specs.Runs.{CommandDone, IsNoFile, PlanDone, names_hosts};
 ghost use Rattle.client_shell.specs.Standing.{stands};
 
 use crate::links::CommandLink;
-use crate::refusals::{BAD_HOSTS, NO_OPEN, say_refused};
+use crate::refusals::{BAD_HOSTS, NESTED, NO_OPEN, say_refused};
 use crate::sayings::say_said;
 use crate::sources::{Shell, run_source};
 use afs_client::{Hosts, HostsFault, client_top};
@@ -54,7 +54,7 @@ fn judged_hosts(alloc: Global, words: &[String]) -> Result<(), HostsFault>
     }
 }
 
-/// Does what was planned, and gives the status of the program.
+/// Does what was planned, and gives the status of the program. Of the commands of a file `run_source` tells.
 pub fn run_plan<R: Files + Input + AllocGlobal, L: CommandLink, K: Sink>(
     rt: &R,
     tool: Tool,
@@ -62,10 +62,13 @@ pub fn run_plan<R: Files + Input + AllocGlobal, L: CommandLink, K: Sink>(
     link: &mut L,
     out: &mut K,
     err: &mut K,
-) -> u8 {
+) -> u8
+    ensures { IsNoFile plan.now → PlanDone L.begun tool plan.now
+        (stands L.exchanges K.written K.faults link.old out.old err.old)
+        (stands L.exchanges K.written K.faults link.new out.new err.new) result }
+{
     match plan {
-        Plan::Say(said) => say_said(said, out, err),
-        Plan::Command(words) => run_command(rt.alloc(), tool, words, link, out, err),
+        Plan::Say(_) | Plan::Command(_) => run_planned(rt.alloc(), tool, plan, link, out, err),
         Plan::Source { hosts, file } => {
             let shell = Shell {
                 alloc: rt.alloc(),
@@ -74,6 +77,26 @@ pub fn run_plan<R: Files + Input + AllocGlobal, L: CommandLink, K: Sink>(
             };
             run_file(rt, &shell, file.as_str(), link, out, err)
         }
+    }
+}
+
+/// Does what was planned, where that is no file of commands: a line of one names no other.
+pub(crate) fn run_planned<L: CommandLink, K: Sink>(
+    alloc: Global,
+    tool: Tool,
+    plan: &Plan,
+    link: &mut L,
+    out: &mut K,
+    err: &mut K,
+) -> u8
+    ensures { PlanDone L.begun tool plan.now
+        (stands L.exchanges K.written K.faults link.old out.old err.old)
+        (stands L.exchanges K.written K.faults link.new out.new err.new) result }
+{
+    match plan {
+        Plan::Say(said) => say_said(said, out, err),
+        Plan::Command(words) => run_command(alloc, tool, words, link, out, err),
+        Plan::Source { .. } => say_refused(alloc, tool, NESTED, err),
     }
 }
 

@@ -3,15 +3,14 @@ ghost use Rattle.std.specs.Prelude.{◌≡◌, ◌≢◌, ◌≤◌, ◌<◌, �
 ghost use Rattle.command_lines.specs.Cuts.{HasNoText, words_of};
 ghost use Rattle.command_lines.specs.declared.lines.TheConstants.{MAX_COMMAND};
 ghost use Rattle.disk_base.specs.Count.{HasCause};
-ghost use Rattle.client_shell.specs.Runs.{PlanDone};
 ghost use Rattle.client_shell.specs.Sources.{LinePlans, LineWithin, Named, SourceRan, line_named};
 ghost use Rattle.client_shell.specs.Standing.{stands};
 ghost use Rattle.client_shell.specs.Turns.{NamedUnlessWell, Turned};
 
 use crate::links::CommandLink;
-use crate::refusals::{LONG_LINE, NESTED, NO_READ, NO_TEXT, OPEN_QUOTE, say_refused};
-use crate::runs::run_command;
-use crate::sayings::{say_line, say_said};
+use crate::refusals::{LONG_LINE, NO_READ, NO_TEXT, OPEN_QUOTE, say_refused};
+use crate::runs::run_planned;
+use crate::sayings::say_line;
 use afs_words::Tool;
 use cell_script::LineEnd;
 use client_plans::{Plan, make_plan};
@@ -119,7 +118,7 @@ fn run_line<L: CommandLink, K: Sink>(
         return 0;
     }
     match line_plan(shell, line) {
-        Ok(plan) => run_planned(shell, &plan, link, out, err),
+        Ok(plan) => run_planned(shell.alloc, shell.tool, &plan, link, out, err),
         Err(LineFault::NoMemory) => Stop::NoMemory.status(),
         Err(LineFault::OpenQuote) => say_refused(shell.alloc, shell.tool, OPEN_QUOTE, err),
         Err(LineFault::NotText) => say_refused(shell.alloc, shell.tool, NO_TEXT, err),
@@ -144,25 +143,6 @@ fn own_hosts(shell: &Shell<'_>) -> Result<String, NoMemory>
 {
     let hosts = String::from_str(shell.alloc, shell.hosts)?;
     Ok(hosts)
-}
-
-/// Does what was planned of a line.
-fn run_planned<L: CommandLink, K: Sink>(
-    shell: &Shell<'_>,
-    plan: &Plan,
-    link: &mut L,
-    out: &mut K,
-    err: &mut K,
-) -> u8
-    ensures { PlanDone L.begun shell.now.tool plan.now
-        (stands L.exchanges K.written K.faults link.old out.old err.old)
-        (stands L.exchanges K.written K.faults link.new out.new err.new) result }
-{
-    match plan {
-        Plan::Say(said) => say_said(said, out, err),
-        Plan::Command(words) => run_command(shell.alloc, shell.tool, words, link, out, err),
-        Plan::Source { .. } => say_refused(shell.alloc, shell.tool, NESTED, err),
-    }
 }
 
 /// Names a line that did not end with 0; its status, or what came of the naming.
