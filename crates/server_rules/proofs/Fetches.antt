@@ -1,5 +1,5 @@
 -- A fetch: what its last piece leads to; and relabelling, whatever recovery the server has.
-use Rattle.std.proofs.Common.{◌≡◌, ◌∙◌, ◌+◌, ◌++◌, ◌<◌, ◌≤◌, ⊎_elim, ℕ, zero, suc, Bool, true, false, cond, Option, Some, None, List, [], ◌∷◌, length, take, refl, sym, ap, arith}
+use Rattle.std.proofs.Common.{◌≡◌, ◌∙◌, ◌+◌, ◌<◌, ◌≤◌, ⊎_elim, ℕ, Bool, true, false, cond, Option, Some, None, List, [], ◌∷◌, length, take, refl, sym, ap, arith}
 use Rattle.std.specs.Prelude.{◌==◌, ◌&&◌, nat_lt}
 use Rattle.std.proofs.lemmas.Bool.Decides.{nat_tests}
 use Rattle.std.proofs.lemmas.List.{length-append, length-take-le}
@@ -66,15 +66,6 @@ relabelled_any m s poll now p q a b same = by (nat_lt s.version.epoch now)
         ≡ cond c (followed (relabelled_to m (record s { phase = q; received = b }) poll (first_of_epoch now)) (settled m)) (quiet (with_phase (record s { phase = q; received = b }) (Relabel poll)))
     by true = ap (λ (x : Server). followed (spread_from m poll s.version (first_of_epoch now) x) (settled m)) sent
     by false = ap (λ (text : Option ReceivedText). quiet (record s { phase = Relabel poll; received = text })) same
-
--- once the moment is past the epoch, whatever the recovery
-pub relabelled_late : (m : Member) (s : Server) (v : Version) (x r : RecoveryRecord) (poll : Polled) (now : ℕ) → nat_lt s.version.epoch now ≡ true
-    → relabelled m (recovering v x s) poll now ≡ followed (relabelled_to m (recovering v r s) poll (first_of_epoch now)) (settled m)
-relabelled_late m s v x r poll now late =
-    let new = first_of_epoch now in
-    let spread : Spread = record { old = s.version; holders = only_holder m } in
-    rw late (ap (λ (y : Server). followed (spread_from m poll s.version new y) (settled m))
-    (sends_as (recovering v x s) new s.image poll spread ∙ sym (sends_as (recovering v r s) new s.image poll spread)))
 
 module _ (m : Member) (s : Server) (now : ℕ) (poll : Polled) (best : Version) (image : List ℕ) where
   -- by whether the version is still above the own one

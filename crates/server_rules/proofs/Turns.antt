@@ -1,5 +1,5 @@
 -- The turn of a server in recovery, by the recovery that it has.
-use Rattle.std.proofs.Common.{◌≡◌, ◌+◌, ◌++◌, ℕ, zero, suc, Bool, true, false, cond, nat_lt, Option, Some, None, List, [], ◌∷◌, map, is_some, length, refl, sym, ap, subst, ◌∙◌}
+use Rattle.std.proofs.Common.{◌≡◌, ◌+◌, ℕ, zero, suc, Bool, true, false, cond, nat_lt, Option, Some, None, List, [], ◌∷◌, map, is_some, length, refl, sym, ap, subst, ◌∙◌}
 use Rattle.std.proofs.lemmas.List.{append-nil}
 use Rattle.ubik_types.specs.declared.hosts.Host.{Host}
 use Rattle.ubik_types.specs.declared.limits.TheConstants.{SMALLTIME}
@@ -17,7 +17,7 @@ use Rattle.cell_model.specs.Node.{Server, ReceivedText}
 use Rattle.cell_model.specs.Polls.{entry_at, is_marked, new_poll, only_at, polling}
 use Rattle.cell_model.specs.Recovery as rule
 use Rattle.cell_model.specs.Recovery.{asks_versions, has_answered, poll_asked}
-use Rattle.cell_model.specs.Step.{Member, Shown, Stepped, cell_size, leased, outputs_of, quiet, sends_from}
+use Rattle.cell_model.specs.Step.{Member, Shown, Stepped, cell_size, leased, quiet, sends_from}
 use Rattle.ubik_recovery.specs.Record.{RecoveryRecord, adopted, best_of, host_of, is_fetch, phase_record, poll_begun, polled_of, record_in, with_text}
 use Rattle.ubik_recovery.specs.Rules.{recovering}
 use Rattle.server_state.specs.declared.state.State.{State}

@@ -12,17 +12,19 @@ IsBuiltBody (body.SetVersion poll old new) = IsVersion new
 IsBuiltBody (body.Begin old new pieces len) = IsVersion new
 IsBuiltBody _ = Unit {0}
 
--- the packets that are decided here
-abbrev pub IsActed : Body → Type 0
-IsActed (body.Beacon start claim ready version) = ⊥
-IsActed _ = Unit {0}
-
--- those of them that bring no piece of an image
+-- those that bring no piece of an image
 abbrev pub IsSmall : Body → Type 0
-IsSmall (body.Beacon start claim ready version) = ⊥
 IsSmall (body.Piece poll version total offset bytes) = ⊥
 IsSmall (body.SendPiece poll version total offset bytes) = ⊥
 IsSmall _ = Unit {0}
+
+-- those of a write that another server began
+abbrev pub IsOfWrite : Body → Type 0
+IsOfWrite (body.Begin old new pieces len) = Unit {0}
+IsOfWrite (body.PutPiece new number bytes) = Unit {0}
+IsOfWrite (body.Commit old new) = Unit {0}
+IsOfWrite (body.Abort new) = Unit {0}
+IsOfWrite _ = ⊥
 
 -- what a packet needs of the disk, as an act does
 abbrev pub body_need : Body → ℕ

@@ -1,19 +1,19 @@
 //! The packets of another server.
-ghost use Rattle.std.specs.Prelude.{◌≡◌, ◌<◌, ◌≤◌, Bool, List, IfOk, IsOk, OnErr, length};
+ghost use Rattle.std.specs.Prelude.{◌≡◌, ◌<◌, ◌≤◌, ℕ, Bool, List, IfOk, IsOk, OnErr, length};
 ghost use Rattle.ubik_types.specs.Moment.{IsMoment};
 ghost use Rattle.db_image.specs.Database.{Database};
 ghost use Rattle.cell_model.specs.NodeRule.{received_from};
 ghost use Rattle.server_state.specs.State.{member_of, server_of};
 ghost use Rattle.server_rules.specs.Acts.{Leaves, MayEndShort, act_need, stepped_by};
-ghost use Rattle.server_rules.specs.Packets.{BodyTakesNoMemory, IsActed, IsBuiltBody, IsSmall, body_need};
+ghost use Rattle.server_rules.specs.Packets.{BodyTakesNoMemory, IsBuiltBody, IsOfWrite, IsSmall, body_need};
 
 use crate::acts::Act;
 use crate::receiver::{
     piece_asked, piece_put, piece_sent, version_asked, version_set, write_begun, write_committed,
 };
 use crate::recovery::{piece_kept, piece_told, version_kept, version_told};
-use crate::voting::vote_heard;
-use server_state::State;
+use crate::voting::{beacon_heard, vote_heard};
+use server_state::{ReadyBeacon, State};
 use std::alloc::Global;
 use ubik_calls::Body;
 use ubik_recovery::TextSource;
@@ -31,7 +31,6 @@ pub fn packet_heard<'a>(
     requires from { from < length state.old.cell }
     requires moment { IsMoment now }
     requires built { IsBuiltBody packet.now }
-    requires acted { IsActed packet.now }
     ensures step { (db : Database) (short : List Bool) → IfOk result (λ act.
         received_from db (member_of state.old) (server_of state.old) now host from packet.now short
         ≡ stepped_by db (member_of state.new) now short (server_of state.new) act) }
@@ -86,7 +85,7 @@ fn small_heard(
     requires from { from < length state.old.cell }
     requires moment { IsMoment now }
     requires built { IsBuiltBody packet.now }
-    requires acted { IsSmall packet.now }
+    requires small { IsSmall packet.now }
     ensures step { (db : Database) (short : List Bool) → IfOk result (λ act.
         received_from db (member_of state.old) (server_of state.old) now host from packet.now short
         ≡ stepped_by db (member_of state.new) now short (server_of state.new) act) }
@@ -96,6 +95,19 @@ fn small_heard(
     ensures err { OnErr result (state.new ≡ state.old) }
 {
     match packet {
+        Body::Beacon {
+            start,
+            claim,
+            ready,
+            version,
+        } => {
+            let beacon = ReadyBeacon {
+                server: from,
+                version: *version,
+                at: now,
+            };
+            Ok(beacon_heard(state, host, *start, beacon, *claim, *ready))
+        }
         Body::Vote { start, yes } => Ok(vote_heard(state, from, *start, *yes)),
         Body::GetVersion { poll } => Ok(version_asked(state, host, *poll)),
         Body::VersionIs { poll, version } => {
@@ -109,6 +121,28 @@ fn small_heard(
         } => Ok(piece_asked(state, host, *poll, *version, *offset)),
         Body::PieceKept { version, next, .. } => Ok(piece_kept(state, host, *version, *next)),
         Body::SetVersion { poll, old, new } => Ok(version_set(state, host, *poll, *old, *new)),
+        _ => write_heard(state, alloc, host, packet),
+    }
+}
+
+/// What it does about one of a write that another server began.
+fn write_heard(
+    state: &mut State,
+    alloc: Global,
+    host: Host,
+    packet: &Body,
+) -> Result<Act<'static>, NoMemory>
+    requires built { IsBuiltBody packet.now }
+    requires of_write { IsOfWrite packet.now }
+    ensures step { (db : Database) (now from : ℕ) (short : List Bool) → IfOk result (λ act.
+        received_from db (member_of state.old) (server_of state.old) now host from packet.now short
+        ≡ stepped_by db (member_of state.new) now short (server_of state.new) act) }
+    ensures leaves { IfOk result (Leaves state.old state.new) }
+    ensures need { IfOk result (λ act. act_need act ≤ body_need packet.now) }
+    ensures memory { BodyTakesNoMemory packet.now → IsOk result × IfOk result (λ act. ¬ MayEndShort act) }
+    ensures err { OnErr result (state.new ≡ state.old) }
+{
+    match packet {
         Body::Begin {
             old,
             new,
@@ -127,7 +161,7 @@ fn small_heard(
             state.abort_received(*new);
             Ok(Act::Rest)
         }
-        // Heard elsewhere.
-        Body::Beacon { .. } | Body::Piece { .. } | Body::SendPiece { .. } => Ok(Act::Rest),
+        // No other packet is of a write.
+        _ => Ok(Act::Rest),
     }
 }

@@ -23,4 +23,3 @@ pub use lapse::Dropped;
 pub use outputs::Outputs;
 pub use spreading::Given;
 pub use state::State;
-pub use voting::Heard;

@@ -2,9 +2,9 @@
 ghost use Rattle.std.specs.Prelude.{◌≡◌, ◌≤◌, ◌<◌, ◌+◌, ◌++◌, ℕ, None, [], length, false};
 ghost use Rattle.ubik_types.specs.Quorum.{marked};
 ghost use Rattle.cell_model.specs.Polls.{is_marked, polling};
-ghost use Rattle.cell_model.specs.Recovery.{asks_versions, fetched_from};
-ghost use Rattle.cell_model.specs.Step.{host_at, outputs_of, sends_to, with_phase};
-ghost use Rattle.ubik_recovery.specs.Record.{adopted, best_of, host_of, is_fetch, polled_of};
+ghost use Rattle.cell_model.specs.Recovery.{asks_versions};
+ghost use Rattle.cell_model.specs.Step.{outputs_of, with_phase};
+ghost use Rattle.ubik_recovery.specs.Record.{adopted, is_fetch, polled_of};
 ghost use Rattle.ubik_types.specs.Phase as phases;
 ghost use Rattle.server_state.specs.Recovering.{IsOfCell, IsServing};
 ghost use Rattle.server_state.specs.Writing.{own_of, waiting_of};
@@ -14,7 +14,7 @@ use crate::state::State;
 use cell_model::Output;
 use ubik_calls::Body;
 use ubik_recovery::Recovery;
-use ubik_types::{Host, MAXSERVERS, Marks, Phase};
+use ubik_types::{MAXSERVERS, Marks, Phase};
 
 /// Whether a server is in a set.
 pub(crate) fn is_in(set: &Marks, k: usize) -> bool
@@ -25,18 +25,7 @@ pub(crate) fn is_in(set: &Marks, k: usize) -> bool
 }
 
 impl State {
-    ghost use Rattle.server_state.specs.State.{server_of, server_with, member_of, Keeps, ShowsBehind};
-
-    /// The host of a server; 0 for none.
-    fn host_at(&self, k: usize) -> Host
-        ensures { result ≡ host_at self.now.cell k }
-    {
-        if k < self.cell.len() {
-            self.cell.host(k)
-        } else {
-            Host(0)
-        }
-    }
+    ghost use Rattle.server_state.specs.State.{server_of, server_with, member_of, Keeps};
 
     /// The question for its version goes to each other server that is not in a set.
     pub fn ask_versions(&self, but: &Marks, poll: u32, out: &mut Outputs)
@@ -60,37 +49,6 @@ impl State {
         ensures kept { Keeps self.old self.new }
     {
         self.recovery.adopt(next);
-    }
-
-    /// A poll has found a better version than the own one: it is asked for.
-    pub fn fetch_best(&mut self, next: Recovery, out: &mut Outputs)
-        requires resting { ¬ IsServing self.old.recovery }
-        requires few { length out.old ≤ 180 }
-        requires phase { next.phase ≡ Phase.Poll }
-        requires of_cell { IsOfCell (length self.old.cell) next }
-        ensures shows { ShowsBehind (fetched_from (member_of self.old) (server_with self.old (adopted next self.old.recovery)) (polled_of next) (best_of next) (host_of next))
-            (server_of self.new) out.old out.new }
-        ensures kept { Keeps self.old self.new }
-    {
-        let mut next = next;
-        next.set_phase(Phase::Fetch, self.me);
-        self.recovery.adopt(next);
-        self.ask_piece(0, out);
-    }
-
-    /// The piece from an offset on of the fetched image is asked for.
-    pub fn ask_piece(&self, offset: u32, out: &mut Outputs)
-        requires few { length out.old ≤ 180 }
-        ensures { out.new ≡ out.old ++ outputs_of (sends_to (member_of self.now) (host_at self.now.cell (host_of self.now.recovery))
-            (Body.GetPiece self.now.recovery.poll (best_of self.now.recovery) offset)) }
-    {
-        let (version, host) = self.recovery.best();
-        let question = Body::GetPiece {
-            poll: self.recovery.poll(),
-            version,
-            offset,
-        };
-        self.send(self.host_at(host), question, out);
     }
 
     /// A relabelling waits for a later moment.

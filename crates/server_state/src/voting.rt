@@ -1,25 +1,17 @@
 //! The rules of votes, and what a server tells of its version: they change what it keeps, and its disk is not touched.
 ghost use Rattle.std.specs.Prelude.{◌≡◌, ◌<◌, ◌≤◌, ◌++◌, length};
 ghost use Rattle.ubik_types.specs.Moment.{IsMoment};
+ghost use Rattle.ubik_types.specs.Votes.{answered, answers_yes};
 ghost use Rattle.cell_model.specs.Step.{outputs_of, quiet, sends_to_all};
 ghost use Rattle.server_state.specs.Plain.{IsPlainBody};
-ghost use Rattle.cell_model.specs.Voting.{own_beacon, beacon_turn, beacon_received, vote_received};
+ghost use Rattle.cell_model.specs.Voting.{own_beacon, beacon_kept, beacon_turn, vote_received};
 
 use crate::beacons::{ReadyBeacon, kept_beacon};
 use crate::outputs::Outputs;
 use crate::state::State;
 use cell_model::Output;
 use ubik_calls::Body;
-use ubik_types::{Host, Phase, Version};
-
-/// A beacon that was heard: its start, in seconds, whether it claims the lease, and whether its sender serves calls under its version.
-#[derive(Clone, Copy)]
-pub struct Heard {
-    pub start: u32,
-    pub claim: bool,
-    pub ready: bool,
-    pub version: Version,
-}
+use ubik_types::Phase;
 
 impl State {
     ghost use Rattle.server_state.specs.State.{server_of, member_of, Keeps, ShowsBehind};
@@ -39,33 +31,18 @@ impl State {
         self.votes.beacon(now, claim);
     }
 
-    /// A beacon of a server of the cell, which gets its vote.
-    pub fn hear_beacon(
-        &mut self,
-        now: u32,
-        from: usize,
-        host: Host,
-        heard: Heard,
-        out: &mut Outputs,
-    )
-        requires from { from < length self.old.cell }
-        requires few { length out.old ≤ 100 }
-        ensures shows { ShowsBehind (beacon_received (member_of self.old) (server_of self.old) now host from heard.start heard.claim heard.ready heard.version)
-            (server_of self.new) out.old out.new }
+    /// A beacon of a server of the cell, with its claim and whether its server is ready: whether it gets a yes.
+    pub fn hear_beacon(&mut self, beacon: ReadyBeacon, claim: bool, ready: bool) -> bool
+        requires from { beacon.server < length self.old.cell }
+        ensures vote { result ≡ answers_yes (server_of self.old).votes beacon.at beacon.server claim }
+        ensures after { server_of self.new ≡ record (server_of self.old) {
+          votes = answered (server_of self.old).votes beacon.at beacon.server claim;
+          beacon = beacon_kept (server_of self.old).beacon beacon.at beacon.server claim ready beacon.version;
+        } }
         ensures kept { Keeps self.old self.new }
     {
-        let beacon = ReadyBeacon {
-            server: from,
-            version: heard.version,
-            at: now,
-        };
-        self.beacon = kept_beacon(self.beacon, beacon, heard.claim, heard.ready);
-        let yes = self.votes.on_beacon(now, from, heard.claim);
-        let vote = Body::Vote {
-            start: heard.start,
-            yes,
-        };
-        self.send(host, vote, out);
+        self.beacon = kept_beacon(self.beacon, beacon, claim, ready);
+        self.votes.on_beacon(beacon.at, beacon.server, claim)
     }
 
     /// A vote of a server of the cell, for the beacon of that start.

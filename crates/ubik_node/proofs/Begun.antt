@@ -1,5 +1,5 @@
 -- The write that another server began.
-use Rattle.std.proofs.Common.{◌≡◌, ◌≢◌, ◌⊎◌, ◌∙◌, ◌++◌, ⊎_elim, Bool, true, false, cond, Option, Some, None, List, [], length, ℕ, Result, refl, sym, ap, subst, arith}
+use Rattle.std.proofs.Common.{◌≡◌, ◌≢◌, ◌⊎◌, ◌∙◌, ◌++◌, ⊎_elim, true, List, [], Result, refl, sym, ap}
 use Rattle.std.proofs.lemmas.List.{append-nil}
 use Rattle.disk_base.specs.declared.disks.Disk.{Ghosts}
 use Rattle.ubik_types.specs.declared.versions.Version.{Version}
@@ -12,26 +12,15 @@ use Rattle.cell_model.specs.declared.events.Output.{Output}
 use Rattle.cell_model.specs.Step.{Stepped}
 use Rattle.ubik_store.proofs.Telling.{ok_map}
 use Rattle.ubik_node.specs.Node.{Ends, Held, IsMade}
+use Rattle.ubik_node.proofs.Endings.{ends_as}
 
 -- ---- rules that show nothing
 
 pub quiet_ends : {D : Type 0} (g : Ghosts D) {knows : Type 0} {t : Stepped} {n m : Held D} {r : Result (Unit {0}) StoreFault} (out : List Output) → Ends g knows t [] [] n m r → Ends g knows t out out n m r
-quiet_ends g {knows} {t} {n} {m} {r} out ends = record {
-  made = λ known.
-      ok_map r (IsMade g t [] [] n m) (IsMade g t out out n m) (ends.made known)
-      (λ made. record { server = made.server; outputs = sym (append-nil out) ∙ ap (λ (o : List Output). out ++ o) made.outputs; disk = made.disk });
-  failed = ends.failed;
-  short = ends.short;
-  state = ends.state;
-  keeps = ends.keeps;
-  stored = ends.stored;
-  halts = ends.halts;
-  told = ends.told;
-  calls = ends.calls;
-  halted = ends.halted;
-  last = ends.last;
-  member = ends.member;
-}
+quiet_ends g {knows} {t} {n} {m} {r} out ends =
+    ends_as g (λ known.
+    ok_map r (IsMade g t [] [] n m) (IsMade g t out out n m) (ends.made known)
+    (λ made. record { server = made.server; outputs = sym (append-nil out) ∙ ap (λ (o : List Output). out ++ o) made.outputs; disk = made.disk })) ends.failed ends
 
 -- ---- a durable call that was not made
 

@@ -28,8 +28,8 @@ use Rattle.cell_model.specs.Step.{Member, Stepped, outputs_of}
 use Rattle.ubik_node.specs.Disk.{FailsIn, Serves, TakenCutsNoPut}
 use Rattle.ubik_node.specs.Node.{Ends, Held, IsKept, IsMade, durable_in}
 use Rattle.ubik_node.proofs.AfterReads.{fails_after, serves_after}
-use Rattle.ubik_node.proofs.Durables.{IsThere, fails_one, serves_one, serves_reads}
-use Rattle.ubik_node.proofs.Endings.{failed_ends, made_ends, not_short, reads_so, ready_in, told_still}
+use Rattle.ubik_node.proofs.Durables.{IsThere, fails_one, serves_one}
+use Rattle.ubik_node.proofs.Endings.{ends_as, failed_ends, made_ends, not_short, told_still}
 
 begun_none : (begun : Option Transaction) → changes_begun begun ≡ None → begun ≡ None
 begun_none None is = refl
@@ -176,18 +176,6 @@ module _ {D : Type 0} (g : Ghosts D) where
         → Ends g knows t before after n (record n { store = later }) (Err e)
     call_failed = known_call_failed n was up s reads went sound stays later sound_later changes v image made (λ _. record { leads = leads; same = same; cuts = cuts; count = count; calls = calls })
 
-  -- a rule without a durable call, after reads
-  pub known_read_ends : {knows : Type 0} {t : Stepped} {before after : List Output} (n m : Held D) → m.halted ≡ n.halted → m.last ≡ n.last → m.member ≡ n.member → {F : Type 0} → IsKept g n → n.halted ≡ false → OnlyReads g n.store.disk m.store.disk F → ¬ F → IsKept g m
-      → (knows → (t.calls ≡ []) × (t.server ≡ m.server) × (after ≡ before ++ outputs_of t.shown)) → Ends g knows t before after n m (Ok tt)
-  known_read_ends n m halted last member was up reads went stored shows =
-      made_ends g n m halted last member (reads_so g reads went (λ failed. absurd failed)) stored (told_still g reads went) (λ known.
-      let shown = shows known in
-      record {
-        server = shown.1;
-        outputs = shown.2;
-        disk = subst (λ (calls : List Made). Serves g (durable_in n.server) n.store.disk m.store.disk calls) (sym shown.0) (serves_reads g n.store (durable_in n.server) (ready_in g n was up) (was.image up) (was.version up) reads);
-      })
-
   -- a rule after reads
   pub after_reads : {knows : Type 0} {t : Stepped} {before after : List Output} (n : Held D) (s : Store D) (m : Held D) (r : Result (Unit {0}) StoreFault) {F : Type 0} → OnlyReads g n.store.disk s.disk F → ¬ F
       → Ends g knows t before after (record n { store = s }) m r → Ends g knows t before after n m r
@@ -215,20 +203,9 @@ module _ {D : Type 0} (g : Ghosts D) where
 
   -- what is a rule where more is known
   pub known_so : {knows less : Type 0} {t u : Stepped} {before after : List Output} {n m : Held D} (r : Result (Unit {0}) StoreFault) → (less → knows × (t ≡ u)) → Ends g knows u before after n m r → Ends g less t before after n m r
-  known_so {knows} {less} {t} {u} {before} {after} {n} {m} r so ends = record {
-    made = λ known. let is = so known in subst (λ (x : Stepped). OnOk r (IsMade g x before after n m)) (sym is.1) (ends.made is.0);
-    failed = λ known failed. let is = so known in subst (λ (x : Stepped). FailsIn g (durable_in n.server) n.store.disk m.store.disk x.calls) (sym is.1) (ends.failed is.0 failed);
-    short = ends.short;
-    state = ends.state;
-    keeps = ends.keeps;
-    stored = ends.stored;
-    halts = ends.halts;
-    told = ends.told;
-    calls = ends.calls;
-    halted = ends.halted;
-    last = ends.last;
-    member = ends.member;
-  }
+  known_so {knows} {less} {t} {u} {before} {after} {n} {m} r so ends =
+      ends_as g (λ known. let is = so known in subst (λ (x : Stepped). OnOk r (IsMade g x before after n m)) (sym is.1) (ends.made is.0))
+      (λ known failed. let is = so known in subst (λ (x : Stepped). FailsIn g (durable_in n.server) n.store.disk m.store.disk x.calls) (sym is.1) (ends.failed is.0 failed)) ends
 
   -- a rule whose server and place are named otherwise
   pub held_as : {knows : Type 0} {t : Stepped} {before after : List Output} {n m : Held D} {r : Result (Unit {0}) StoreFault} (server : Server) (place : Member) → server ≡ m.server → place ≡ m.member → Ends g knows t before after n m r

@@ -1,12 +1,11 @@
 -- What is left of a rule after its decision.
-use Rattle.std.proofs.Common.{◌≡◌, ◌≢◌, ◌≤◌, ◌<◌, ◌⊎◌, ◌∙◌, ℕ, zero, suc, Bool, List, Result, Ok, Err, OnOk, IfErr, IsErrOf, IsOk, refl, sym, ap, subst, arith, Option, IsSome}
+use Rattle.std.proofs.Common.{◌≡◌, ◌≢◌, ◌≤◌, ◌<◌, ◌⊎◌, ◌∙◌, ℕ, zero, suc, List, Result, Ok, Err, IfErr, IsErrOf, IsOk, sym, subst, arith, Option, IsSome}
 use Rattle.disk_base.specs.declared.disks.Disk.{Ghosts}
 use Rattle.ubik_calls.specs.declared.packets.Body.{Body}
 use Rattle.ubik_calls.specs.declared.packets.Body.TheVariants as body
 use Rattle.ubik_store.specs.declared.faults.StoreFault.{StoreFault}
 use Rattle.ubik_store.specs.declared.faults.StoreFault.TheVariants.{DiskFault}
 use Rattle.disk_base.specs.Files.{Files}
-use Rattle.db_image.specs.Database.{Database}
 use Rattle.db_image.specs.Standing.{Standing}
 use Rattle.cell_model.specs.declared.events.Output.{Output}
 use Rattle.cell_model.specs.Durable.{Durable}
@@ -14,21 +13,14 @@ use Rattle.cell_model.specs.Node.{Server, halted_from}
 use Rattle.cell_model.specs.Step.{Member, Stepped, cell_size}
 use Rattle.server_rules.specs.declared.acts.Act.{Act}
 use Rattle.server_rules.specs.declared.acts.Act.TheVariants as act
-use Rattle.server_rules.specs.Acts.{HasRoom, MayEndShort, MayFail, act_need, stepped_by}
+use Rattle.server_rules.specs.Acts.{HasRoom, MayEndShort, MayFail, act_need}
 use Rattle.server_rules.specs.Packets.{body_need}
 use Rattle.ubik_store.proofs.Telling.{ok_map}
 use Rattle.ubik_node.specs.Acts.{ActNeeds, needs_at}
 use Rattle.ubik_node.specs.Disk.{FailsIn, Serves}
 use Rattle.ubik_node.proofs.Endings.{never_short, ok_not}
 use Rattle.std.proofs.lemmas.Bool.{false≢true}
-use Rattle.ubik_node.specs.Node.{Ends, EndsSo, Held, IsMade, IsMeantIn, NeedsFiles, durable_in}
-
-module _ {D : Type 0} (g : Ghosts D) (db : Database) (m : Member) (now : ℕ) (s : Server) (knows tells meant : Type 0) {before after : List Output} {n k : Held D} {r : Result (Unit {0}) StoreFault} where
-  -- an act, from what it is
-  pub act_ends : (a b : Act) → a ≡ b → EndsSo g (ActNeeds b knows tells meant) (λ short. stepped_by db m now short s b) before after n k r
-      → EndsSo g (ActNeeds a knows tells meant) (λ short. stepped_by db m now short s a) before after n k r
-  act_ends a b is ends =
-      subst (λ (x : Act). EndsSo g (ActNeeds x knows tells meant) (λ short. stepped_by db m now short s x) before after n k r) (sym is) ends
+use Rattle.ubik_node.specs.Node.{Ends, Held, IsMade, IsMeantIn, NeedsFiles, durable_in}
 
 not_both : (r : Result (Unit {0}) StoreFault) {P : Type 0} → IsOk r → IsErrOf r DiskFault → P
 not_both (Ok x) went failed = absurd (ok_not x failed)

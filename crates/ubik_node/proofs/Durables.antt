@@ -1,7 +1,7 @@
 -- What a crash leaves of a step, and how many calls its disk gets, by the durable call of its store.
 use Rattle.std.proofs.Common.{◌≡◌, ⊎_elim, inl, inr, ℕ, zero, suc, ◌+◌, ◌≤◌, Bool, true, false, cond, ltb, List, [], ◌∷◌, length, take, Option, Some, None, IfSome, refl, sym, ap, subst, ◌∙◌, arith}
 use Rattle.std.specs.Option.{option_map}
-use Rattle.std.specs.Prelude.{not, Result, Err, MatchResult}
+use Rattle.std.specs.Prelude.{not}
 use Rattle.ubik_types.specs.declared.images.Change.{Change}
 use Rattle.ubik_types.specs.declared.versions.Version.{Version}
 use Rattle.ubik_types.specs.Image.{effect}
@@ -10,13 +10,11 @@ use Rattle.disk_base.specs.Crash.{LeavesOnly, Narrows, Only, RisesAtMost}
 use Rattle.disk_base.specs.Files.{Files}
 use Rattle.disk_base.specs.Runs.{OnlyReads}
 use Rattle.disk_base.specs.Stops.{IsStopped, after_changes}
-use Rattle.disk_base.proofs.Runs.{widened, rested, reads_nothing}
+use Rattle.disk_base.proofs.Runs.{widened, rested}
 use Rattle.page_file.specs.Pages.{image_of}
 use Rattle.ubik_log.proofs.Gates.{short_log_is_discarded}
-use Rattle.ubik_store.specs.declared.faults.StoreFault.{StoreFault}
-use Rattle.ubik_store.specs.declared.faults.StoreFault.TheVariants.{DiskFault}
 use Rattle.ubik_store.specs.declared.stores.Store.{Store}
-use Rattle.ubik_store.specs.DurableCall.{Commits, EndsAs, HasFailed, IsDurable, IsNeverLong}
+use Rattle.ubik_store.specs.DurableCall.{IsDurable}
 use Rattle.ubik_store.specs.Files.{StandsFor, StandsForEither}
 use Rattle.ubik_store.specs.Files.StandsFor.{by_label}
 use Rattle.ubik_store.specs.Gaps.{IsPlain, CutsNoPut}
@@ -137,11 +135,6 @@ module _ {D : Type 0} (g : Ghosts D) (s : Store D) (d : Durable) where
         steps = told (g.files s.disk) (λ fs. g.steps new ≡ g.steps s.disk + 0) (λ fs is. omega (arith, reads.steps));
       }
 
-  -- or left alone
-  pub serves_none : IsReady g s → IsThere d.image (image_in (g.files s.disk)) → s.version ≡ d.version → Serves g d s.disk s.disk []
-  serves_none ready there version =
-      serves_reads ready there version (reads_nothing s.disk)
-
 take_none : (calls : List Made) → take 0 calls ≡ []
 take_none [] = refl
 take_none (made ∷ calls) = refl
@@ -150,41 +143,50 @@ none_taken : (n : ℕ) → ◌≡◌ {A = List Made} (take n []) []
 none_taken zero = refl
 none_taken (suc n) = refl
 
-stands_here : (d : Durable) (c : Files) → StandsWithin d [] c → StandsAs d c
-stands_here d c stands = subst (λ (made : List Made). StandsAs (durable_after_all d made) c) (none_taken stands.0) stands.2
+stands_here : (d : Durable) (c : Files) (n : ℕ) (calls : List Made) → StandsAs (durable_after_all d (take n [])) c → StandsAs (durable_after_all d (take 0 calls)) c
+stands_here d c n calls stands = subst (λ (made : List Made). StandsAs (durable_after_all d made) c) (none_taken n ∙ sym (take_none calls)) stands
 
-none_within : (d : Durable) (calls : List Made) (c : Files) → StandsWithin d [] c → StandsWithin d calls c
-none_within d calls c stands = (0, omega arith, subst (λ (made : List Made). StandsAs (durable_after_all d made) c) (sym (take_none calls)) (stands_here d c stands))
+module _ {D : Type 0} (g : Ghosts D) (d : Durable) (old new : D) (calls : List Made) (fails : FailsIn g d old new []) where
+  abbrev Leaves : List Made → Type 0
+  Leaves made = LeavesOnly g.steps g.left_since old new (StandsWithin d made)
 
-module _ {D : Type 0} (g : Ghosts D) (s : Store D) (d : Durable) where
-  abbrev Leaves : D → List Made → Type 0
-  Leaves new calls = LeavesOnly g.steps g.left_since s.disk new (StandsWithin d calls)
+  -- a step whose disk fails before any durable call of it, whichever were to come
+  pub fails_none : FailsIn g d old new calls
+  fails_none = record {
+    leaves = record {
+      moments = told (g.files old) (λ _. Leaves calls) (λ fs is.
+          widened g.steps g.left_since old new (StandsWithin d []) (StandsWithin d calls) (λ c stands. (0, omega arith, stands_here d c stands.0 calls stands.2))
+          (of_told (g.files old) fs (λ _. Leaves []) is fails.leaves.moments));
+      plain = λ _. fails.leaves.plain tt;
+    };
+    whole = 0;
+    now = told (g.files old) (λ _. Narrows (StandsBetween d calls 0) (g.may_leave new)) (λ fs is c left.
+        inl (⊎_elim (λ stands. stands_here d c fails.whole calls stands) (λ stands. stands_here d c (fails.whole + 1) calls stands)
+        (of_told (g.files old) fs (λ _. Narrows (StandsBetween d [] fails.whole) (g.may_leave new)) is fails.now c left)));
+    least = told (g.files old) (λ fs. g.steps old + calls_made (has_label fs.database) (take 0 calls) ≤ g.steps new) (λ fs is.
+        let few = of_told (g.files old) fs (λ fs. g.steps old + calls_made (has_label fs.database) (take fails.whole []) ≤ g.steps new) is fails.least in
+        omega (arith, few, ap (calls_made (has_label fs.database)) (none_taken fails.whole), ap (calls_made (has_label fs.database)) (take_none calls)));
+    most = told (g.files old) (λ fs. g.steps new ≤ g.steps old + calls_made (has_label fs.database) (take 1 calls)) (λ fs is.
+        let few = of_told (g.files old) fs (λ fs. g.steps new ≤ g.steps old + calls_made (has_label fs.database) (take (fails.whole + 1) [])) is fails.most in
+        omega (arith, few, ap (calls_made (has_label fs.database)) (none_taken (fails.whole + 1))));
+    running = told (g.files old) (λ fs. ¬ IsStopped (after_changes (calls_made (has_label fs.database) (take 0 calls)) (g.stop old))) (λ fs is.
+        subst (λ (made : List Made). ¬ IsStopped (after_changes (calls_made (has_label fs.database) made) (g.stop old))) (none_taken fails.whole ∙ sym (take_none calls))
+        (of_told (g.files old) fs (λ fs. ¬ IsStopped (after_changes (calls_made (has_label fs.database) (take fails.whole [])) (g.stop old))) is fails.running));
+  }
 
-  -- a step whose disk fails before any durable call of it
-  pub fails_reads : {new : D} {F : Type 0} → IsReady g s → IsThere d.image (image_in (g.files s.disk)) → s.version ≡ d.version → OnlyReads g s.disk new F → (calls : List Made) → FailsIn g d s.disk new calls
-  fails_reads {new} ready there version reads calls =
-      let served : Serves g d s.disk new [] = serves_reads g s d ready there version reads in
-      let none : take 0 calls ≡ [] = take_none calls in
-      record {
-        leaves = record {
-          moments = told (g.files s.disk) (λ _. Leaves new calls) (λ fs is.
-              widened g.steps g.left_since s.disk new (StandsWithin d []) (StandsWithin d calls) (none_within d calls) (of_told (g.files s.disk) fs (λ _. Leaves new []) is served.leaves.moments));
-          plain = λ _. served.leaves.plain tt;
-        };
-        whole = 0;
-        now = told (g.files s.disk) (λ _. Narrows (StandsBetween d calls 0) (g.may_leave new)) (λ fs is c left.
-            let run = of_told (g.files s.disk) fs (λ _. Leaves new []) is served.leaves.moments in
-            let stands = run.each c (g.counts_now new (g.steps s.disk) c run.later left) in
-            inl (subst (λ (made : List Made). StandsAs (durable_after_all d made) c) (sym none) (stands_here d c stands)));
-        least = told (g.files s.disk) (λ fs. g.steps s.disk + calls_made (has_label fs.database) (take 0 calls) ≤ g.steps new) (λ fs is.
-            let nothing = ap (calls_made (has_label fs.database)) none in
-            omega (arith, nothing, reads.steps));
-        most = told (g.files s.disk) (λ fs. g.steps new ≤ g.steps s.disk + calls_made (has_label fs.database) (take 1 calls)) (λ fs is. omega (arith, reads.steps));
-        running = told (g.files s.disk) (λ fs. ¬ IsStopped (after_changes (calls_made (has_label fs.database) (take 0 calls)) (g.stop s.disk))) (λ fs is.
-            subst (λ (made : List Made). ¬ IsStopped (after_changes (calls_made (has_label fs.database) made) (g.stop s.disk))) (sym none) ready.runs);
-      }
-
--- a durable call that the disk made fail
-pub ended_by_disk : {D : Type 0} (g : Ghosts D) (changes : List Change) (v : Version) (old new : Store D) (r : Result (Unit {0}) StoreFault) → r ≡ Err DiskFault
-    → MatchResult r (λ _. Commits g changes v old new) (EndsAs g IsNeverLong v old new) → HasFailed old new
-ended_by_disk g changes v old new r is ended = subst (λ (r : Result (Unit {0}) StoreFault). MatchResult r (λ _. Commits g changes v old new) (EndsAs g IsNeverLong v old new)) is ended
+-- so where the disk of a store was only read
+pub fails_reads : {D : Type 0} (g : Ghosts D) (s : Store D) (d : Durable) {new : D} {F : Type 0} → IsReady g s → IsThere d.image (image_in (g.files s.disk)) → s.version ≡ d.version → OnlyReads g s.disk new F → (calls : List Made)
+    → FailsIn g d s.disk new calls
+fails_reads g s d {new} ready there version reads calls =
+    let served : Serves g d s.disk new [] = serves_reads g s d ready there version reads in
+    fails_none g d s.disk new calls (record {
+      leaves = served.leaves;
+      whole = 0;
+      now = told (g.files s.disk) (λ _. Narrows (StandsBetween d [] 0) (g.may_leave new)) (λ fs is c left.
+          let run = of_told (g.files s.disk) fs (λ _. LeavesOnly g.steps g.left_since s.disk new (StandsWithin d [])) is served.leaves.moments in
+          let stands = run.each c (g.counts_now new (g.steps s.disk) c run.later left) in
+          inl (stands_here d c stands.0 [] stands.2));
+      least = told (g.files s.disk) (λ fs. g.steps s.disk + 0 ≤ g.steps new) (λ fs is. omega (arith, reads.steps));
+      most = told (g.files s.disk) (λ fs. g.steps new ≤ g.steps s.disk + 0) (λ fs is. omega (arith, reads.steps));
+      running = told (g.files s.disk) (λ fs. ¬ IsStopped (after_changes 0 (g.stop s.disk))) (λ fs is. ready.runs);
+    })

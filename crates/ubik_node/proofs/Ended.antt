@@ -1,7 +1,6 @@
 -- The end of another server's image: what it leads to is the same where the text that was there is given out.
 use Rattle.std.proofs.Common.{◌≡◌, ◌∙◌, ℕ, Bool, true, false, cond, None, List, length, refl, sym, ap, subst}
 use Rattle.std.specs.Prelude.{◌==◌}
-use Rattle.ubik_types.specs.declared.hosts.Host.{Host}
 use Rattle.ubik_types.specs.declared.versions.Version.{Version}
 use Rattle.ubik_types.specs.Phase.{PhaseRecord}
 use Rattle.ubik_types.specs.Version.{version_lt}

@@ -1,5 +1,5 @@
 -- How rules end.
-use Rattle.std.proofs.Common.{◌≡◌, ◌≢◌, ◌++◌, ◌⊎◌, ⊎_elim, inr, ℕ, List, [], false, Option, IsSome, length, Result, Ok, Err, IfErr, IsErrAnd, IsErrOf, IsOk, refl, sym, ap, subst, ◌∙◌, append_assoc, arith}
+use Rattle.std.proofs.Common.{◌≡◌, ◌≢◌, ◌++◌, ◌⊎◌, ⊎_elim, inr, ℕ, List, [], false, Option, IsSome, length, Result, Ok, Err, OnOk, IfErr, IsErrAnd, IsErrOf, IsOk, refl, sym, ap, subst, ◌∙◌, append_assoc, arith}
 use Rattle.std.proofs.lemmas.List.{map-append}
 use Rattle.disk_base.specs.declared.disks.Disk.{Ghosts}
 use Rattle.disk_base.specs.declared.disks.FileNo.TheVariants.{Database}
@@ -12,9 +12,9 @@ use Rattle.ubik_store.specs.Store.{IsReady, image_in}
 use Rattle.ubik_store.proofs.Applied.{calls_as, calls_of}
 use Rattle.ubik_store.proofs.Telling.{ok_map}
 use Rattle.cell_model.specs.declared.events.Output.{Output}
-use Rattle.cell_model.specs.Durable.{Durable, Made}
+use Rattle.cell_model.specs.Durable.{Made}
 use Rattle.cell_model.specs.Node.{Server, halted_from}
-use Rattle.cell_model.specs.Step.{Member, Shown, Stepped, outputs_of}
+use Rattle.cell_model.specs.Step.{Shown, Stepped, outputs_of}
 use Rattle.server_state.specs.declared.state.State.{State}
 use Rattle.ubik_node.specs.Disk.{FailsIn, Serves}
 use Rattle.ubik_node.specs.Node.{CallsSo, Ends, HasFailedStore, Held, IsKept, IsMade, durable_in}
@@ -86,16 +86,20 @@ module _ {D : Type 0} (g : Ghosts D) where
     }
 
     -- a rule without a durable call, after reads
-    pub read_ends : {F : Type 0} → IsKept g n → n.halted ≡ false → OnlyReads g n.store.disk m.store.disk F → ¬ F → IsKept g m → t.calls ≡ []
-        → (knows → (t.server ≡ m.server) × (after ≡ before ++ outputs_of t.shown)) → Ends g knows t before after n m (Ok tt)
-    read_ends was up reads went stored none shows =
+    pub known_read_ends : {F : Type 0} → IsKept g n → n.halted ≡ false → OnlyReads g n.store.disk m.store.disk F → ¬ F → IsKept g m
+        → (knows → (t.calls ≡ []) × (t.server ≡ m.server) × (after ≡ before ++ outputs_of t.shown)) → Ends g knows t before after n m (Ok tt)
+    known_read_ends was up reads went stored shows =
         made_ends (reads_so reads went (λ failed. absurd failed)) stored (told_still reads went) (λ known.
         let shown = shows known in
         record {
-          server = shown.0;
-          outputs = shown.1;
-          disk = subst (λ (calls : List Made). Serves g (durable_in n.server) n.store.disk m.store.disk calls) (sym none) (serves_reads g n.store (durable_in n.server) (ready_in n was up) (was.image up) (was.version up) reads);
+          server = shown.1;
+          outputs = shown.2;
+          disk = subst (λ (calls : List Made). Serves g (durable_in n.server) n.store.disk m.store.disk calls) (sym shown.0) (serves_reads g n.store (durable_in n.server) (ready_in n was up) (was.image up) (was.version up) reads);
         })
+
+    pub read_ends : {F : Type 0} → IsKept g n → n.halted ≡ false → OnlyReads g n.store.disk m.store.disk F → ¬ F → IsKept g m → t.calls ≡ []
+        → (knows → (t.server ≡ m.server) × (after ≡ before ++ outputs_of t.shown)) → Ends g knows t before after n m (Ok tt)
+    read_ends was up reads went stored none shows = known_read_ends was up reads went stored (λ known. (none, (shows known).0, (shows known).1))
 
     -- reads that failed, or want of memory
     pub failed_ends : {F : Type 0} (e : StoreFault) → (e ≡ DiskFault) ⊎ (e ≡ NoMemory) → IsKept g n → n.halted ≡ false → OnlyReads g n.store.disk m.store.disk F → (F → e ≡ DiskFault) → (e ≡ DiskFault → F)
@@ -136,11 +140,12 @@ module _ {D : Type 0} (g : Ghosts D) where
   pub same_ends : {knows : Type 0} {t u : Stepped} {before after : List Output} {n m : Held D} {r : Result (Unit {0}) StoreFault} → t ≡ u → Ends g knows u before after n m r → Ends g knows t before after n m r
   same_ends {knows} {t} {u} {before} {after} {n} {m} {r} is ends = subst (λ (x : Stepped). Ends g knows x before after n m r) (sym is) ends
 
-  -- less is asked of the disk
-  pub known_ends : {knows less : Type 0} {t : Stepped} {before after : List Output} {n m : Held D} {r : Result (Unit {0}) StoreFault} → (less → knows) → Ends g knows t before after n m r → Ends g less t before after n m r
-  known_ends so ends = record {
-    made = λ known. ends.made (so known);
-    failed = λ known. ends.failed (so known);
+  -- A rule that is made and fails as another one. The rest of how it ends speaks of neither.
+  pub ends_as : {knows less : Type 0} {t u : Stepped} {before after first final : List Output} {n m : Held D} {r : Result (Unit {0}) StoreFault} → (less → OnOk r (IsMade g t before after n m))
+      → (less → IsErrOf r DiskFault → FailsIn g (durable_in n.server) n.store.disk m.store.disk t.calls) → Ends g knows u first final n m r → Ends g less t before after n m r
+  ends_as made failed ends = record {
+    made = made;
+    failed = failed;
     short = ends.short;
     state = ends.state;
     keeps = ends.keeps;
@@ -153,31 +158,23 @@ module _ {D : Type 0} (g : Ghosts D) where
     member = ends.member;
   }
 
+  -- less is asked of the disk
+  pub known_ends : {knows less : Type 0} {t : Stepped} {before after : List Output} {n m : Held D} {r : Result (Unit {0}) StoreFault} → (less → knows) → Ends g knows t before after n m r → Ends g less t before after n m r
+  known_ends so ends = ends_as (λ known. ends.made (so known)) (λ known. ends.failed (so known)) ends
+
   -- a rule behind what else is shown first
   pub behind_ends : {knows : Type 0} {t : Stepped} {before mid after : List Output} {n m : Held D} (shown : List Shown) (r : Result (Unit {0}) StoreFault) → mid ≡ before ++ outputs_of shown → Ends g knows t mid after n m r
       → Ends g knows (record { server = t.server; calls = t.calls; shown = shown ++ t.shown }) before after n m r
-  behind_ends {knows} {t} {before} {mid} {after} {n} {m} shown r is ends = record {
-    made = λ known.
-        ok_map r (IsMade g t mid after n m) (IsMade g (record { server = t.server; calls = t.calls; shown = shown ++ t.shown }) before after n m) (ends.made known) (λ made.
-        record {
-          server = made.server;
-          outputs =
-              made.outputs ∙ ap (λ (o : List Output). o ++ outputs_of t.shown) is ∙ append_assoc before (outputs_of shown) (outputs_of t.shown)
-              ∙ ap (λ (o : List Output). before ++ o) (sym (map-append (λ (one : Shown). one.output) shown t.shown));
-          disk = made.disk;
-        });
-    failed = ends.failed;
-    short = ends.short;
-    state = ends.state;
-    keeps = ends.keeps;
-    stored = ends.stored;
-    halts = ends.halts;
-    told = ends.told;
-    calls = ends.calls;
-    halted = ends.halted;
-    last = ends.last;
-    member = ends.member;
-  }
+  behind_ends {knows} {t} {before} {mid} {after} {n} {m} shown r is ends =
+      ends_as (λ known.
+      ok_map r (IsMade g t mid after n m) (IsMade g (record { server = t.server; calls = t.calls; shown = shown ++ t.shown }) before after n m) (ends.made known) (λ made.
+      record {
+        server = made.server;
+        outputs =
+            made.outputs ∙ ap (λ (o : List Output). o ++ outputs_of t.shown) is ∙ append_assoc before (outputs_of shown) (outputs_of t.shown)
+            ∙ ap (λ (o : List Output). before ++ o) (sym (map-append (λ (one : Shown). one.output) shown t.shown));
+        disk = made.disk;
+      })) ends.failed ends
 
   -- an error that is handed on
   pub handed_ends : {knows : Type 0} {t : Stepped} {before after : List Output} {n m : Held D} (r : Result (Unit {0}) StoreFault) (e : StoreFault) → IsErrAnd r (λ x. x ≡ e) → Ends g knows t before after n m (Err e) → Ends g knows t before after n m r

@@ -1,38 +1,19 @@
 -- A fetch: its pieces, and what the last one leads to.
-use Rattle.std.proofs.Common.{◌≡◌, ◌∙◌, ◌+◌, ◌++◌, ◌<◌, ◌≤◌, ◌↔◌, IsTrue, ℕ, Bool, true, false, cond, Option, Some, None, IfSome, IsSome, is_some, List, [], ◌∷◌, length, take, drop, min, refl, sym, ap, arith}
-use Rattle.std.specs.Prelude.{◌==◌, ◌&&◌, ◌||◌, nat_lt}
+use Rattle.std.proofs.Common.{◌≡◌, ◌∙◌, ℕ, Bool, true, false, cond, Option, Some, None, IfSome, IsSome, List, [], ◌∷◌, length, take, drop, min, refl, sym, ap}
 use Rattle.std.specs.Option.{option_map}
-use Rattle.std.proofs.lemmas.Bool.Decides.{nat_tests}
 use Rattle.std.proofs.lemmas.List.{take_min}
 use Rattle.disk_base.specs.Files.{Files}
 use Rattle.ubik_types.specs.Image.{effect}
 use Rattle.ubik_store.specs.Store.{image_in}
-use Rattle.ubik_types.specs.declared.phases.Phase.{Phase}
-use Rattle.ubik_types.specs.declared.phases.Phase.TheVariants as phase
 use Rattle.ubik_types.specs.declared.versions.Version.{Version}
-use Rattle.ubik_types.specs.Phase.{Polled, PhaseRecord, Relabel, Send, Spread}
-use Rattle.ubik_types.specs.Version.{version_eq, version_lt}
-use Rattle.ubik_calls.specs.declared.packets.Body.{Body}
-use Rattle.ubik_calls.specs.declared.packets.Body.TheVariants as body
-use Rattle.ubik_types.specs.declared.hosts.Host.{Host}
-use Rattle.cell_model.specs.declared.events.Output.{Output}
-use Rattle.cell_model.specs.Durable.{Received}
-use Rattle.cell_model.specs.Durable as durable
+use Rattle.ubik_types.specs.Phase.{Polled, Relabel}
 use Rattle.cell_model.specs.Node.{Server, ReceivedText}
 use Rattle.cell_model.specs.Pieces.{piece_from}
-use Rattle.cell_model.specs.Polls.{entry_at, only_holder}
-use Rattle.cell_model.specs.Recovery.{bytes_received, fetch_went_on, first_of_epoch, installed, is_whole, own_relabelling, piece_fits, piece_received, relabelled, relabelled_to, spread_answer, text_with}
-use Rattle.cell_model.specs.Step.{Member, Stepped, followed, host_at, is_fetch, outputs_of, quiet, sends_to, sends_to_each, showing, with_database, with_phase}
-use Rattle.cell_model.specs.Writes.{settled}
+use Rattle.cell_model.specs.Step.{is_fetch, with_database, with_phase}
 use Rattle.ubik_recovery.specs.Record as recovery
-use Rattle.ubik_recovery.specs.Record.{RecoveryRecord, adopted, best_of, host_of, in_phase, phase_record, polled_of, record_in, with_text}
-use Rattle.ubik_recovery.specs.Rules.{recovering}
-use Rattle.ubik_recovery.specs.declared.texts.TextSource.{TextSource}
-use Rattle.ubik_recovery.specs.Text.{IsNext, received_bytes, with_piece}
+use Rattle.ubik_recovery.specs.Record.{RecoveryRecord, adopted, phase_record}
 use Rattle.server_state.specs.Held.{held_image}
 use Rattle.server_state.specs.declared.state.State.{State}
-use Rattle.server_state.specs.Receiving.{fetched, front_taken}
-use Rattle.server_state.specs.Recovering.{IsOfCell}
 use Rattle.server_state.specs.State.{announced, server_of, server_with}
 use Rattle.ubik_node.proofs.Received.{held_text}
 

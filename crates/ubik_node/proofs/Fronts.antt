@@ -14,7 +14,7 @@ use Rattle.ubik_store.specs.declared.faults.StoreFault.TheVariants.{DiskFault, N
 use Rattle.cell_model.specs.declared.events.Output.{Output}
 use Rattle.cell_model.specs.Durable.{Durable, Made}
 use Rattle.cell_model.specs.Node.{Server, ReceivedText, halted_from}
-use Rattle.cell_model.specs.Recovery.{installed, text_with}
+use Rattle.cell_model.specs.Recovery.{text_with}
 use Rattle.cell_model.specs.Step.{Member, Stepped, outputs_of}
 use Rattle.ubik_recovery.specs.declared.texts.TextSource.{TextSource}
 use Rattle.ubik_recovery.specs.Record.{RecoveryRecord, phase_record, record_in, with_text}
@@ -25,7 +25,8 @@ use Rattle.ubik_node.specs.Disk.{FailsIn, Serves}
 use Rattle.ubik_node.specs.Node.{Ends, Held, IsKept, durable_in}
 use Rattle.server_state.specs.Receiving.{front_back, front_taken}
 use Rattle.server_state.specs.State.{announced, server_of, server_with}
-use Rattle.ubik_node.proofs.Endings.{fault_is, kept_with, ok_not, short_ends}
+use Rattle.ubik_node.proofs.Decided.{decided_ends}
+use Rattle.ubik_node.proofs.Endings.{ends_as, fault_is, kept_with, ok_not, short_ends}
 use Rattle.ubik_node.proofs.Received.{front_of}
 
 pub same_phase : (v : Version) (r : RecoveryRecord) (text : Option ReceivedText) → phase_record v (with_text r text) ≡ phase_record v r
@@ -96,22 +97,7 @@ module _ {D : Type 0} (g : Ghosts D) {knows : Type 0} {t : Stepped} {before afte
   module _ (mid : Server) (place : Member) (durable : durable_in mid ≡ durable_in n.server) (at : place ≡ n.member) (m : Held D) where
     -- a rule that was made at another server of the same database
     pub made_from : Ends g knows t before after (record n { server = mid; member = place }) m (Ok tt) → Ends g knows t before after n m (Ok tt)
-    made_from ends = record {
-      made = λ known.
-          let one = ends.made known in
-          record { server = one.server; outputs = one.outputs; disk = subst (λ (d : Durable). Serves g d n.store.disk m.store.disk t.calls) durable one.disk };
-      failed = λ known failed. subst (λ (d : Durable). FailsIn g d n.store.disk m.store.disk t.calls) durable (ends.failed known failed);
-      short = ends.short;
-      state = tt;
-      keeps = λ failed. absurd (ok_not tt failed);
-      stored = ends.stored;
-      halts = ends.halts;
-      told = ends.told;
-      calls = ends.calls;
-      halted = ends.halted;
-      last = ends.last;
-      member = ends.member ∙ at;
-    }
+    made_from ends = decided_ends g n mid place (Ok tt) refl (λ known. known) durable at (λ failed. absurd (ok_not tt failed)) tt ends
 
     -- or was not, and then the server comes back
     pub failed_from : (server : Server) (member : Member) (e : StoreFault) → (e ≢ DiskFault → server ≡ n.server) → (e ≡ DiskFault → halted_from server ≡ halted_from n.server) → member ≡ n.member → Ends g knows t before after (record n { server = mid; member = place }) m (Err e)
@@ -138,20 +124,8 @@ module _ {D : Type 0} (g : Ghosts D) {knows : Type 0} {t : Stepped} {before afte
 module _ {D : Type 0} (g : Ghosts D) {knows : Type 0} {t u : Stepped} {before after first final : List Output} (n m : Held D) (same : u.calls ≡ t.calls) where
   -- a rule with the durable calls of another one fails as that does
   pub fails_so : (e : StoreFault) → Ends g knows t before after n m (Err e) → Ends g knows u first final n m (Err e)
-  fails_so e ends = record {
-    made = λ known. tt;
-    failed = λ known failed. subst (λ (calls : List Made). FailsIn g (durable_in n.server) n.store.disk m.store.disk calls) (sym same) (ends.failed known failed);
-    short = ends.short;
-    state = ends.state;
-    keeps = ends.keeps;
-    stored = ends.stored;
-    halts = ends.halts;
-    told = ends.told;
-    calls = ends.calls;
-    halted = ends.halted;
-    last = ends.last;
-    member = ends.member;
-  }
+  fails_so e ends =
+      ends_as g (λ known. tt) (λ known failed. subst (λ (calls : List Made). FailsIn g (durable_in n.server) n.store.disk m.store.disk calls) (sym same) (ends.failed known failed)) ends
 
   -- a rule that goes on without the disk
   pub goes_on : (server : Server) (member : Member) → server.version ≡ m.server.version → server.image ≡ m.server.image → member ≡ m.member → (t.server ≡ m.server → (u.server ≡ server) × (final ≡ first ++ outputs_of u.shown))

@@ -1,5 +1,5 @@
 -- Changes from one image to another: how long the other one is, and when there are none.
-use Rattle.std.proofs.Common.{◌≡◌, ◌<◌, ◌≤◌, ◌+◌, ◌-◌, max, min, ℕ, Option, Some, None, List, [], ◌∷◌, length, refl, ap, ◌∙◌, inl, inr, arith}
+use Rattle.std.proofs.Common.{◌≡◌, ◌<◌, ◌≤◌, ◌+◌, ◌-◌, max, min, ℕ, None, List, [], ◌∷◌, length, refl, ap, ◌∙◌, inl, inr, arith}
 use Rattle.std.proofs.lemmas.Bool.{cases_lt}
 use Rattle.std.proofs.lemmas.Grind.{common_steps}
 use Rattle.std.proofs.lemmas.Bool.Decides.{nat_tests}
@@ -9,14 +9,11 @@ use Rattle.ubik_types.specs.Image.{changed, effect}
 use Rattle.ubik_types.specs.Logged.{passed_limit, first_of_two, too_large}
 use Rattle.db_image.specs.Blocks.{changes_between}
 use Rattle.db_image.proofs.Laid.{changes_lead}
+use Rattle.ubik_node.proofs.Logging.{none_of_two}
 
 -- a limit that is not passed
 within : (sum end : ℕ) → passed_limit sum end ≡ None → end ≤ 16777216
 within sum end none = grind (arith, nat_tests)
-
-first_none : (a b : Option ℕ) → first_of_two a b ≡ None → (a ≡ None) × (b ≡ None)
-first_none None b none = (refl, none)
-first_none (Some n) b none = absurd cc
 
 put_length : (image : List ℕ) (at : ℕ) (bytes : List ℕ) → length (changed image (Put at bytes)) ≡ max (length image) (at + length bytes)
 put_length image at bytes = grind (arith, common_steps)
@@ -30,8 +27,8 @@ effect_within [] image sum len is fits none = omega arith
 effect_within (Put at bytes ∷ changes) image sum len is fits none =
     let gap = sum + (at - len) in
     let end = max len (at + length bytes) in
-    let first = first_none (passed_limit gap (max len at)) (first_of_two (passed_limit (gap + length bytes) end) (too_large (gap + length bytes) end changes)) none in
-    let second = first_none (passed_limit (gap + length bytes) end) (too_large (gap + length bytes) end changes) first.1 in
+    let first = none_of_two (passed_limit gap (max len at)) (first_of_two (passed_limit (gap + length bytes) end) (too_large (gap + length bytes) end changes)) none in
+    let second = none_of_two (passed_limit (gap + length bytes) end) (too_large (gap + length bytes) end changes) first.1 in
     effect_within changes (changed image (Put at bytes)) (gap + length bytes) end (put_length image at bytes ∙ ap (λ (n : ℕ). max n (at + length bytes)) is) (within (gap + length bytes) end second.0) second.1
 effect_within (Cut to ∷ changes) image sum len is fits none =
     effect_within changes (changed image (Cut to)) sum (min to len) (cut_length image to ∙ ap (min to) is) (omega arith) none

@@ -1,11 +1,11 @@
 -- The least of some ids.
-use Rattle.std.proofs.Common.{◌≡◌, ℕ, ◌+◌, ◌<◌, ◌≤◌, Option, Some, None, List, [], ◌∷◌, ◌++◌, length, map, take, slice_get, refl, sym, ap, subst, ◌∙◌, append_assoc, arith}
+use Rattle.std.proofs.Common.{◌≡◌, ℕ, ◌+◌, ◌<◌, ◌≤◌, Option, Some, None, List, [], ◌∷◌, ◌++◌, length, map, take, slice_get, refl, sym, ap, ◌∙◌, append_assoc, arith}
 use Rattle.std.specs.List.{Contains}
 use Rattle.std.specs.Option.{option_map}
 use Rattle.std.proofs.lemmas.List.{map-append, take_more}
 use Rattle.std.proofs.lemmas.Option.{get_or_from_slice_get}
 use Rattle.std.specs.Prelude.{option_to_list}
-use Rattle.std.proofs.lemmas.List.Elements.{All-nil, All-push, All-weaker, Contains-append_left, Contains-append_right}
+use Rattle.std.proofs.lemmas.List.Elements.{All-nil, All-push}
 use Rattle.cell_model.specs.Node.{Flight, Waiting}
 use Rattle.ubik_node.specs.Unanswered.{IsLeastOf, ids_of}
 
@@ -15,21 +15,6 @@ contains_one id = (0, omega arith, refl)
 -- the only one
 pub least_one : (id : ℕ) → IsLeastOf (Some id) (id ∷ [])
 least_one id = (contains_one id, All-push (λ (other : ℕ). id ≤ other) [] id (All-nil (λ (other : ℕ). id ≤ other)) (omega arith))
-
--- one more that is not below it
-pub least_stays : (least id : ℕ) (ids : List ℕ) → least ≤ id → IsLeastOf (Some least) ids → IsLeastOf (Some least) (ids ++ id ∷ [])
-least_stays least id ids above is = (Contains-append_left ids (id ∷ []) least is.0, All-push (λ (other : ℕ). least ≤ other) ids id is.1 above)
-
--- one more that is below it
-pub least_falls : (least id : ℕ) (ids : List ℕ) → id < least → IsLeastOf (Some least) ids → IsLeastOf (Some id) (ids ++ id ∷ [])
-least_falls least id ids below is = (
-  Contains-append_right ids (id ∷ []) id (contains_one id),
-  All-push (λ (other : ℕ). id ≤ other) ids id (All-weaker (λ (other : ℕ). least ≤ other) (λ (other : ℕ). id ≤ other) (λ other above. omega (arith, below, above)) ids is.1) (omega arith),
-)
-
--- the first one
-pub least_first : (id : ℕ) (ids : List ℕ) → IsLeastOf None ids → IsLeastOf (Some id) (ids ++ id ∷ [])
-least_first id ids none = subst (λ (those : List ℕ). IsLeastOf (Some id) (those ++ id ∷ [])) (sym none) (least_one id)
 
 -- the ids up to a place, and the one there
 pub ids_more : (flight : Option Flight) (waiting : List Waiting) (place id : ℕ) → place < length waiting → option_map (λ (w : Waiting). w.id) (slice_get waiting place) ≡ Some id

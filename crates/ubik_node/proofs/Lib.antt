@@ -29,7 +29,5 @@ pub mod Rested
 pub mod Senders
 pub mod Served
 pub mod Stepping
-pub mod Told
 pub mod Turns
 pub mod TwoCalls
-pub mod Voted

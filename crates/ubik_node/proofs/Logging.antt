@@ -62,7 +62,7 @@ refused_in_memory s change NoMemory refused fresh is = absurd cc
 
 -- ---- changes that pass no limit
 
-none_of_two : (a b : Option ℕ) → first_of_two a b ≡ None → (a ≡ None) × (b ≡ None)
+pub none_of_two : (a b : Option ℕ) → first_of_two a b ≡ None → (a ≡ None) × (b ≡ None)
 none_of_two None b is = (refl, is)
 none_of_two (Some a) b is = absurd cc
 

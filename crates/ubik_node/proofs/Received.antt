@@ -1,29 +1,18 @@
 -- What a server takes over of another one's database.
-use Rattle.std.proofs.Common.{◌≡◌, ◌≤◌, ◌+◌, ⊎_elim, ◌↔◌, ◌++◌, ◌==◌, ◌&&◌, ◌||◌, ℕ, zero, suc, Bool, true, false, cond, IsTrue, Option, Some, None, IfSome, IsSome, List, [], ◌∷◌, length, take, drop, replicate, refl, sym, ap, ◌∙◌, arith}
-use Rattle.std.proofs.lemmas.List.{append-nil, length-append, length-take-le, take_all}
-use Rattle.std.proofs.lemmas.Bool.{false≢true}
+use Rattle.std.proofs.Common.{◌≡◌, ◌≤◌, ◌+◌, ◌++◌, ◌==◌, ℕ, zero, suc, Bool, true, false, cond, Option, Some, None, IfSome, IsSome, List, [], ◌∷◌, length, take, drop, replicate, refl, sym, ap, ◌∙◌, arith}
+use Rattle.std.proofs.lemmas.List.{append-nil, take_all}
 use Rattle.std.proofs.lemmas.Bool.Decides.{nat_tests}
 use Rattle.std.specs.Prelude.{unwrap_or}
-use Rattle.ubik_types.specs.declared.hosts.Host.{Host}
-use Rattle.ubik_types.specs.declared.phases.Phase.{Phase}
-use Rattle.ubik_types.specs.declared.phases.Phase.TheVariants as phase
 use Rattle.ubik_types.specs.declared.images.Change.TheVariants.{Cut, Put}
-use Rattle.ubik_types.specs.declared.versions.Version.{Version}
 use Rattle.ubik_types.specs.Image.{effect, extended}
-use Rattle.ubik_types.specs.Version.{version_eq, version_lt}
-use Rattle.ubik_calls.specs.declared.packets.Body.TheVariants as body
 use Rattle.disk_base.specs.Files.{Files}
 use Rattle.ubik_store.specs.Store.{image_in}
-use Rattle.cell_model.specs.Node.{Server, ReceivedText}
-use Rattle.cell_model.specs.Receiver.{answers_version_is, answers_version_kept, is_sending, relabelled_by, send_piece_received, set_version_received, text_went_on}
-use Rattle.cell_model.specs.Recovery.{continues, installed, is_whole, text_continued, text_with}
-use Rattle.cell_model.specs.Step.{Member, followed, is_fetch, quiet, sends_to, showing}
+use Rattle.cell_model.specs.Node.{ReceivedText}
+use Rattle.cell_model.specs.Recovery.{continues, text_continued, text_with}
 use Rattle.ubik_recovery.specs.declared.texts.TextSource.{TextSource}
-use Rattle.ubik_recovery.specs.Record.{RecoveryRecord, phase_record, record_in}
-use Rattle.ubik_recovery.specs.Text.{IsNext, received_bytes, text_of, with_piece}
+use Rattle.ubik_recovery.specs.Text.{received_bytes, text_of}
 use Rattle.server_rules.proofs.Fetches.{take_zero}
 use Rattle.server_state.specs.Held.{held_image}
-use Rattle.server_state.specs.Spreading.{IsSpreading}
 
 drop_none : {A : Type 0} (n : ℕ) → ◌≡◌ {A = List A} (drop n []) []
 drop_none zero = refl

@@ -1,19 +1,19 @@
 -- A relabelling: what goes to the others, and the server after it.
-use Rattle.std.proofs.Common.{◌≡◌, ◌≤◌, ◌<◌, ◌+◌, ◌++◌, ℕ, zero, suc, Bool, true, false, cond, ltb, Option, Some, None, IfSome, IsSome, List, [], ◌∷◌, length, refl, sym, ap, ◌∙◌, append_assoc, arith}
+use Rattle.std.proofs.Common.{◌≡◌, ◌≤◌, ◌<◌, ◌++◌, ℕ, zero, suc, Bool, true, false, cond, ltb, Option, Some, None, IfSome, IsSome, List, [], ◌∷◌, length, refl, sym, ap, ◌∙◌, append_assoc, arith}
 use Rattle.std.proofs.lemmas.Bool.Decides.{nat_tests}
 use Rattle.std.proofs.lemmas.List.{map-append}
 use Rattle.ubik_types.specs.declared.hosts.Host.{Host}
 use Rattle.ubik_types.specs.declared.versions.Version.{Version}
-use Rattle.ubik_types.specs.Phase.{Polled, PhaseRecord, Spread, NoPhase, Poll, Fetch, Relabel, Send, Ready}
+use Rattle.ubik_types.specs.Phase.{Polled, PhaseRecord, NoPhase, Poll, Fetch, Relabel, Send, Ready}
 use Rattle.ubik_types.specs.Quorum.{is_majority}
 use Rattle.disk_base.specs.Files.{Files}
 use Rattle.ubik_store.specs.Store.{image_in}
 use Rattle.ubik_calls.specs.declared.packets.Body.{Body}
-use Rattle.cell_model.specs.Node.{Flight, Server, ReceivedText}
+use Rattle.cell_model.specs.Node.{Flight, Server}
 use Rattle.cell_model.specs.Pieces.{piece_from}
 use Rattle.cell_model.specs.Polls.{entry_at}
 use Rattle.cell_model.specs.Recovery.{spread_answer}
-use Rattle.cell_model.specs.Step.{Member, Shown, announcing, cell_size, is_fetch, outputs_of, quiet, sends_from, sends_to_each, showing, with_database, with_phase}
+use Rattle.cell_model.specs.Step.{Member, Shown, announcing, cell_size, outputs_of, quiet, sends_from, sends_to_each, showing, with_phase}
 use Rattle.cell_model.specs.declared.events.Output.{Output}
 use Rattle.cell_model.specs.Writes.{ended_write, settled, settled_in}
 use Rattle.server_rules.proofs.Turns.{sends_same}

@@ -23,11 +23,11 @@ use Rattle.server_state.specs.Writing.{announced_of, flight_of, own_of, waiting_
 abbrev pub short_behind : List Shown → List Bool → List Bool
 short_behind shown short = replicate (count_by (λ (one : Shown). is_reply one.output) shown) false ++ short
 
-drop_none : (short : List Bool) → drop 0 short ≡ short
+pub drop_none : (short : List Bool) → drop 0 short ≡ short
 drop_none [] = refl
 drop_none (first ∷ short) = refl
 
-drop_past : (n : ℕ) (short : List Bool) → drop n (replicate n false ++ short) ≡ short
+pub drop_past : (n : ℕ) (short : List Bool) → drop n (replicate n false ++ short) ≡ short
 drop_past zero short = drop_none short
 drop_past (suc n) short = drop_past n short
 

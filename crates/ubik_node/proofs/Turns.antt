@@ -1,6 +1,6 @@
 -- The turns of those that wait.
-use Rattle.std.proofs.Common.{◌≡◌, ◌≢◌, ◌++◌, ◌⊎◌, inl, inr, ⊎_elim, ℕ, zero, suc, ◌+◌, ◌<◌, ◌≤◌, Bool, true, false, cond, eqb, Option}
-use Rattle.std.proofs.Common.{Some, None, List, [], ◌∷◌, length, drop, take, replicate, slice_get, IfErr, IsErrAnd, IsErrOf, IsOk, IsSome}
+use Rattle.std.proofs.Common.{◌≡◌, ◌++◌, ◌⊎◌, inl, inr, ⊎_elim, ℕ, zero, suc, ◌<◌, Bool, true, false, cond, eqb, Option}
+use Rattle.std.proofs.Common.{Some, None, List, [], ◌∷◌, length, drop, take, replicate, slice_get, IsErrAnd, IsErrOf, IsOk, IsSome}
 use Rattle.std.proofs.Common.{Result, Ok, Err, refl, sym, ap, subst, ◌∙◌, append_assoc, arith}
 use Rattle.std.specs.Option.{option_map}
 use Rattle.std.specs.Prelude.{OnErr, count_by}
@@ -12,32 +12,31 @@ use Rattle.ubik_types.specs.Phase.{PhaseRecord, Polled, Spread, NoPhase, Poll, F
 use Rattle.ubik_types.specs.Quorum.{is_majority}
 use Rattle.ubik_types.specs.declared.versions.Version.{Version}
 use Rattle.disk_base.specs.declared.disks.Disk.{Ghosts}
-use Rattle.disk_base.specs.Crash.{LeavesOnly, Narrows}
-use Rattle.disk_base.specs.Files.{Files}
-use Rattle.disk_base.specs.Stops.{IsStopped, after_changes}
-use Rattle.disk_base.proofs.Runs.{widened}
 use Rattle.db_image.specs.declared.services.CallReply.{CallReply}
 use Rattle.db_image.specs.declared.services.CallReply.TheVariants as call_reply
 use Rattle.db_image.specs.Database.{Database, changes_of}
 use Rattle.ubik_store.specs.declared.faults.StoreFault.{StoreFault}
 use Rattle.ubik_store.specs.declared.faults.StoreFault.TheVariants.{DiskFault}
-use Rattle.ubik_store.proofs.Telling.{of_told, ok_map, told}
+use Rattle.ubik_store.proofs.Telling.{ok_map}
 use Rattle.cell_model.specs.declared.events.Output.{Output}
-use Rattle.cell_model.specs.Durable.{Durable, Made, durable_after_all}
+use Rattle.cell_model.specs.Durable.{Made}
 use Rattle.cell_model.specs.Node.{Flight, Server, Waiting, halted_from}
 use Rattle.cell_model.specs.Step.{Member, Shown, Stepped, announcing, cell_size, followed, is_ready, is_reply, is_short, outputs_of}
 use Rattle.cell_model.specs.Step.{quiet, short_after, showing, with_phase}
 use Rattle.cell_model.specs.Writes.{ended_write, flight_settled, is_free, is_free_in, last_counter, next_turns, settled, settled_in}
 use Rattle.cell_model.specs.Writes.{settled_with_turns, turned, write_turn, written_in, written_within}
 use Rattle.site_writes.specs.OwnWrite.{OwnRecord}
-use Rattle.ubik_node.specs.Disk.{FailsIn, Serves, StandsAs, StandsBetween, StandsWithin, calls_made, has_label}
+use Rattle.ubik_node.specs.Disk.{FailsIn}
 use Rattle.ubik_node.specs.Node.{Ends, Held, IsMade, durable_in}
 use Rattle.ubik_node.specs.Serving.{IsRepliedTo}
 use Rattle.server_state.specs.State.{ShowsBehind}
 use Rattle.server_state.specs.Writing.{without_first}
 use Rattle.ubik_node.proofs.Calling.{after_reads, ended, known_so}
 use Rattle.ubik_node.proofs.Committing.{one_is_few}
-use Rattle.ubik_node.proofs.Endings.{fault_is, same_ends}
+use Rattle.ubik_node.proofs.Durables.{fails_none}
+use Rattle.ubik_node.proofs.Decided.{decided_ends}
+use Rattle.ubik_node.proofs.Endings.{ends_as, never_short, same_ends}
+use Rattle.ubik_node.proofs.Rested.{drop_none, drop_past}
 
 -- no write can begin where one is in flight
 pub writes_busy : (p : PhaseRecord) (own : Option OwnRecord) → IsSome own
@@ -117,92 +116,14 @@ with_line s waiting = record s { waiting = waiting }
 abbrev stepped : Server → List Made → List Shown → Stepped
 stepped s calls shown = record { server = s; calls = calls; shown = shown }
 
--- ---- the disk failed before any durable call, whichever were to come
-
-none_taken : (n : ℕ) → ◌≡◌ {A = List Made} (take n []) []
-none_taken zero = refl
-none_taken (suc n) = refl
-
-take_none : (calls : List Made) → take 0 calls ≡ []
-take_none [] = refl
-take_none (made ∷ calls) = refl
-
-stands_none : (d : Durable) (c : Files) (n : ℕ) (calls : List Made) → StandsAs (durable_after_all d (take n [])) c
-    → StandsAs (durable_after_all d (take 0 calls)) c
-stands_none d c n calls stands =
-    subst (λ (made : List Made). StandsAs (durable_after_all d made) c) (none_taken n ∙ sym (take_none calls)) stands
-
-module _ {D : Type 0} (g : Ghosts D) (d : Durable) (old new : D) (calls : List Made) (fails : FailsIn g d old new []) where
-  abbrev Leaves : List Made → Type 0
-  Leaves made = LeavesOnly g.steps g.left_since old new (StandsWithin d made)
-
-  pub fails_none : FailsIn g d old new calls
-  fails_none = record {
-    leaves = record {
-      moments = told (g.files old) (λ _. Leaves calls) (λ fs is.
-          widened g.steps g.left_since old new (StandsWithin d []) (StandsWithin d calls)
-          (λ c stands. (0, omega arith, stands_none d c stands.0 calls stands.2))
-          (of_told (g.files old) fs (λ _. Leaves []) is fails.leaves.moments));
-      plain = λ _. fails.leaves.plain tt;
-    };
-    whole = 0;
-    now = told (g.files old) (λ _. Narrows (StandsBetween d calls 0) (g.may_leave new)) (λ fs is c left.
-        inl (⊎_elim (λ stands. stands_none d c fails.whole calls stands) (λ stands. stands_none d c (fails.whole + 1) calls stands)
-        (of_told (g.files old) fs (λ _. Narrows (StandsBetween d [] fails.whole) (g.may_leave new)) is fails.now c left)));
-    least = told (g.files old) (λ fs. g.steps old + calls_made (has_label fs.database) (take 0 calls) ≤ g.steps new) (λ fs is.
-        let few =
-        of_told (g.files old) fs (λ fs. g.steps old + calls_made (has_label fs.database)
-        (take fails.whole []) ≤ g.steps new) is fails.least in
-        let before = ap (calls_made (has_label fs.database)) (none_taken fails.whole) in
-        let now = ap (calls_made (has_label fs.database)) (take_none calls) in
-        omega (arith, few, before, now));
-    most = told (g.files old) (λ fs. g.steps new ≤ g.steps old + calls_made (has_label fs.database) (take 1 calls)) (λ fs is.
-        let few =
-        of_told (g.files old) fs (λ fs. g.steps new ≤ g.steps old + calls_made (has_label fs.database)
-        (take (fails.whole + 1) [])) is fails.most in
-        let before = ap (calls_made (has_label fs.database)) (none_taken (fails.whole + 1)) in
-        omega (arith, few, before));
-    running =
-        told (g.files old) (λ fs. ¬ IsStopped (after_changes (calls_made (has_label fs.database) (take 0 calls)) (g.stop old))) (λ fs is.
-        subst (λ (made : List Made). ¬ IsStopped (after_changes (calls_made (has_label fs.database) made) (g.stop old)))
-        (none_taken fails.whole ∙ sym (take_none calls))
-        (of_told (g.files old) fs
-        (λ fs. ¬ IsStopped (after_changes (calls_made (has_label fs.database) (take fails.whole [])) (g.stop old))) is fails.running));
-  }
-
 -- ---- a rule that begins with a change of the server that a halted one does not tell
-
-still_so : (r : Result (Unit {0}) StoreFault) (P : Type 0) → IsErrOf r DiskFault ⊎ IsOk r → IfErr r (λ why. why ≢ DiskFault → P)
-still_so (Ok done) P fine = tt
-still_so (Err why) P fine = λ other. ⊎_elim (λ is. absurd (other (fault_is why is))) (λ is. absurd (false≢true is)) fine
 
 module _ {D : Type 0} (g : Ghosts D) {knows : Type 0} {t : Stepped} {before after : List Output} where
   pub went_on : (n : Held D) (s : Server) (place : Member) (m : Held D) (r : Result (Unit {0}) StoreFault)
       → durable_in s ≡ durable_in n.server → (IsErrOf r DiskFault → halted_from s ≡ halted_from n.server) → place ≡ n.member
       → IsErrOf r DiskFault ⊎ IsOk r
       → Ends g knows t before after (record n { server = s; member = place }) m r → Ends g knows t before after n m r
-  went_on n s place m r same keeps member fine ends = record {
-    made = λ known.
-        ok_map r (IsMade g t before after (record n { server = s; member = place }) m) (IsMade g t before after n m) (ends.made known)
-        (λ made.
-        record {
-          server = made.server;
-          outputs = made.outputs;
-          disk = subst
-              (λ (d : Durable). Serves g d n.store.disk m.store.disk t.calls) same made.disk;
-        });
-    failed = λ known failed. subst (λ (d : Durable). FailsIn g d n.store.disk m.store.disk t.calls) same (ends.failed known failed);
-    short = ends.short;
-    state = still_so r (m.server ≡ n.server) fine;
-    keeps = λ failed. ends.keeps failed ∙ keeps failed;
-    stored = ends.stored;
-    halts = ends.halts;
-    told = ends.told;
-    calls = ends.calls;
-    halted = ends.halted;
-    last = ends.last;
-    member = ends.member ∙ member;
-  }
+  went_on n s place m r same keeps member fine ends = decided_ends g n s place r refl (λ known. known) same member keeps (never_short r (s ≡ n.server) fine) ends
 
 -- ---- a turn
 
@@ -211,10 +132,6 @@ followed_rest t next is =
     ap (λ (u : Stepped). stepped u.server (t.calls ++ u.calls) (t.shown ++ u.shown)) is
     ∙ ap (λ (calls : List Made). stepped t.server calls (t.shown ++ [])) (append-nil t.calls)
     ∙ ap (λ (shown : List Shown). stepped t.server t.calls shown) (append-nil t.shown)
-
-drop_none : (short : List Bool) → drop 0 short ≡ short
-drop_none [] = refl
-drop_none (first ∷ short) = refl
 
 module _ (db : Database) (m : Member) (s : Server) (now : ℕ) (w : Waiting) (waiting : List Waiting) (b : Bool) (free : is_free s ≡ true)
     (line : s.waiting ≡ w ∷ waiting) where
@@ -281,27 +198,15 @@ module _ {D : Type 0} (g : Ghosts D) {knows : Type 0} (db : Database) (now : ℕ
       by (Ok done) fine busy one =
           known_so g (Ok done) (λ known.
           (known, turn_alone db n.member n.server now w waiting b free line (ap is_free (one.made known).server ∙ busy refl))) one
-      by (Err why) fine busy one = record {
-        made = λ known. tt;
-        failed = λ known failed.
-            ⊎_elim (λ rests. subst (λ (t : Stepped). FailsIn g (durable_in n.server) n.store.disk last.store.disk t.calls)
-            (sym (turn_alone db n.member n.server now w waiting b free line rests)) (one.failed known failed))
-            (λ rests. fails_none g (durable_in n.server) n.store.disk last.store.disk
-            (next_turns db n.member now n.server.waiting n.server (b ∷ [])).calls
-            (subst (λ (calls : List Made). FailsIn g (durable_in n.server) n.store.disk last.store.disk calls) rests.1
-            (one.failed known failed)))
-            (turn_is n.member (with_line n.server waiting) now w.id w.call others db b);
-        short = one.short;
-        state = one.state;
-        keeps = one.keeps;
-        stored = one.stored;
-        halts = one.halts;
-        told = one.told;
-        calls = one.calls;
-        halted = one.halted;
-        last = one.last;
-        member = one.member;
-      }
+      by (Err why) fine busy one =
+          ends_as g (λ known. tt) (λ known failed.
+          ⊎_elim (λ rests. subst (λ (t : Stepped). FailsIn g (durable_in n.server) n.store.disk last.store.disk t.calls)
+          (sym (turn_alone db n.member n.server now w waiting b free line rests)) (one.failed known failed))
+          (λ rests. fails_none g (durable_in n.server) n.store.disk last.store.disk
+          (next_turns db n.member now n.server.waiting n.server (b ∷ [])).calls
+          (subst (λ (calls : List Made). FailsIn g (durable_in n.server) n.store.disk last.store.disk calls) rests.1
+          (one.failed known failed)))
+          (turn_is n.member (with_line n.server waiting) now w.id w.call others db b)) one
 
   -- a turn after which one can, and then those of the others
   pub turn_goes : {more : Type 0} (mid last : Held D) (between : List Output) (short : List Bool) (r : Result (Unit {0}) StoreFault)
@@ -339,34 +244,21 @@ module _ {D : Type 0} (g : Ghosts D) {knows : Type 0} (db : Database) (now : ℕ
         turn_then db n.member n.server now w waiting b free line short rests.0 rests.1 rests.2
             ∙ ap (λ (x : Stepped). stepped x.server x.calls (t.shown ++ x.shown)) (sym same),
       )) in
-      record {
-        made = λ known.
-            let step = goes known in
-            ok_map r (IsMade g u between after n last)
-            (IsMade g (next_turns db n.member now n.server.waiting n.server (b ∷ short)) before after n last) (one.made (so known))
-            (λ made.
-            subst (λ (x : Stepped). IsMade g x before after n last) (sym step.1) (record {
-              server = made.server;
-              outputs =
-                  made.outputs ∙ ap (λ (o : List Output). o ++ outputs_of u.shown) step.0 ∙ append_assoc before (outputs_of t.shown)
-                  (outputs_of u.shown)
-                  ∙ ap (λ (o : List Output). before ++ o) (sym (map-append (λ (one : Shown). one.output) t.shown u.shown));
-              disk = made.disk;
-            }));
-        failed =
-            λ known failed. subst (λ (x : Stepped). FailsIn g (durable_in n.server) n.store.disk last.store.disk x.calls)
-            (sym (goes known).1) (one.failed (so known) failed);
-        short = one.short;
-        state = one.state;
-        keeps = one.keeps;
-        stored = one.stored;
-        halts = one.halts;
-        told = one.told;
-        calls = one.calls;
-        halted = one.halted;
-        last = one.last;
-        member = one.member;
-      }
+      ends_as g (λ known.
+      let step = goes known in
+      ok_map r (IsMade g u between after n last)
+      (IsMade g (next_turns db n.member now n.server.waiting n.server (b ∷ short)) before after n last) (one.made (so known))
+      (λ made.
+      subst (λ (x : Stepped). IsMade g x before after n last) (sym step.1) (record {
+        server = made.server;
+        outputs =
+            made.outputs ∙ ap (λ (o : List Output). o ++ outputs_of u.shown) step.0 ∙ append_assoc before (outputs_of t.shown)
+            (outputs_of u.shown)
+            ∙ ap (λ (o : List Output). before ++ o) (sym (map-append (λ (one : Shown). one.output) t.shown u.shown));
+        disk = made.disk;
+      })))
+      (λ known failed. subst (λ (x : Stepped). FailsIn g (durable_in n.server) n.store.disk last.store.disk x.calls)
+      (sym (goes known).1) (one.failed (so known) failed)) one
 
 -- nobody waits
 pub nobody_left : (db : Database) (m : Member) (now : ℕ) (s after : Server) (short : List Bool) (out : List Output) → s.waiting ≡ []
@@ -379,10 +271,6 @@ nobody_left db m now s after short out none is =
     (record { server = same; calls = refl; outputs = sym (append-nil out) })
 
 -- ---- a write that a majority has, and then the turns
-
-drop_past : (n : ℕ) (short : List Bool) → drop n (replicate n false ++ short) ≡ short
-drop_past zero short = drop_none short
-drop_past (suc n) short = drop_past n short
 
 pub settled_comes : (db : Database) (m : Member) (s mid : Server) (now : ℕ) (short : List Bool) → (settled m s).server ≡ mid
     → (settled m s).calls ≡ []

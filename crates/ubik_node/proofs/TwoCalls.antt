@@ -35,7 +35,7 @@ use Rattle.ubik_node.specs.Disk.{FailsIn, LeavesWithin, Serves, StandsAs, Stands
 use Rattle.ubik_node.specs.Node.{Ends, Held, IsKept, durable_in}
 use Rattle.ubik_node.proofs.Calling.{call_failed, ended, told_by}
 use Rattle.ubik_node.proofs.Durables.{IsThere, calls_one, fails_one, image_then, leaves_one, serves_one}
-use Rattle.ubik_node.proofs.Endings.{made_ends, reads_none}
+use Rattle.ubik_node.proofs.Endings.{ends_as, made_ends, reads_none}
 
 -- a database file that is shorter than a label is an empty one, of the first version
 pub unlabelled : (file : List ℕ) (v : Version) → version_of_database file ≡ Some v → nat_lt (length file) LABEL_LEN ≡ true → v ≡ zero_version
@@ -212,23 +212,10 @@ module _ {D : Type 0} (g : Ghosts D) (n : Held D) (was : IsKept g n) (up : n.hal
   first_failed {knows} {t} {before} {after} calls long e ends newer fits durably =
       let one : Ends g knows (record t { calls = first ∷ [] }) before after n (record n { store = mid }) (Err e) =
       call_failed g n was up n.store (reads_none g n.store.disk) (λ none. none) was.sound (record { version = refl; len = refl; begun = refl; failed = refl }) mid sound changes v image first leads same cuts count refl long e ends newer fits durably in
-      record {
-        made = λ _. tt;
-        failed = λ known _.
-            subst (λ (all : List Made). FailsIn g (durable_in n.server) n.store.disk mid.disk all) (sym calls)
-            (fails_first g n.store.disk mid.disk (durable_in n.server) first second n.store mid changes refl refl (was.sound.ready (was.failed ∙ up)) count
-            (leaves_one g n.store mid (durable_in n.server) changes v image first (was.image up) (was.version up) leads same cuts durably) durably.few);
-        short = one.short;
-        state = one.state;
-        keeps = one.keeps;
-        stored = one.stored;
-        halts = one.halts;
-        told = one.told;
-        calls = one.calls;
-        halted = one.halted;
-        last = one.last;
-        member = one.member;
-      }
+      ends_as g (λ _. tt) (λ known _.
+      subst (λ (all : List Made). FailsIn g (durable_in n.server) n.store.disk mid.disk all) (sym calls)
+      (fails_first g n.store.disk mid.disk (durable_in n.server) first second n.store mid changes refl refl (was.sound.ready (was.failed ∙ up)) count
+      (leaves_one g n.store mid (durable_in n.server) changes v image first (was.image up) (was.version up) leads same cuts durably) durably.few)) one
 
   module _ {F : Type 0} (done : Commits g changes v n.store mid) (durably : IsDurable g changes v n.store mid F) (went : ¬ F) (later : Store D) (sound_later : IsSound g later) (w : Version) (none : change_count second.call ≡ 0)
       (next : durable_after (durable v image) second.call ≡ durable w image) where

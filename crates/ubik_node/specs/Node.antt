@@ -173,10 +173,15 @@ pub record Ends {D : Type 0} (g : Ghosts D) (knows : Type 0) (t : Stepped) (befo
 abbrev pub EndsSo : {D : Type 0} → Ghosts D → (knows : Type 0) → (List Bool → Stepped) → (before after : List Output) → (old new : Held D) → Result (Unit {0}) StoreFault → Type 0
 EndsSo g knows t before after old new r = (short : List Bool) × Ends g knows (t short) before after old new r
 
+-- a step whose rule the disk failed in: the server is halted, and keeps what a halted one tells
+abbrev pub IsHalting : {D : Type 0} → NodeEvent → (back : model.Server) → (old new : Held D) → List Output → StepEnd → Type 0
+IsHalting event back old new after end =
+    (end ≡ Halted) × ((s : model.Server) × (new ≡ record old { server = s; halted = true }) × (model.halted_from s ≡ model.halted_from back))
+    × (after ≡ outputs_of (refusals event))
+
 -- How a step is closed by the end of its rule. Where the rule was not made, what the lapse gave out comes back, and nothing is put out.
 abbrev pub Closes : {D : Type 0} → Result (Unit {0}) StoreFault → NodeEvent → (back : model.Server) → (old new : Held D) → (before after : List Output) → StepEnd → Type 0
 Closes (Ok done) event back old new before after end = (end ≡ Done) × (new ≡ old) × (after ≡ before)
-Closes (Err fault.DiskFault) event back old new before after end =
-    (end ≡ Halted) × ((s : model.Server) × (new ≡ record old { server = s; halted = true }) × (model.halted_from s ≡ model.halted_from back))
-    × (after ≡ outputs_of (refusals event))
-Closes (Err _) event back old new before after end = (end ≡ NoMemory) × (new ≡ record old { server = back }) × (after ≡ [])
+Closes (Err why) event back old new before after end =
+    (why ≡ fault.DiskFault → IsHalting event back old new after end)
+    × (why ≢ fault.DiskFault → (end ≡ NoMemory) × (new ≡ record old { server = back }) × (after ≡ []))

@@ -5,7 +5,6 @@ ghost use Rattle.cell_model.specs.NodeRule.{received_from};
 ghost use Rattle.cell_model.specs.Recovery.{recovery_turn};
 ghost use Rattle.cell_model.specs.Step.{sends_to, showing};
 ghost use Rattle.server_rules.specs.Acts.{CanAct, HasRoom, MayEndShort, MayFail, own_piece, stepped_by};
-ghost use Rattle.server_rules.specs.Packets.{IsActed};
 ghost use Rattle.server_state.specs.Plain.{IsPiece, IsPlainBody};
 ghost use Rattle.ubik_node.specs.Acts.{ActNeeds};
 ghost use Rattle.ubik_node.specs.Built.{BodyTakesNoMemory, IsBuiltBody};
@@ -38,7 +37,6 @@ impl<D: Disk, V: DraftService> Node<D, V> {
         requires few { length out.old ≤ 100 }
         requires from { from < length self.old.state.cell }
         requires built { IsBuiltBody packet.now }
-        requires acted { IsActed packet.now }
         ensures ends { EndsSo D.Disk (NeedsFiles packet.now (IsSome (D.files self.old.store.disk)) (IsMeantIn V.standing (D.files self.old.store.disk) self.old.state.image))
             (λ short. received_from V.standing.database (own_member self.old) (up_server self.old) now host from packet.now short)
             out.old out.new (held self.old) (held self.new) result }

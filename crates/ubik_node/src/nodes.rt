@@ -17,10 +17,10 @@ use crate::asking::put_reply;
 use cell_model::NodeEvent;
 use db_image::DraftService;
 use disk_base::{Disk, Fill, Refused, StopDisk};
-use server_state::{Dropped, Heard, HeldImage, Outputs, State};
+use server_state::{Dropped, HeldImage, Outputs, State};
 use std::alloc::Global;
 use std::marker::PhantomData;
-use ubik_calls::{Body, DebugIs, Packet, Reply};
+use ubik_calls::{DebugIs, Packet, Reply};
 use ubik_recovery::Recovery;
 use ubik_store::{Store, StoreFault};
 use ubik_types::{Cell, Host, Phase, Version};
@@ -352,24 +352,7 @@ impl<D: Disk, V: DraftService> Node<D, V> {
         let Some(from) = self.state.cell.index(host) else {
             return Ok(());
         };
-        match &packet.body {
-            Body::Beacon {
-                start,
-                claim,
-                ready,
-                version,
-            } => {
-                let heard = Heard {
-                    start: *start,
-                    claim: *claim,
-                    ready: *ready,
-                    version: *version,
-                };
-                self.state.hear_beacon(now, from, host, heard, out);
-                Ok(())
-            }
-            body => self.heard(now, from, host, body, out),
-        }
+        self.heard(now, from, host, &packet.body, out)
     }
 }
 

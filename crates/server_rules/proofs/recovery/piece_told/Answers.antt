@@ -1,5 +1,4 @@
 use Rattle.std.proofs.Common.{◌≡◌, ◌∙◌, ◌+◌, Bool, true, Some, length, sym, subst, rules, arith, eq-eqb}
-use Rattle.ubik_types.specs.declared.versions.Version.{Version}
 use Rattle.ubik_types.specs.Version.{IsVersion}
 use Rattle.cell_model.specs.Recovery.{text_with}
 use Rattle.ubik_recovery.specs.Text.{with_piece}

@@ -1,4 +1,4 @@
-use Rattle.std.proofs.Common.{◌≡◌, ◌∙◌, ℕ, true, false, length, sym, ap, subst}
+use Rattle.std.proofs.Common.{◌≡◌, ◌∙◌, true, false, length, sym, ap, subst}
 use Rattle.ubik_types.specs.declared.phases.Phase.TheVariants as phase
 use Rattle.cell_model.specs.Recovery.{poll_asked, recovered, relabelled}
 use Rattle.ubik_recovery.specs.Record.{RecoveryRecord, adopted, is_fetch, polled_of}

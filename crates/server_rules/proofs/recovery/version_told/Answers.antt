@@ -1,4 +1,4 @@
-use Rattle.std.proofs.Common.{◌≡◌, ◌∙◌, None, length, sym, ap, subst}
+use Rattle.std.proofs.Common.{◌∙◌, None, length, sym, ap, subst}
 use Rattle.ubik_recovery.specs.Record.{RecoveryRecord, answered_by, with_text}
 use Rattle.server_state.proofs.Polled.{of_answered, of_marks}
 use Rattle.server_state.specs.Recovering.{IsOfCell}

@@ -14,8 +14,11 @@ pub returns-in-DiskFault : goal.returns-in-DiskFault
 returns-in-DiskFault g c =
     let n = c.args.self.now in
     let late = c.restore_phase.new.self in
-    closes_failed c.args.end c.args.event.now (returned c.args.given n.state) (held n) _ _ _ c.in-Err.fault _ (server_of late) c.in-Err.is c.in-DiskFault.is c.refuse.ensures.halted
-    (ap (λ (m : Member). record (held n) { server = server_of late; halted = true; member = m }) c.restore_phase.ensures.kept.member) c.restore_phase.ensures.back c.refuse.ensures.out
+    closes_failed c.args.end c.args.event.now (returned c.args.given n.state) (held n) _ _ _ c.in-Err.fault _ c.in-Err.is c.in-DiskFault.is (
+      c.refuse.ensures.halted,
+      (server_of late, ap (λ (m : Member). record (held n) { server = server_of late; halted = true; member = m }) c.restore_phase.ensures.kept.member, c.restore_phase.ensures.back),
+      c.refuse.ensures.out,
+    )
 
 pub returns-in_default : goal.returns-in_default
 returns-in_default g c =

@@ -1,4 +1,4 @@
-use Rattle.std.proofs.Common.{Err, ◌≡◌, ◌+◌, ◌∙◌, ◌++◌, true, false, take, sym, ap, arith}
+use Rattle.std.proofs.Common.{Err, ◌≡◌, ◌∙◌, ◌++◌, true, false, take, sym, ap, arith}
 use Rattle.std.specs.Result.{is_err}
 use Rattle.std.proofs.lemmas.List.{take-take}
 use Rattle.ubik_types.specs.declared.versions.Version.{Version}

@@ -1,4 +1,4 @@
-use Rattle.std.proofs.Common.{◌≡◌, ◌<◌, ◌∙◌, [], List, ℕ, IsSome, length, sym, ap, subst}
+use Rattle.std.proofs.Common.{◌∙◌, [], IsSome, length, ap}
 use Rattle.ubik_types.specs.declared.versions.Version.{Version}
 use Rattle.cell_model.specs.Durable.{durable}
 use Rattle.server_state.specs.declared.state.State.{State}

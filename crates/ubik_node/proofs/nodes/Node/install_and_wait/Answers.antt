@@ -1,4 +1,4 @@
-use Rattle.std.proofs.Common.{◌≡◌, ◌∙◌, length, refl, sym, subst}
+use Rattle.std.proofs.Common.{◌∙◌, length, refl, sym, subst}
 use Rattle.cell_model.specs.Recovery.{installed}
 use Rattle.cell_model.specs.Step.{Member}
 use Rattle.ubik_recovery.specs.Record.{polled_of}

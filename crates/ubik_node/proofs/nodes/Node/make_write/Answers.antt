@@ -12,8 +12,8 @@ use Rattle.ubik_node.specs.Node.{held, IsMeantIn, up_server}
 use Rattle.ubik_node.specs.Serving.{IsRepliedTo}
 use Rattle.server_state.specs.State.{member_of, server_of}
 use Rattle.server_state.specs.Writing.{own_of}
-use Rattle.ubik_node.proofs.Calling.{after_reads, known_read_ends, known_so, stored_read, unread_ends}
-use Rattle.ubik_node.proofs.Endings.{handed_ends, kept_with, reads_as, told_still}
+use Rattle.ubik_node.proofs.Calling.{after_reads, known_so, stored_read, unread_ends}
+use Rattle.ubik_node.proofs.Endings.{handed_ends, kept_with, known_read_ends, reads_as, told_still}
 use Rattle.ubik_node.proofs.Made.{judged_here}
 use Rattle.ubik_node.proofs.Turns.{front_whole, writes_busy}
 use Rattle.ubik_node.proofs.nodes.Node.make_write.Goals as goal

@@ -1,4 +1,4 @@
-use Rattle.std.proofs.Common.{◌≡◌, ◌∙◌, [], IsSome, refl, ap}
+use Rattle.std.proofs.Common.{◌∙◌, [], IsSome, refl, ap}
 use Rattle.ubik_types.specs.declared.versions.Version.{Version}
 use Rattle.cell_model.specs.Durable.{durable}
 use Rattle.server_rules.specs.Acts.{act_need, stepped_by}

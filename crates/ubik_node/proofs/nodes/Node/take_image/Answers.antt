@@ -1,4 +1,4 @@
-use Rattle.std.proofs.Common.{◌≡◌, ◌∙◌, ◌++◌, refl, ap}
+use Rattle.std.proofs.Common.{◌∙◌, ◌++◌, refl, ap}
 use Rattle.ubik_calls.specs.declared.packets.Body.TheVariants as body
 use Rattle.cell_model.specs.Recovery.{installed}
 use Rattle.cell_model.specs.Step.{Member, outputs_of, sends_to}

@@ -71,21 +71,9 @@ loop-self-preserved g c =
 
 pub loop-self-smaller : goal.loop-self-smaller
 loop-self-smaller g c =
-    let d = g.V.DraftService.standing in
-    let n = c.loop-self.self in
-    let st = n.state in
-    let inv = c.loop-self.invariant in
-    let free : is_free (server_of st) ≡ true = sym c.is_free.ensures ∙ c.loop-self-test.true in
-    let now = c.next_asked.new.self in
+    let those = waiting_of c.loop-self.self.state.writes in
     let w : Waiting = record { id = c.asked.inside.id; call = c.asked.inside.call } in
-    let rest = drop 1 (waiting_of st.writes) in
-    let line : waiting_of st.writes ≡ w ∷ rest = line_first (waiting_of st.writes) w (ap Some c.asked.view_is ∙ sym c.in-Some.is ∙ c.next_asked.ensures.first) in
-    let others : 1 < length st.cell = several (length st.cell) st.me w (waiting_of st.writes) rest st.place st.written.alone line in
-    let turn = c.write_turn.ensures.ends in
-    let b = is_short turn.0 in
-    let files = g.D.Disk.files n.store.disk in
-    let kept = c.next_asked.ensures.kept in
-    let known = λ (meant : IsMeantIn d files st.image). subst (λ (image : List ℕ). IsMeantIn d files image) (sym kept.image) meant in
+    let line : those ≡ w ∷ drop 1 those = line_first those w (ap Some c.asked.view_is ∙ sym c.in-Some.is ∙ c.next_asked.ensures.first) in
     omega (arith, c.write_turn.ensures.line, ap length line, ap (λ (s : Server). length s.waiting) c.next_asked.ensures.after)
 
 pub returns-in_err-write_turn-clause-ends : goal.returns-in_err-write_turn-clause-ends

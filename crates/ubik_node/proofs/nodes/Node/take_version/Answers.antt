@@ -1,4 +1,4 @@
-use Rattle.std.proofs.Common.{◌≡◌, ◌∙◌, ◌++◌, [], length, refl, sym, ap}
+use Rattle.std.proofs.Common.{◌∙◌, ◌++◌, [], length, refl, sym, ap}
 use Rattle.ubik_types.specs.Image.{effect}
 use Rattle.ubik_calls.specs.declared.packets.Body.TheVariants as body
 use Rattle.cell_model.specs.Durable as durable
