@@ -4,6 +4,7 @@ pub mod Causes
 pub mod GivenReplies
 pub mod Kept
 pub mod KeptRuns
+pub mod MeantSteps
 pub mod Recorded
 pub mod SingleReplies
 pub mod Sound

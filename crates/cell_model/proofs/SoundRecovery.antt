@@ -8,6 +8,7 @@ use Rattle.ubik_types.specs.Version.{version_lt, version_eq}
 use Rattle.ubik_types.specs.Quorum.{is_majority}
 use Rattle.ubik_types.specs.Phase.{Polled, Spread, PhaseRecord, NoPhase, Poll, Fetch, Relabel, Send, Ready}
 use Rattle.db_image.specs.Database.{Database}
+use Rattle.cell_model.specs.Evaluating.{always}
 use Rattle.cell_model.specs.Node.{Server, ReceivedText, Flight}
 use Rattle.cell_model.specs.Polls.{new_poll, polling, with_answer, best_answer}
 use Rattle.cell_model.specs.Recovery.{asks_versions, has_answered, first_of_epoch, relabelled_to, relabelled, polled, poll_asked, poll_begun, bytes_received, next_asked, spread_again, recovered, recovery_turn, holder_added, held_by, lacking_sent, told_to_spread, version_is_received, version_kept_received, next_sent, piece_kept_received, sent_piece, text_with, is_whole, fetch_installed, fetch_went_on, piece_received}
@@ -100,20 +101,20 @@ module _ (db : Database) (at : ℕ) (Stands : ℕ → List ℕ → Type 0) where
 module _ (db : Database) (now : ℕ) (Stands : ℕ → List ℕ → Type 0) where
   -- ---- holders
 
-  holder_is : (m : Member) (s : Server) (k : ℕ) (short : List Bool) → AllStand Stands s.waiting → IsSound db now Stands short (state_of s) (holder_added db m s now k short)
+  holder_is : (m : Member) (s : Server) (k : ℕ) (short : List Bool) → AllStand Stands s.waiting → IsSound db now Stands short (state_of s) (holder_added (always db) m s now k short)
   holder_is m s k short all = settled_with_turns_is db now Stands m (with_phase s (held_by s.phase k)) short all
 
   lacking_is : (m : Member) (s : Server) (host : Host) (poll : Polled) (spread : Spread) (version : Version) (f : Option Flight) (short : List Bool) → IsSound db now Stands short (state_of s) (lacking_sent m s host poll spread version f)
   lacking_is m s host poll spread version None short = record { leads = refl; caused = (tt, tt) }
   lacking_is m s host poll spread version (Some f) short = quiet_is db now Stands short s
 
-  told_is : (m : Member) (s : Server) (host : Host) (k : ℕ) (poll : Polled) (spread : Spread) (number : ℕ) (version : Version) (short : List Bool) → AllStand Stands s.waiting → IsSound db now Stands short (state_of s) (told_to_spread db m s now host k poll spread number version short)
+  told_is : (m : Member) (s : Server) (host : Host) (k : ℕ) (poll : Polled) (spread : Spread) (number : ℕ) (version : Version) (short : List Bool) → AllStand Stands s.waiting → IsSound db now Stands short (state_of s) (told_to_spread (always db) m s now host k poll spread number version short)
   told_is m s host k poll spread number version short all =
       either db now Stands (number == poll.number)
       (either db now Stands (version_eq version s.version) (holder_is m s k short all) (lacking_is m s host poll spread version s.flight short))
       (quiet_is db now Stands short s)
 
-  pub version_told_is : (m : Member) (s : Server) (host : Host) (k number : ℕ) (version : Version) (short : List Bool) (phase : PhaseRecord) → AllStand Stands s.waiting → IsSound db now Stands short (state_of s) (version_is_received db m s now host k number version short phase)
+  pub version_told_is : (m : Member) (s : Server) (host : Host) (k number : ℕ) (version : Version) (short : List Bool) (phase : PhaseRecord) → AllStand Stands s.waiting → IsSound db now Stands short (state_of s) (version_is_received (always db) m s now host k number version short phase)
   version_told_is m s host k number version short NoPhase all = quiet_is db now Stands short s
   version_told_is m s host k number version short (Poll poll) all =
       either db now Stands (number == poll.number) (polled_is db now Stands m s (with_answer poll k version) now short) (quiet_is db now Stands short s)
@@ -123,7 +124,7 @@ module _ (db : Database) (now : ℕ) (Stands : ℕ → List ℕ → Type 0) wher
   version_told_is m s host k number version short (Send poll spread) all = told_is m s host k poll spread number version short all
   version_told_is m s host k number version short (Ready poll spread announced) all = told_is m s host k poll spread number version short all
 
-  pub version_kept_is : (m : Member) (s : Server) (k : ℕ) (version : Version) (short : List Bool) (phase : PhaseRecord) → AllStand Stands s.waiting → IsSound db now Stands short (state_of s) (version_kept_received db m s now k version short phase)
+  pub version_kept_is : (m : Member) (s : Server) (k : ℕ) (version : Version) (short : List Bool) (phase : PhaseRecord) → AllStand Stands s.waiting → IsSound db now Stands short (state_of s) (version_kept_received (always db) m s now k version short phase)
   version_kept_is m s k version short NoPhase all = quiet_is db now Stands short s
   version_kept_is m s k version short (Poll poll) all = quiet_is db now Stands short s
   version_kept_is m s k version short (Fetch poll best from) all = quiet_is db now Stands short s

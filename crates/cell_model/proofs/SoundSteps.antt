@@ -10,9 +10,10 @@ use Rattle.ubik_calls.specs.declared.packets.Body.TheVariants as body
 use Rattle.db_image.specs.Database.{Database}
 use Rattle.cell_model.specs.declared.events.NodeEvent.{NodeEvent}
 use Rattle.cell_model.specs.declared.events.NodeEvent.TheVariants as event
+use Rattle.cell_model.specs.Evaluating.{always}
 use Rattle.cell_model.specs.Lapse.{write_lapsed, lapsed}
 use Rattle.cell_model.specs.Node.{Server, Flight}
-use Rattle.cell_model.specs.NodeRule.{received_from, received_packet, place_of, handled, step_of}
+use Rattle.cell_model.specs.NodeRule.{received_from, received_packet, place_of, handled, step_of, step_by}
 use Rattle.cell_model.specs.Step.{Member, Stepped, leased, short_after}
 use Rattle.cell_model.proofs.Sound.{IsSound, state_of, follows}
 use Rattle.cell_model.proofs.SoundReceiver.{lapsed_is, beacon_turn_is, beacon_received_is, vote_received_is, quiet_is, tells_is, version_set_is, piece_taken_is, write_kept_is, write_piece_is, write_committed_is, write_dropped_is, piece_asked_is}
@@ -25,7 +26,7 @@ AskStands Stands (event.Ask id call) = Stands id call
 AskStands Stands _ = Unit {0}
 
 module _ (db : Database) (now : ℕ) (Stands : ℕ → List ℕ → Type 0) where
-  received_is : (m : Member) (s : Server) (host : Host) (k : ℕ) (b : Body) (short : List Bool) → AllStand Stands s.waiting → IsSound db now Stands short (state_of s) (received_from db m s now host k b short)
+  received_is : (m : Member) (s : Server) (host : Host) (k : ℕ) (b : Body) (short : List Bool) → AllStand Stands s.waiting → IsSound db now Stands short (state_of s) (received_from (always db) m s now host k b short)
   received_is m s host k (body.Beacon start claim ready version) short all = beacon_received_is db now Stands m s now host k start claim ready version short
   received_is m s host k (body.Vote start granted) short all = vote_received_is db now Stands m s k start granted short
   received_is m s host k (body.GetVersion poll) short all = tells_is db now Stands m host poll s short
@@ -41,11 +42,11 @@ module _ (db : Database) (now : ℕ) (Stands : ℕ → List ℕ → Type 0) wher
   received_is m s host k (body.Abort new) short all = write_dropped_is db now Stands s new short
   received_is m s host k (body.VersionKept version) short all = version_kept_is db now Stands m s k version short s.phase all
 
-  packet_is : (m : Member) (s : Server) (p : Packet) (short : List Bool) (place : Option ℕ) → AllStand Stands s.waiting → IsSound db now Stands short (state_of s) (received_packet db m s now p short place)
+  packet_is : (m : Member) (s : Server) (p : Packet) (short : List Bool) (place : Option ℕ) → AllStand Stands s.waiting → IsSound db now Stands short (state_of s) (received_packet (always db) m s now p short place)
   packet_is m s p short None all = quiet_is db now Stands short s
   packet_is m s p short (Some k) all = received_is m s p.from k p.body short all
 
-  handled_is : (m : Member) (s : Server) (e : NodeEvent) (short : List Bool) → AllStand Stands s.waiting → AskStands Stands e → IsSound db now Stands short (state_of s) (handled db m s now e short)
+  handled_is : (m : Member) (s : Server) (e : NodeEvent) (short : List Bool) → AllStand Stands s.waiting → AskStands Stands e → IsSound db now Stands short (state_of s) (handled (always db) m s now e short)
   handled_is m s (event.Packet p) short all asks = packet_is m s p short (place_of m.hosts p.from) all
   handled_is m s event.BeaconTurn short all asks = beacon_turn_is db now Stands m s now short
   handled_is m s event.RecoverTurn short all asks = recovery_turn_is db now Stands m s now short
@@ -60,8 +61,8 @@ module _ (db : Database) (now : ℕ) (Stands : ℕ → List ℕ → Type 0) wher
       flight (Some f) = cond_both (nat_lt (f.began + SMALLTIME) now) _ _ (λ (t : Stepped). AllStand Stands t.server.waiting) (λ _. tt) (λ _. all)
 
   pub step_is : (m : Member) (s : Server) (e : NodeEvent) (short : List Bool) → AllStand Stands s.waiting → AskStands Stands e → IsSound db now Stands short (state_of s) (step_of db m s now e short)
-  unfolding step_of
+  unfolding step_by
   step_is m s e short all asks =
       let t = lapsed m s now in
-      follows db now Stands t (λ after. handled db m after now e (short_after t.shown short)) (lapsed_is db now Stands m s now short)
+      follows db now Stands t (λ after. handled (always db) m after now e (short_after t.shown short)) (lapsed_is db now Stands m s now short)
       (handled_is m t.server e _ (lapsed_waits m s all) asks)

@@ -19,6 +19,7 @@ use Rattle.db_image.specs.Database.{Database, changes_of}
 use Rattle.cell_model.specs.declared.events.Output.TheVariants as output
 use Rattle.cell_model.specs.Asks.{read_reply, read, write_asked, served, allows_reads, not_served, asked_elsewhere, asked_as, asked}
 use Rattle.cell_model.specs.Causes.{IsCaused}
+use Rattle.cell_model.specs.Evaluating.{always}
 use Rattle.cell_model.specs.Node.{Server, Flight, Waiting}
 use Rattle.cell_model.specs.Step.{Member, cell_size, Basis, Announced_image, Beacon_image, Evaluation, Stepped, showing, leased, is_ready, told_version, refusing, is_short, short_after}
 use Rattle.cell_model.specs.Writes.{announced_image, own_write_begun, flight_settled, settled_in, settled, written_in, written_changes, written_small, written_within, turned, write_turn, is_free, next_turns, settled_with_turns}
@@ -96,12 +97,12 @@ module _ (db : Database) (now : ℕ) (Stands : ℕ → List ℕ → Type 0) wher
       cond_both (is_short short) _ _ (IsSound db now Stands short (state_of s)) (λ is. no_memory short s id is)
       (λ _. turned_is m s id call (db.call s.image now call).image (db.call s.image now call).reply short stands refl)
 
-  next_turns_is : (m : Member) (waiting : List Waiting) (s : Server) (short : List Bool) → AllStand Stands waiting → IsSound db now Stands short (state_of s) (next_turns db m now waiting s short)
+  next_turns_is : (m : Member) (waiting : List Waiting) (s : Server) (short : List Bool) → AllStand Stands waiting → IsSound db now Stands short (state_of s) (next_turns (always db) m now waiting s short)
   next_turns_is m [] s short all = shows db now Stands short s [] tt
   next_turns_is m (w ∷ waiting) s short all =
       let t = write_turn db m (record s { waiting = waiting }) now w.id w.call (is_short short) in
       either db now Stands (is_free s)
-      (follows db now Stands t (λ after. next_turns db m now waiting after (short_after t.shown short))
+      (follows db now Stands t (λ after. next_turns (always db) m now waiting after (short_after t.shown short))
       (turn_is m (record s { waiting = waiting }) w.id w.call short all.0) (next_turns_is m waiting t.server _ all.1))
       (shows db now Stands short s [] tt)
 
@@ -120,10 +121,10 @@ module _ (db : Database) (now : ℕ) (Stands : ℕ → List ℕ → Type 0) wher
       cond_both (is_majority (cell_size m) spread.holders) _ _ (λ (t : Stepped). t.server.waiting ≡ s.waiting) (λ _. refl) (λ _. refl)
   settled_waits m s (Ready poll spread announced) = flight_waits m s poll spread announced s.flight
 
-  pub settled_with_turns_is : (m : Member) (s : Server) (short : List Bool) → AllStand Stands s.waiting → IsSound db now Stands short (state_of s) (settled_with_turns db m s now short)
+  pub settled_with_turns_is : (m : Member) (s : Server) (short : List Bool) → AllStand Stands s.waiting → IsSound db now Stands short (state_of s) (settled_with_turns (always db) m s now short)
   settled_with_turns_is m s short all =
       let t = settled m s in
-      follows db now Stands t (λ after. next_turns db m now after.waiting after (short_after t.shown short)) (settled_is m s short)
+      follows db now Stands t (λ after. next_turns (always db) m now after.waiting after (short_after t.shown short)) (settled_is m s short)
       (next_turns_is m t.server.waiting t.server _ (subst (AllStand Stands) (sym (settled_waits m s s.phase)) all))
 
   -- ---- asks

@@ -25,9 +25,10 @@ use Rattle.cell_model.specs.declared.events.Output.{Output}
 use Rattle.cell_model.specs.declared.events.Output.TheVariants as output
 use Rattle.cell_model.specs.Asks.{read_reply, read, write_asked, served, allows_reads, not_served, asked_elsewhere, asked_as}
 use Rattle.cell_model.specs.Durable.{Transaction}
+use Rattle.cell_model.specs.Evaluating.{always}
 use Rattle.cell_model.specs.Lapse.{no_quorum, writes_refused, without_writes, write_lapsed, flight_refused, waiting_refused}
 use Rattle.cell_model.specs.Node.{Server, Flight, Waiting, ReadyBeacon}
-use Rattle.cell_model.specs.NodeRule.{handled, step_of}
+use Rattle.cell_model.specs.NodeRule.{handled, step_of, step_by}
 use Rattle.cell_model.specs.Polls.{polling, best_answer}
 use Rattle.cell_model.specs.Recovery.{first_of_epoch, own_relabelling, relabelled, polled, poll_begun, recovered, recovery_turn}
 use Rattle.cell_model.specs.Step.{Member, Announced_image, Commit_on, Evaluation, Shown, Stepped, quiet, showing, followed, leased, is_ready, told_version, with_phase, announcing, refusing, replying, is_short, short_after}
@@ -386,7 +387,7 @@ abbrev pub IsOwn : NodeEvent → Type 0
 IsOwn (event.Packet p) = ⊥
 IsOwn _ = Unit {0}
 
-handled_is : (db : Database) (host : Host) (s : Server) (now : ℕ) (e : NodeEvent) (short : List Bool) → IsOwn e → IsAlone s → IsStep db s now e (handled db (one_of host) s now e short)
+handled_is : (db : Database) (host : Host) (s : Server) (now : ℕ) (e : NodeEvent) (short : List Bool) → IsOwn e → IsAlone s → IsStep db s now e (handled (always db) (one_of host) s now e short)
 handled_is db host s now (event.Packet p) short own alone = absurd own
 handled_is db host s now event.BeaconTurn short own alone =
     cond_both (beacon_is_due s.votes now 0 (leased (one_of host) s now)) _ _ (IsStep db s now event.BeaconTurn)
@@ -452,11 +453,11 @@ module _ (db : Database) (s : Server) (now : ℕ) (e : NodeEvent) where
 
 -- a step of a server that is alone, whatever the event
 pub step_is : (db : Database) (host : Host) (s : Server) (now : ℕ) (e : NodeEvent) (short : List Bool) → IsOwn e → IsAlone s → IsStep db s now e (step_of db (one_of host) s now e short)
-unfolding step_of
+unfolding step_by
 step_is db host s now e short own alone = cond_both (leased (one_of host) s now) _ _ P (λ _. kept s.flight alone.flight) (λ _. lapses)
   where
     P : Stepped → Type 0
-    P t = IsStep db s now e (followed t (λ after. handled db (one_of host) after now e (short_after t.shown short)))
+    P t = IsStep db s now e (followed t (λ after. handled (always db) (one_of host) after now e (short_after t.shown short)))
 
     kept : (f : Option Flight) → f ≡ None → P (write_lapsed (one_of host) s now f)
     kept None is = handled_is db host s now e short own alone

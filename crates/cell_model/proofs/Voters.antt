@@ -28,9 +28,10 @@ use Rattle.cell_model.specs.declared.events.NodeEvent.TheVariants as event
 use Rattle.cell_model.specs.declared.events.Output.{Output}
 use Rattle.cell_model.specs.declared.events.Output.TheVariants as output
 use Rattle.cell_model.specs.Asks.{read_reply, read, write_asked, served, allows_reads, not_served, asked_elsewhere, asked_as}
+use Rattle.cell_model.specs.Evaluating.{always}
 use Rattle.cell_model.specs.Lapse.{no_quorum, writes_refused, without_writes, write_lapsed, waiting_refused}
 use Rattle.cell_model.specs.Node.{Server, Flight, Waiting}
-use Rattle.cell_model.specs.NodeRule.{place_of, received_from, received_packet, handled, step_of}
+use Rattle.cell_model.specs.NodeRule.{place_of, received_from, received_packet, handled, step_of, step_by}
 use Rattle.cell_model.specs.Polls.{polling, best_answer}
 use Rattle.cell_model.specs.Recovery.{relabelled, polled, poll_begun, recovered}
 use Rattle.cell_model.specs.Step.{Member, cell_size, Basis, Announced_image, Beacon_image, Evaluation, Shown, Stepped, quiet, showing, followed, leased, is_ready, told_version, with_phase, host_at, packet_to, sent, sends_from, refusing, is_short, short_after}
@@ -145,13 +146,13 @@ module _ (m : Member) (s : Server) (now : ℕ) (inside : m.me < cell_size m) (vo
       (λ _. rest) (λ _. (vote_packet host b votes (All-head (HasPlace m.hosts) host hosts there), rest))
 
   packet_votes : (db : Database) (p : Packet) (k : ℕ) (b : Body) (short : List Bool) → IsOfVotes b → HasPlace m.hosts p.from
-      → Votes m (event.Packet p) (received_from db m s now p.from k b short)
+      → Votes m (event.Packet p) (received_from (always db) m s now p.from k b short)
   packet_votes db p k (body.Beacon start claim ready version) short votes there =
-      rests_as m (event.Packet p) (received_from db m s now p.from k (body.Beacon start claim ready version) short)
+      rests_as m (event.Packet p) (received_from (always db) m s now p.from k (body.Beacon start claim ready version) short)
       (record { phase = voter.phase; flight = voter.flight; waiting = voter.waiting })
       (vote_packet p.from (body.Vote start (answers_yes s.votes now k claim)) tt there, tt) refl
   packet_votes db p k (body.Vote start granted) short votes there =
-      rests_as m (event.Packet p) (received_from db m s now p.from k (body.Vote start granted) short)
+      rests_as m (event.Packet p) (received_from (always db) m s now p.from k (body.Vote start granted) short)
       (record { phase = voter.phase; flight = voter.flight; waiting = voter.waiting }) tt refl
   packet_votes db p k (body.GetVersion poll) short votes there = absurd votes
   packet_votes db p k (body.VersionIs poll version) short votes there = absurd votes
@@ -167,7 +168,7 @@ module _ (m : Member) (s : Server) (now : ℕ) (inside : m.me < cell_size m) (vo
   packet_votes db p k (body.VersionKept version) short votes there = absurd votes
 
   received_votes : (db : Database) (p : Packet) (short : List Bool) (place : Option ℕ) → IsVotePacket m.hosts p
-      → Votes m (event.Packet p) (received_packet db m s now p short place)
+      → Votes m (event.Packet p) (received_packet (always db) m s now p short place)
   received_votes db p short None taken = quiet_votes (event.Packet p)
   received_votes db p short (Some k) taken = packet_votes db p k p.body short taken.votes taken.sender
 
@@ -348,7 +349,7 @@ module _ (db : Database) (host : Host) (s : Server) (now id : ℕ) (call : List 
 
 -- a server that is alone
 alone_votes : (db : Database) (host : Host) (s : Server) (now : ℕ) (e : NodeEvent) (short : List Bool) → IsVoter (one_of host) s
-    → IsTaken (one_of host) e → Votes (one_of host) e (handled db (one_of host) s now e short)
+    → IsTaken (one_of host) e → Votes (one_of host) e (handled (always db) (one_of host) s now e short)
 alone_votes db host s now (event.Packet p) short voter taken =
     received_votes (one_of host) s now (omega arith) voter db p short (place_of (host ∷ []) p.from) taken
 alone_votes db host s now event.BeaconTurn short voter taken = beacon_votes (one_of host) s now (omega arith) voter
@@ -361,7 +362,7 @@ alone_votes db host s now (event.Ask id call) short voter taken =
 
 -- a server of a larger cell is never ready
 larger_votes : (db : Database) (m : Member) (s : Server) (now : ℕ) (e : NodeEvent) (short : List Bool) → 1 < cell_size m
-    → m.me < cell_size m → IsVoter m s → IsTaken m e → Votes m e (handled db m s now e short)
+    → m.me < cell_size m → IsVoter m s → IsTaken m e → Votes m e (handled (always db) m s now e short)
 larger_votes db m s now (event.Packet p) short larger inside voter taken =
     received_votes m s now inside voter db p short (place_of m.hosts p.from) taken
 larger_votes db m s now event.BeaconTurn short larger inside voter taken = beacon_votes m s now inside voter
@@ -376,7 +377,7 @@ larger_votes db m s now (event.Ask id call) short larger inside voter taken =
 member_votes : (db : Database) (hosts : List Host) (me : ℕ) (s : Server) (now : ℕ) (e : NodeEvent) (short : List Bool) → me < length hosts
     → IsVoter (record { hosts = hosts; me = me }) s
     → IsTaken (record { hosts = hosts; me = me }) e
-    → Votes (record { hosts = hosts; me = me }) e (handled db (record { hosts = hosts; me = me }) s now e short)
+    → Votes (record { hosts = hosts; me = me }) e (handled (always db) (record { hosts = hosts; me = me }) s now e short)
 member_votes db [] me s now e short inside voter taken = absurd (omega arith)
 member_votes db (host ∷ []) zero s now e short inside voter taken = alone_votes db host s now e short voter taken
 member_votes db (host ∷ []) (suc me) s now e short inside voter taken = absurd (omega arith)
@@ -387,20 +388,20 @@ member_votes db (a ∷ b ∷ hosts) me s now e short inside voter taken =
 
 step_votes : (db : Database) (m : Member) (s : Server) (now : ℕ) (e : NodeEvent) (short : List Bool) → m.me < cell_size m → IsVoter m s
     → IsTaken m e → Votes m e (step_of db m s now e short)
-unfolding step_of
+unfolding step_by
 step_votes db m s now e short inside voter taken = cond_both (leased m s now) _ _ P (λ _. kept s.flight voter.flight) (λ _. lapses)
   where
-    after_lapse : (before : Server) → IsVoter m before → Votes m e (handled db m before now e short)
+    after_lapse : (before : Server) → IsVoter m before → Votes m e (handled (always db) m before now e short)
     after_lapse before is = member_votes db m.hosts m.me before now e short inside is taken
 
     again : (t : Stepped) → Votes m e t → Votes m e (record { server = t.server; calls = t.calls; shown = t.shown })
     again t votes = record { server = votes.server; shown = votes.shown; rests = votes.rests }
 
     P : Stepped → Type 0
-    P t = Votes m e (followed t (λ after. handled db m after now e (short_after t.shown short)))
+    P t = Votes m e (followed t (λ after. handled (always db) m after now e (short_after t.shown short)))
 
     kept : (f : Option Flight) → f ≡ None → P (write_lapsed m s now f)
-    kept None is = again (handled db m s now e short) (after_lapse s voter)
+    kept None is = again (handled (always db) m s now e short) (after_lapse s voter)
     kept (Some f) is = absurd (cc)
 
     dropped : Server
@@ -411,7 +412,7 @@ step_votes db m s now e short inside voter taken = cond_both (leased m s now) _ 
 
     lapses : Q (writes_refused m s now phases.None)
     lapses = subst Q (sym (none_refused s.flight s.waiting _ _ voter.flight voter.waiting))
-        (again (handled db m dropped now e short) (after_lapse dropped (record { phase = inl refl; flight = refl; waiting = refl })))
+        (again (handled (always db) m dropped now e short) (after_lapse dropped (record { phase = inl refl; flight = refl; waiting = refl })))
 
 pub voters_vote : VotersVote
 voters_vote = record {

@@ -2,6 +2,7 @@ pub mod Asks
 pub mod Book
 pub mod Causes
 pub mod Durable
+pub mod Evaluating
 pub mod KeptLaws
 pub mod Lapse
 pub mod Laws

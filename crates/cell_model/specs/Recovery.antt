@@ -10,9 +10,9 @@ use Rattle.ubik_types.specs.Phase.{Polled, Spread, PhaseRecord, NoPhase, Poll, F
 use Rattle.xdr_base.specs.ChangeText.{text_of}
 use Rattle.ubik_calls.specs.declared.packets.Body.{Body}
 use Rattle.ubik_calls.specs.declared.packets.Body.TheVariants as body
-use Rattle.db_image.specs.Database.{Database}
 use Rattle.cell_model.specs.Durable.{Made, Own_relabelling, Received}
 use Rattle.cell_model.specs.Durable as durable
+use Rattle.cell_model.specs.Evaluating.{Databases}
 use Rattle.cell_model.specs.Node.{Server, ReceivedText, Flight}
 use Rattle.cell_model.specs.Pieces.{piece_from}
 use Rattle.cell_model.specs.Polls.{new_poll, polling, with_answer, best_answer, first_with, only_holder, with_holder, entry_at, is_marked}
@@ -124,8 +124,8 @@ held_by (Send poll spread) k = Send poll (with_holder spread k)
 held_by (Ready poll spread announced) k = Ready poll (with_holder spread k) announced
 held_by other k = other
 
-abbrev pub holder_added : Database → Member → Server → ℕ → ℕ → List Bool → Stepped
-holder_added db m s now k short = settled_with_turns db m (with_phase s (held_by s.phase k)) now short
+abbrev pub holder_added : Databases → Member → Server → ℕ → ℕ → List Bool → Stepped
+holder_added dbs m s now k short = settled_with_turns dbs m (with_phase s (held_by s.phase k)) now short
 
 -- A server that told another version than the own one is sent what it lacks, unless a write is in flight: the new version alone,
 -- where that server has the one before the relabelling and no commit has followed it; else the image.
@@ -136,10 +136,10 @@ lacking_sent m s host poll spread version (Some f) = quiet s
 
 -- Version told in Send or Ready, which counts only for the poll of the node: the own version makes a holder, and a server with
 -- another one is sent what it lacks.
-abbrev pub told_to_spread : Database → Member → Server → ℕ → Host → ℕ → Polled → Spread → ℕ → Version → List Bool → Stepped
-told_to_spread db m s now host k poll spread number version short =
+abbrev pub told_to_spread : Databases → Member → Server → ℕ → Host → ℕ → Polled → Spread → ℕ → Version → List Bool → Stepped
+told_to_spread dbs m s now host k poll spread number version short =
     if number == poll.number
-    then (if version_eq version s.version then holder_added db m s now k short
+    then (if version_eq version s.version then holder_added dbs m s now k short
     else lacking_sent m s host poll spread version s.flight)
     else quiet s
 
@@ -149,23 +149,23 @@ fetch_refused m s now from best k version =
     if from == k && not (version_eq version best) then quiet (polling m s now) else quiet s
 
 -- Version told: by server k, for the poll of that number.
-abbrev pub version_is_received : Database → Member → Server → ℕ → Host → ℕ → ℕ → Version → List Bool → PhaseRecord → Stepped
-version_is_received db m s now host k number version short (Poll poll) =
+abbrev pub version_is_received : Databases → Member → Server → ℕ → Host → ℕ → ℕ → Version → List Bool → PhaseRecord → Stepped
+version_is_received dbs m s now host k number version short (Poll poll) =
     if number == poll.number then polled m s (with_answer poll k version) now else quiet s
-version_is_received db m s now host k number version short (Fetch poll best from) = fetch_refused m s now from best k version
-version_is_received db m s now host k number version short (Send poll spread) =
-    told_to_spread db m s now host k poll spread number version short
-version_is_received db m s now host k number version short (Ready poll spread announced) =
-    told_to_spread db m s now host k poll spread number version short
-version_is_received db m s now host k number version short _ = quiet s
+version_is_received dbs m s now host k number version short (Fetch poll best from) = fetch_refused m s now from best k version
+version_is_received dbs m s now host k number version short (Send poll spread) =
+    told_to_spread dbs m s now host k poll spread number version short
+version_is_received dbs m s now host k number version short (Ready poll spread announced) =
+    told_to_spread dbs m s now host k poll spread number version short
+version_is_received dbs m s now host k number version short _ = quiet s
 
 -- a server says that its database is the one of this version
-abbrev pub version_kept_received : Database → Member → Server → ℕ → ℕ → Version → List Bool → PhaseRecord → Stepped
-version_kept_received db m s now k version short (Send poll spread) =
-    if version_eq version s.version then holder_added db m s now k short else quiet s
-version_kept_received db m s now k version short (Ready poll spread announced) =
-    if version_eq version s.version then holder_added db m s now k short else quiet s
-version_kept_received db m s now k version short _ = quiet s
+abbrev pub version_kept_received : Databases → Member → Server → ℕ → ℕ → Version → List Bool → PhaseRecord → Stepped
+version_kept_received dbs m s now k version short (Send poll spread) =
+    if version_eq version s.version then holder_added dbs m s now k short else quiet s
+version_kept_received dbs m s now k version short (Ready poll spread announced) =
+    if version_eq version s.version then holder_added dbs m s now k short else quiet s
+version_kept_received dbs m s now k version short _ = quiet s
 
 -- the next piece of the own image is sent, where one is left and no write is in flight
 abbrev pub next_sent : Member → Server → Host → Polled → Version → ℕ → Option Flight → Stepped

@@ -18,6 +18,7 @@ use Rattle.db_image.specs.declared.services.CallReply.TheVariants as call_reply
 use Rattle.db_image.specs.Database.{Database, changes_of}
 use Rattle.cell_model.specs.Durable.{Made, Transaction, Committed}
 use Rattle.cell_model.specs.Durable as durable
+use Rattle.cell_model.specs.Evaluating.{Databases, behind_first}
 use Rattle.cell_model.specs.Node.{Server, Flight, Waiting}
 use Rattle.cell_model.specs.Lapse.{no_quorum, waiting_refused}
 use Rattle.cell_model.specs.Pieces.{piece_count, numbered_piece}
@@ -149,16 +150,16 @@ abbrev pub is_free : Server → Bool
 is_free s = is_free_in s.phase s.flight
 
 -- the turns of those that wait, in their order, until one of them is in flight or a new poll has begun
-abbrev pub next_turns : Database → Member → ℕ → List Waiting → Server → List Bool → Stepped
-next_turns db m now [] s short = quiet s
-next_turns db m now (w ∷ waiting) s short =
+abbrev pub next_turns : Databases → Member → ℕ → List Waiting → Server → List Bool → Stepped
+next_turns dbs m now [] s short = quiet s
+next_turns dbs m now (w ∷ waiting) s short =
     if is_free s
-    then (let t = write_turn db m (record s { waiting = waiting }) now w.id w.call (is_short short) in
-    followed t (λ after. next_turns db m now waiting after (short_after t.shown short)))
+    then (let t = write_turn (dbs 0) m (record s { waiting = waiting }) now w.id w.call (is_short short) in
+    followed t (λ after. next_turns (behind_first dbs) m now waiting after (short_after t.shown short)))
     else quiet s
 
 -- Holders have come: a write that a majority has is over, and those that wait have their turns.
-abbrev pub settled_with_turns : Database → Member → Server → ℕ → List Bool → Stepped
-settled_with_turns db m s now short =
+abbrev pub settled_with_turns : Databases → Member → Server → ℕ → List Bool → Stepped
+settled_with_turns dbs m s now short =
     let t = settled m s in
-    followed t (λ after. next_turns db m now after.waiting after (short_after t.shown short))
+    followed t (λ after. next_turns dbs m now after.waiting after (short_after t.shown short))
