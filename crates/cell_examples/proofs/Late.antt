@@ -3,7 +3,7 @@ use Rattle.std.proofs.Common.{◌≡◌, refl, sym, ◌∙◌}
 use Rattle.std.specs.Prelude.{List, [], ◌∷◌}
 use Rattle.xdr_base.specs.Reading.{opaque_at, count_at}
 use Rattle.cell_model.specs.Book.{Announcement}
-use Rattle.cell_model.specs.NodeRule.{step_of}
+use Rattle.cell_model.specs.NodeRule.{step_of, step_by}
 use Rattle.cell_examples.specs.Late.{LateCommitIsUndone, PollsOfOneSecond, fetched, late_commit}
 use Rattle.cell_examples.specs.Showing.{three, version, announcements_of}
 
@@ -12,15 +12,15 @@ abbrev only_first : List Announcement
 only_first = record { server = 0; version = version 176 1; transactions = [] } ∷ []
 
 fetched_announced : announcements_of three fetched ≡ only_first
-unfolding step_of opaque_at count_at
+unfolding step_by opaque_at count_at
 fetched_announced = refl
 
 late_announced : announcements_of three late_commit ≡ only_first
-unfolding step_of opaque_at count_at
+unfolding step_by opaque_at count_at
 late_announced = refl
 
 pub is_undone : LateCommitIsUndone
-unfolding step_of opaque_at count_at
+unfolding step_by opaque_at count_at
 is_undone = record {
   run = (refl, (refl, (refl, (refl, (refl, (refl, (refl, (refl, (refl, (refl, (refl, (refl, (refl, (refl, (refl, (refl, (refl, (refl, (refl, (refl, (refl, (refl, (refl, (refl, (refl, (refl, (refl, (refl, (refl, (refl, (refl, tt)))))))))))))))))))))))))))))));
   before = refl;
@@ -31,7 +31,7 @@ is_undone = record {
 }
 
 pub of_one_second : PollsOfOneSecond
-unfolding step_of opaque_at count_at
+unfolding step_by opaque_at count_at
 of_one_second = record {
   run = (refl, (refl, (refl, (refl, (refl, (refl, (refl, (refl, (refl, (refl, (refl, (refl, (refl, (refl, (refl, (refl, (refl, (refl, (refl, (refl, (refl, (refl, (refl, tt)))))))))))))))))))))));
   first = refl;

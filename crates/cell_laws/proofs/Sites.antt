@@ -20,9 +20,10 @@ use Rattle.lease_model.proofs.Places.{in_more, at_length, and_both}
 use Rattle.cell_model.specs.declared.events.NodeEvent.{NodeEvent}
 use Rattle.cell_model.specs.declared.events.NodeEvent.TheVariants as event
 use Rattle.cell_model.specs.Durable.{Durable, Made, Reason, Own_relabelling, Committed, Received, version_after}
+use Rattle.cell_model.specs.Evaluating.{always}
 use Rattle.cell_model.specs.Lapse.{lapsed}
 use Rattle.cell_model.specs.Node.{Node, Down, Halted, Up, Server}
-use Rattle.cell_model.specs.NodeRule.{received_from, received_packet, place_of, step_of}
+use Rattle.cell_model.specs.NodeRule.{received_from, received_packet, place_of, step_of, step_by}
 use Rattle.cell_model.specs.Step.{Member, Shown, Stepped, quiet, showing, leased, is_ready, told_version, host_at, short_after}
 use Rattle.cell_model.specs.Voting.{beacon_taken, beacon_turn, beacon_received, vote_received}
 use Rattle.cell_model.specs.World.{Site}
@@ -348,18 +349,18 @@ module _ (db : Database) (hosts : List Host) (x : Leases) (k : ℕ) (site : Site
   -- ---- every event
 
   received_does : (host : Host) (j : ℕ) (c : Body) (short : List Bool) → place_of hosts host ≡ Some j →
-      Tells x c (place_of hosts host) (Some k) → IsVote (received_from db m u site.clock host j c short) ⊎ IsOther c
+      Tells x c (place_of hosts host) (Some k) → IsVote (received_from (always db) m u site.clock host j c short) ⊎ IsOther c
   received_does host j (body.Beacon start claim ready version) short from told = inl (beacon_is host j start claim ready version from told)
   received_does host j (body.Vote start granted) short from told = inl (vote_is host j start granted from told)
   received_does host j _ short from told = inr tt
 
   pub step_does : (e : NodeEvent) (short : List Bool) → EventTold hosts x k e →
       Does hosts x k site.clock s (step_of db m s site.clock e short)
-  unfolding step_of
+  unfolding step_by
   step_does (event.Packet p) short told = by (place_of hosts p.from) refl
     where
       P : Option ℕ → Type 0
-      P place = Does hosts x k site.clock s (behind (received_packet db m u site.clock p (short_after lapse.shown short) place))
+      P place = Does hosts x k site.clock s (behind (received_packet (always db) m u site.clock p (short_after lapse.shown short) place))
 
       rest : IsOther p.body → P (place_of hosts p.from)
       rest other = rests_does _ (step_rests db m site.clock (ballot_of s) Claim claim_now s (event.Packet p) short other refl claims)
@@ -368,8 +369,8 @@ module _ (db : Database) (hosts : List Host) (x : Leases) (k : ℕ) (site : Site
       here_to = subst (Tells x p.body (place_of hosts p.from)) told.1 told.0
 
       kind : (j : ℕ) → place_of hosts p.from ≡ Some j →
-          IsVote (received_from db m u site.clock p.from j p.body (short_after lapse.shown short)) ⊎ IsOther p.body → P (Some j)
-      kind j from (inl vote) = vote_does (received_from db m u site.clock p.from j p.body (short_after lapse.shown short)) vote
+          IsVote (received_from (always db) m u site.clock p.from j p.body (short_after lapse.shown short)) ⊎ IsOther p.body → P (Some j)
+      kind j from (inl vote) = vote_does (received_from (always db) m u site.clock p.from j p.body (short_after lapse.shown short)) vote
       kind j from (inr other) = subst P from (rest other)
 
       by : (place : Option ℕ) → place_of hosts p.from ≡ place → P place

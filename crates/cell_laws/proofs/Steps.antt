@@ -26,9 +26,10 @@ use Rattle.ubik_calls.specs.declared.packets.Packet.{Packet}
 use Rattle.cell_model.specs.declared.events.NodeEvent.{NodeEvent}
 use Rattle.cell_model.specs.declared.events.NodeEvent.TheVariants as event
 use Rattle.cell_model.specs.Asks.{read, write_asked, served, allows_reads, asked_elsewhere, asked_as}
+use Rattle.cell_model.specs.Evaluating.{always}
 use Rattle.cell_model.specs.Lapse.{writes_refused, phase_dropped, write_lapsed, lapsed}
 use Rattle.cell_model.specs.Node.{Server, KeptWrite, ReceivedText, Flight, Waiting}
-use Rattle.cell_model.specs.NodeRule.{received_from, received_packet, place_of, handled, step_of}
+use Rattle.cell_model.specs.NodeRule.{received_from, received_packet, place_of, handled, step_of, step_by}
 use Rattle.cell_model.specs.Polls.{new_poll, polling, with_answer, best_answer, first_with, entry_at, is_marked}
 use Rattle.cell_model.specs.Receiver.{is_sending, answers_version_kept, answers_version_is, relabelled_by, set_version_received}
 use Rattle.cell_model.specs.Receiver.{text_went_on, send_piece_received, empty_write, begin_received, kept_with, put_piece_received}
@@ -206,12 +207,12 @@ module _ (db : Database) (m : Member) (now : ℕ) (b : Ballot) (Claim : ℕ → 
   free_held (Send poll spread) f is = refl
   free_held (Ready poll spread announced) f is = refl
 
-  next_turns_is : (waiting : List Waiting) (s : Server) (short : List Bool) → F s → R s (next_turns db m now waiting s short)
+  next_turns_is : (waiting : List Waiting) (s : Server) (short : List Bool) → F s → R s (next_turns (always db) m now waiting s short)
   next_turns_is [] s short fit = rests s fit
   next_turns_is (w ∷ waiting) s short fit =
       either s (is_free s) _ _
       (λ free. follows s (write_turn db m (record s { waiting = waiting }) now w.id w.call (is_short short))
-      (λ after. next_turns db m now waiting after
+      (λ after. next_turns (always db) m now waiting after
       (short_after (write_turn db m (record s { waiting = waiting }) now w.id w.call (is_short short)).shown short))
       (before s (record s { waiting = waiting }) _ refl
       (turn_is (record s { waiting = waiting }) w.id w.call (is_short short) (waiting_fit s waiting fit)
@@ -219,9 +220,9 @@ module _ (db : Database) (m : Member) (now : ℕ) (b : Ballot) (Claim : ℕ → 
       (λ fit. next_turns_is waiting _ _ fit))
       (λ _. rests s fit)
 
-  settled_with_turns_is : (s : Server) (short : List Bool) → F s → R s (settled_with_turns db m s now short)
+  settled_with_turns_is : (s : Server) (short : List Bool) → F s → R s (settled_with_turns (always db) m s now short)
   settled_with_turns_is s short fit =
-      follows s (settled m s) (λ after. next_turns db m now after.waiting after (short_after (settled m s).shown short)) (settled_is s fit)
+      follows s (settled m s) (λ after. next_turns (always db) m now after.waiting after (short_after (settled m s).shown short)) (settled_is s fit)
       (λ fit. next_turns_is (settled m s).server.waiting (settled m s).server _ fit)
 
   -- ---- asks
@@ -382,7 +383,7 @@ module _ (db : Database) (m : Member) (now : ℕ) (b : Ballot) (Claim : ℕ → 
   held_sending (Send poll spread) k = refl
   held_sending (Ready poll spread announced) k = refl
 
-  holder_is : (s : Server) (k : ℕ) (short : List Bool) → F s → R s (holder_added db m s now k short)
+  holder_is : (s : Server) (k : ℕ) (short : List Bool) → F s → R s (holder_added (always db) m s now k short)
   holder_is s k short fit =
       before s (with_phase s (held_by s.phase k)) _ refl (settled_with_turns_is (with_phase s (held_by s.phase k)) short held)
     where
@@ -399,7 +400,7 @@ module _ (db : Database) (m : Member) (now : ℕ) (b : Ballot) (Claim : ℕ → 
   lacking_is s host poll spread version (Some f) fit = rests s fit
 
   told_is : (s : Server) (host : Host) (k : ℕ) (poll : Polled) (spread : Spread) (number : ℕ) (version : Version) (short : List Bool) →
-      F s → R s (told_to_spread db m s now host k poll spread number version short)
+      F s → R s (told_to_spread (always db) m s now host k poll spread number version short)
   told_is s host k poll spread number version short fit =
       either s (number == poll.number) _ _
       (λ _. either s (version_eq version s.version) _ _ (λ _. holder_is s k short fit)
@@ -407,7 +408,7 @@ module _ (db : Database) (m : Member) (now : ℕ) (b : Ballot) (Claim : ℕ → 
       (λ _. rests s fit)
 
   version_told_is : (s : Server) (host : Host) (k number : ℕ) (version : Version) (short : List Bool) (phase : PhaseRecord) →
-      s.phase ≡ phase → F s → R s (version_is_received db m s now host k number version short phase)
+      s.phase ≡ phase → F s → R s (version_is_received (always db) m s now host k number version short phase)
   version_told_is s host k number version short NoPhase at fit = rests s fit
   version_told_is s host k number version short (Poll poll) at fit =
       either s (number == poll.number) _ _ (λ _. polled_is s (with_answer poll k version) fit (fit.held (ap is_held at))) (λ _. rests s fit)
@@ -420,7 +421,7 @@ module _ (db : Database) (m : Member) (now : ℕ) (b : Ballot) (Claim : ℕ → 
   version_told_is s host k number version short (Ready poll spread announced) at fit = told_is s host k poll spread number version short fit
 
   version_kept_is : (s : Server) (k : ℕ) (version : Version) (short : List Bool) (phase : PhaseRecord) → F s →
-      R s (version_kept_received db m s now k version short phase)
+      R s (version_kept_received (always db) m s now k version short phase)
   version_kept_is s k version short NoPhase fit = rests s fit
   version_kept_is s k version short (Poll poll) fit = rests s fit
   version_kept_is s k version short (Fetch poll best from) fit = rests s fit
@@ -557,7 +558,7 @@ module _ (db : Database) (m : Member) (now : ℕ) (b : Ballot) (Claim : ℕ → 
   -- ---- every event but those of votes
 
   received_is : (s : Server) (host : Host) (k : ℕ) (c : Body) (short : List Bool) → IsOther c → F s →
-      R s (received_from db m s now host k c short)
+      R s (received_from (always db) m s now host k c short)
   received_is s host k (body.Beacon start claim ready version) short other fit = absurd other
   received_is s host k (body.Vote start granted) short other fit = absurd other
   received_is s host k (body.GetVersion poll) short other fit = tells_is s host poll fit
@@ -576,11 +577,11 @@ module _ (db : Database) (m : Member) (now : ℕ) (b : Ballot) (Claim : ℕ → 
   received_is s host k (body.VersionKept version) short other fit = version_kept_is s k version short s.phase fit
 
   packet_is : (s : Server) (p : Packet) (short : List Bool) (place : Option ℕ) → IsOther p.body → F s →
-      R s (received_packet db m s now p short place)
+      R s (received_packet (always db) m s now p short place)
   packet_is s p short None other fit = rests s fit
   packet_is s p short (Some k) other fit = received_is s p.from k p.body short other fit
 
-  handled_is : (s : Server) (e : NodeEvent) (short : List Bool) → IsOtherEvent e → F s → R s (handled db m s now e short)
+  handled_is : (s : Server) (e : NodeEvent) (short : List Bool) → IsOtherEvent e → F s → R s (handled (always db) m s now e short)
   handled_is s (event.Packet p) short other fit = packet_is s p short (place_of m.hosts p.from) other fit
   handled_is s event.BeaconTurn short other fit = absurd other
   handled_is s event.RecoverTurn short other fit = recovered_is s s.phase refl fit
@@ -588,7 +589,7 @@ module _ (db : Database) (m : Member) (now : ℕ) (b : Ballot) (Claim : ℕ → 
 
   pub step_rests : (s : Server) (e : NodeEvent) (short : List Bool) → IsOtherEvent e → ballot_of s ≡ b → Claims Claim s →
       R s (step_of db m s now e short)
-  unfolding step_of
+  unfolding step_by
   step_rests s e short other ballot claims =
-      follows s (lapsed m s now) (λ after. handled db m after now e (short_after (lapsed m s now).shown short)) (lapsed_is s ballot claims)
+      follows s (lapsed m s now) (λ after. handled (always db) m after now e (short_after (lapsed m s now).shown short)) (lapsed_is s ballot claims)
       (λ fit. handled_is (lapsed m s now).server e _ other fit)

@@ -22,6 +22,7 @@ use Rattle.db_image.specs.Database.{Database, changes_of}
 use Rattle.cell_model.specs.Asks.{read_reply, read, write_asked, served, allows_reads, not_served, asked_elsewhere, asked_as}
 use Rattle.cell_model.specs.Book.{Book, BookVersion, entered, with_version}
 use Rattle.cell_model.specs.Durable.{Made, Committed, version_after}
+use Rattle.cell_model.specs.Evaluating.{always}
 use Rattle.cell_model.specs.KeptLaws.{IsReplyOf, IsUngiven}
 use Rattle.cell_model.specs.Node.{Server, Flight, Waiting}
 use Rattle.cell_model.specs.Polls.{new_poll, polling}
@@ -631,12 +632,12 @@ module _ (db : Database) (m : Member) (now : ℕ) (starts : List (Option ℕ)) (
       (λ _. turned_is h s id call (db.call s.image now call).image (db.call s.image now call).reply lease ready free refl refl asked fit pure)
 
   next_turns_is : (waiting : List Waiting) (h : History) (s : Server) (short : List Bool) → AllWait Called waiting → Fit h s → Pure h s →
-      GoesPure h s.version (next_turns db m now waiting s short)
+      GoesPure h s.version (next_turns (always db) m now waiting s short)
   next_turns_is [] h s short all fit pure = (rests h s fit, pure)
   next_turns_is (w ∷ waiting) h s short all fit pure =
       either_pure h s.version (is_free s) _ _
       (λ free. follows_pure h s.version (write_turn db m (record s { waiting = waiting }) now w.id w.call (is_short short))
-      (λ after. next_turns db m now waiting after
+      (λ after. next_turns (always db) m now waiting after
       (short_after (write_turn db m (record s { waiting = waiting }) now w.id w.call (is_short short)).shown short))
       (turn_is h (record s { waiting = waiting }) w.id w.call (is_short short) (fit.held (free_held s.phase s.flight free))
       (free_ready s.phase s.flight free) (free_none s.phase s.flight free) all.0
@@ -645,9 +646,9 @@ module _ (db : Database) (m : Member) (now : ℕ) (starts : List (Option ℕ)) (
       (λ _. (rests h s fit, pure))
 
   pub settled_with_turns_is : (h : History) (s : Server) (short : List Bool) → Fit h s → Pure h s →
-      Goes h s.version (settled_with_turns db m s now short)
+      Goes h s.version (settled_with_turns (always db) m s now short)
   settled_with_turns_is h s short fit pure =
-      follows h s.version (settled m s) (λ after. next_turns db m now after.waiting after (short_after (settled m s).shown short))
+      follows h s.version (settled m s) (λ after. next_turns (always db) m now after.waiting after (short_after (settled m s).shown short))
       (settled_is h s fit)
       (λ fit. (next_turns_is (settled m s).server.waiting _ (settled m s).server _ fit.calls.1 fit (settled_pure db m h s pure)).0)
 

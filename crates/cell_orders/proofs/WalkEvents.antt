@@ -25,9 +25,10 @@ use Rattle.cell_model.specs.Asks.{asked_as}
 use Rattle.cell_model.specs.Book.{with_version}
 use Rattle.cell_model.specs.Durable.{Made, Received, version_after}
 use Rattle.cell_model.specs.Durable as durables
+use Rattle.cell_model.specs.Evaluating.{always}
 use Rattle.cell_model.specs.Lapse.{writes_refused, phase_dropped, write_given_up, write_lapsed, lapsed, without_writes}
 use Rattle.cell_model.specs.Node.{Server, ReceivedText, Flight}
-use Rattle.cell_model.specs.NodeRule.{received_from, received_packet, place_of, handled, step_of}
+use Rattle.cell_model.specs.NodeRule.{received_from, received_packet, place_of, handled, step_of, step_by}
 use Rattle.cell_model.specs.Polls.{new_poll, polling}
 use Rattle.cell_model.specs.Receiver.{is_sending, answers_version_kept, answers_version_is, relabelled_by, set_version_received}
 use Rattle.cell_model.specs.Receiver.{text_went_on, send_piece_received, empty_write, begin_received, kept_with, put_piece_received}
@@ -151,11 +152,11 @@ module _ (db : Database) (m : Member) (now : ℕ) (starts : List (Option ℕ)) (
   version_told_is : (h : History) (s : Server) (host : Host) (k number : ℕ) (version : Version) (short : List Bool)
       (phase : PhaseRecord) →
       Answered k number version × Kept k version → s.phase ≡ phase → Fit h s → Pure h s →
-      Goes h s.version (version_is_received db m s now host k number version short phase)
+      Goes h s.version (version_is_received (always db) m s now host k number version short phase)
   version_told_is = recovery.version_told_is db m now starts Called Asked Answered Kept I moves
 
   version_kept_is : (h : History) (s : Server) (k : ℕ) (version : Version) (short : List Bool) (phase : PhaseRecord) → Kept k version →
-      Fit h s → Pure h s → Goes h s.version (version_kept_received db m s now k version short phase)
+      Fit h s → Pure h s → Goes h s.version (version_kept_received (always db) m s now k version short phase)
   version_kept_is = recovery.version_kept_is db m now starts Called Asked Answered Kept I moves
 
   -- ---- the receiver
@@ -424,7 +425,7 @@ module _ (db : Database) (m : Member) (now : ℕ) (starts : List (Option ℕ)) (
 
   received_is : (h : History) (s : Server) (host : Host) (k : ℕ) (c : Body) (short : List Bool) → place_of m.hosts host ≡ Some k →
       Brings Asked Answered Kept k c → Names h.announced c → Fit h s → Pure h s →
-      Ends h s.version (received_from db m s now host k c short)
+      Ends h s.version (received_from (always db) m s now host k c short)
   received_is h s host k c short place brings names fit pure = by c brings names
     where
       by_host : (number : ℕ) → Asked k number → AskedBy host number
@@ -441,7 +442,7 @@ module _ (db : Database) (m : Member) (now : ℕ) (starts : List (Option ℕ)) (
           (λ _. cond_both (not ready && is_beacon_of k s.beacon) None s.beacon (IsNamed h.announced) (λ _. tt) (λ _. fit.beacon))
 
       by : (c : Body) → Brings Asked Answered Kept k c → Names h.announced c →
-          Ends h s.version (received_from db m s now host k c short)
+          Ends h s.version (received_from (always db) m s now host k c short)
       by (body.Beacon start claim ready version) brings names = record {
         keeps =
             moves.shows h (stand_of (beacon_received m s now host k start claim ready version).server)
@@ -491,7 +492,7 @@ module _ (db : Database) (m : Member) (now : ℕ) (starts : List (Option ℕ)) (
 
   packet_is : (h : History) (s : Server) (p : Packet) (short : List Bool) (place : Option ℕ) → place_of m.hosts p.from ≡ place →
       ((k : ℕ) → place ≡ Some k → Brings Asked Answered Kept k p.body) → Names h.announced p.body → Fit h s → Pure h s →
-      Ends h s.version (received_packet db m s now p short place)
+      Ends h s.version (received_packet (always db) m s now p short place)
   packet_is h s p short None is brings names fit pure = ended h s.version _ (rests h s fit)
   packet_is h s p short (Some k) is brings names fit pure = received_is h s p.from k p.body short is (brings k refl) names fit pure
 
@@ -502,7 +503,7 @@ module _ (db : Database) (m : Member) (now : ℕ) (starts : List (Option ℕ)) (
   EventBrings _ = Unit {0}
 
   handled_is : (h : History) (s : Server) (e : NodeEvent) (short : List Bool) → EventBrings e → EventNames h.announced e → Fit h s →
-      Pure h s → Ends h s.version (handled db m s now e short)
+      Pure h s → Ends h s.version (handled (always db) m s now e short)
   handled_is h s (event.Packet p) short brings names fit pure = packet_is h s p short (place_of m.hosts p.from) refl brings names fit pure
   handled_is h s event.BeaconTurn short brings names fit pure = beacon_turn_is h s fit
   handled_is h s event.RecoverTurn short brings names fit pure = ended h s.version _ (recovered_is h s s.phase refl fit)
@@ -512,7 +513,7 @@ module _ (db : Database) (m : Member) (now : ℕ) (starts : List (Option ℕ)) (
       FlightMade db h.book s.version s.phase s.flight → IsLevel s.version s.phase s.flight → IsNamed h.announced s.beacon →
       CallsKnown Called s.flight s.waiting → IsImageOf db h.book s.version s.image → EventBrings e → EventNames h.announced e → I h (stand_of s) →
       Ends h s.version (step_of db m s now e short)
-  unfolding step_of
+  unfolding step_by
   step_ends h s e short same leads flown level beacon calls pure brings names keeps =
       then (lapsed_is h s same leads flown level beacon calls keeps)
     where
@@ -520,7 +521,7 @@ module _ (db : Database) (m : Member) (now : ℕ) (starts : List (Option ℕ)) (
       t = lapsed m s now
 
       next : Server → Stepped
-      next after = handled db m after now e (short_after t.shown short)
+      next after = handled (always db) m after now e (short_after t.shown short)
 
       then : Goes h s.version t → Ends h s.version (followed t next)
       then first =

@@ -15,6 +15,7 @@ use Rattle.db_image.specs.Database.{Database}
 use Rattle.cell_model.specs.Book.{with_version}
 use Rattle.cell_model.specs.Durable.{Made, Received, version_after}
 use Rattle.cell_model.specs.Durable as durables
+use Rattle.cell_model.specs.Evaluating.{always}
 use Rattle.cell_model.specs.Node.{Server, ReceivedText, Flight}
 use Rattle.cell_model.specs.Polls.{new_poll, polling, with_answer, best_answer, first_with, entry_at, is_marked}
 use Rattle.cell_model.specs.Receiver.{is_sending}
@@ -104,7 +105,7 @@ module _ (db : Database) (m : Member) (now : ℕ) (starts : List (Option ℕ)) (
   Pure h s = walk.Pure db m now starts Called Asked Answered Kept I moves h s
 
   settled_with_turns_is : (h : History) (s : Server) (short : List Bool) → Fit h s → Pure h s →
-      Goes h s.version (settled_with_turns db m s now short)
+      Goes h s.version (settled_with_turns (always db) m s now short)
   settled_with_turns_is = walk.settled_with_turns_is db m now starts Called Asked Answered Kept I moves
 
   -- ---- recovery
@@ -301,7 +302,7 @@ module _ (db : Database) (m : Member) (now : ℕ) (starts : List (Option ℕ)) (
   -- ---- holders that are told
 
   holder_is : (h : History) (s : Server) (k : ℕ) (version : Version) (short : List Bool) → Kept k version →
-      version_eq version s.version ≡ true → Fit h s → Pure h s → Goes h s.version (holder_added db m s now k short)
+      version_eq version s.version ≡ true → Fit h s → Pure h s → Goes h s.version (holder_added (always db) m s now k short)
   holder_is h s k version short kept same fit pure =
       settled_with_turns_is h (with_phase s (held_by s.phase k)) short
       (record {
@@ -328,7 +329,7 @@ module _ (db : Database) (m : Member) (now : ℕ) (starts : List (Option ℕ)) (
 
   told_is : (h : History) (s : Server) (host : Host) (k : ℕ) (poll : Polled) (spread : Spread) (number : ℕ) (version : Version)
       (short : List Bool) → Kept k version → IsNumbered s.phase poll.number → Fit h s → Pure h s →
-      Goes h s.version (told_to_spread db m s now host k poll spread number version short)
+      Goes h s.version (told_to_spread (always db) m s now host k poll spread number version short)
   told_is h s host k poll spread number version short kept is fit pure =
       either h s.version (number == poll.number) _ _
       (λ _. either h s.version (version_eq version s.version) _ _ (λ same. holder_is h s k version short kept same fit pure)
@@ -338,7 +339,7 @@ module _ (db : Database) (m : Member) (now : ℕ) (starts : List (Option ℕ)) (
   pub version_told_is : (h : History) (s : Server) (host : Host) (k number : ℕ) (version : Version) (short : List Bool)
       (phase : PhaseRecord) →
       Answered k number version × Kept k version → s.phase ≡ phase → Fit h s → Pure h s →
-      Goes h s.version (version_is_received db m s now host k number version short phase)
+      Goes h s.version (version_is_received (always db) m s now host k number version short phase)
   version_told_is h s host k number version short NoPhase brings at fit pure = rests h s fit
   version_told_is h s host k number version short (Poll poll) brings at fit pure =
       either h s.version (number == poll.number) _ _
@@ -357,7 +358,7 @@ module _ (db : Database) (m : Member) (now : ℕ) (starts : List (Option ℕ)) (
       told_is h s host k poll spread number version short brings.1 (numbered s.phase (Ready poll spread announced) poll.number at refl) fit pure
 
   pub version_kept_is : (h : History) (s : Server) (k : ℕ) (version : Version) (short : List Bool) (phase : PhaseRecord) → Kept k version →
-      Fit h s → Pure h s → Goes h s.version (version_kept_received db m s now k version short phase)
+      Fit h s → Pure h s → Goes h s.version (version_kept_received (always db) m s now k version short phase)
   version_kept_is h s k version short NoPhase kept fit pure = rests h s fit
   version_kept_is h s k version short (Poll poll) kept fit pure = rests h s fit
   version_kept_is h s k version short (Fetch poll best from) kept fit pure = rests h s fit

@@ -17,6 +17,7 @@ use Rattle.db_image.specs.Database.{Database, changes_of}
 use Rattle.cell_model.specs.Asks.{read, write_asked, served, allows_reads, asked_elsewhere, asked_as}
 use Rattle.cell_model.specs.Book.{Book, with_version}
 use Rattle.cell_model.specs.Durable.{Durable, Made, Committed, durable_after}
+use Rattle.cell_model.specs.Evaluating.{always}
 use Rattle.cell_model.specs.Node.{Server, Flight, Waiting}
 use Rattle.cell_model.specs.Polls.{new_poll, polling}
 use Rattle.cell_model.specs.Receiver.{is_sending}
@@ -278,12 +279,12 @@ module _ (db : Database) (m : Member) (now : ℕ) (starts : List (Option ℕ)) (
   free_none (Ready poll spread announced) (Some f) is = no is
 
   next_turns_is : (book : Book) (waiting : List Waiting) (s : Server) (short : List Bool) → Fit book s →
-      Goes book s (next_turns db m now waiting s short)
+      Goes book s (next_turns (always db) m now waiting s short)
   next_turns_is book [] s short fit = rests book s fit
   next_turns_is book (w ∷ waiting) s short fit =
       either book s (is_free s) _ _
       (λ free. follows book s (write_turn db m (record s { waiting = waiting }) now w.id w.call (is_short short))
-      (λ after. next_turns db m now waiting after
+      (λ after. next_turns (always db) m now waiting after
       (short_after (write_turn db m (record s { waiting = waiting }) now w.id w.call (is_short short)).shown short))
       (before book s (record s { waiting = waiting }) _ refl
       (turn_is book (record s { waiting = waiting }) w.id w.call (is_short short) (free_none s.phase s.flight free)
@@ -292,9 +293,9 @@ module _ (db : Database) (m : Member) (now : ℕ) (starts : List (Option ℕ)) (
       (λ _. rests book s fit)
 
   pub settled_with_turns_is : (book : Book) (s : Server) (short : List Bool) → Fit book s →
-      Goes book s (settled_with_turns db m s now short)
+      Goes book s (settled_with_turns (always db) m s now short)
   settled_with_turns_is book s short fit =
-      follows book s (settled m s) (λ after. next_turns db m now after.waiting after (short_after (settled m s).shown short))
+      follows book s (settled m s) (λ after. next_turns (always db) m now after.waiting after (short_after (settled m s).shown short))
       (settled_is book s fit) (λ later grew fit. next_turns_is later (settled m s).server.waiting (settled m s).server _ fit)
 
   -- ---- asks

@@ -23,9 +23,10 @@ use Rattle.cell_model.specs.Asks.{asked_as}
 use Rattle.cell_model.specs.Book.{Book}
 use Rattle.cell_model.specs.Durable.{Durable, Made, Own_relabelling, Committed, Received, durable_after, version_after}
 use Rattle.cell_model.specs.Durable as durables
+use Rattle.cell_model.specs.Evaluating.{always}
 use Rattle.cell_model.specs.Lapse.{writes_refused, phase_dropped, write_lapsed, lapsed, without_writes}
 use Rattle.cell_model.specs.Node.{Server, ReceivedText, Flight}
-use Rattle.cell_model.specs.NodeRule.{received_from, received_packet, place_of, handled, step_of}
+use Rattle.cell_model.specs.NodeRule.{received_from, received_packet, place_of, handled, step_of, step_by}
 use Rattle.cell_model.specs.Polls.{new_poll}
 use Rattle.cell_model.specs.Receiver.{is_sending, answers_version_kept, answers_version_is, relabelled_by, set_version_received}
 use Rattle.cell_model.specs.Receiver.{text_went_on, send_piece_received, empty_write, begin_received, kept_with, put_piece_received}
@@ -123,11 +124,11 @@ module _ (db : Database) (m : Member) (now : ℕ) (starts : List (Option ℕ)) (
   piece_received_is = recovery.piece_received_is db m now starts F D P moves
 
   version_told_is : (book : Book) (s : Server) (host : Host) (k number : ℕ) (version : Version) (short : List Bool) (phase : PhaseRecord) →
-      s.phase ≡ phase → Fit book s → Goes book s (version_is_received db m s now host k number version short phase)
+      s.phase ≡ phase → Fit book s → Goes book s (version_is_received (always db) m s now host k number version short phase)
   version_told_is = recovery.version_told_is db m now starts F D P moves
 
   version_kept_is : (book : Book) (s : Server) (k : ℕ) (version : Version) (short : List Bool) (phase : PhaseRecord) → Fit book s →
-      Goes book s (version_kept_received db m s now k version short phase)
+      Goes book s (version_kept_received (always db) m s now k version short phase)
   version_kept_is = recovery.version_kept_is db m now starts F D P moves
 
   -- ---- the receiver
@@ -323,7 +324,7 @@ module _ (db : Database) (m : Member) (now : ℕ) (starts : List (Option ℕ)) (
   -- ---- every event
 
   received_is : (book : Book) (s : Server) (host : Host) (k : ℕ) (c : Body) (short : List Bool) → P book c → Fit book s →
-      Ends book s (received_from db m s now host k c short)
+      Ends book s (received_from (always db) m s now host k c short)
   received_is book s host k (body.Beacon start claim ready version) short says fit =
       votes_is book s (beacon_received m s now host k start claim ready version).server _ refl refl fit
       (moves.phase.votes book s _ s.starts _ fit.keeps) (moves.packet.plain book (body.Vote start _) tt, tt)
@@ -352,7 +353,7 @@ module _ (db : Database) (m : Member) (now : ℕ) (starts : List (Option ℕ)) (
       ended book s _ (version_kept_is book s k version short s.phase fit)
 
   packet_is : (book : Book) (s : Server) (p : Packet) (short : List Bool) (place : Option ℕ) → P book p.body → Fit book s →
-      Ends book s (received_packet db m s now p short place)
+      Ends book s (received_packet (always db) m s now p short place)
   packet_is book s p short None says fit = ended book s _ (rests book s fit)
   packet_is book s p short (Some k) says fit = received_is book s p.from k p.body short says fit
 
@@ -368,7 +369,7 @@ module _ (db : Database) (m : Member) (now : ℕ) (starts : List (Option ℕ)) (
   says_later book later (event.Ask id call) grew says = tt
 
   handled_is : (book : Book) (s : Server) (e : NodeEvent) (short : List Bool) → EventSays book e → Fit book s →
-      Ends book s (handled db m s now e short)
+      Ends book s (handled (always db) m s now e short)
   handled_is book s (event.Packet p) short says fit = packet_is book s p short (place_of m.hosts p.from) says fit
   handled_is book s event.BeaconTurn short says fit = beacon_turn_is book s fit
   handled_is book s event.RecoverTurn short says fit = ended book s _ (recovered_is book s s.phase refl fit)
@@ -376,7 +377,7 @@ module _ (db : Database) (m : Member) (now : ℕ) (starts : List (Option ℕ)) (
 
   pub step_ends : (book : Book) (s : Server) (e : NodeEvent) (short : List Bool) → s.starts ≡ starts → EventSays book e → F book s →
       Ends book s (step_of db m s now e short)
-  unfolding step_of
+  unfolding step_by
   step_ends book s e short same says keeps =
       then (lapsed_is book s same keeps)
     where
@@ -384,7 +385,7 @@ module _ (db : Database) (m : Member) (now : ℕ) (starts : List (Option ℕ)) (
       t = lapsed m s now
 
       next : Server → Stepped
-      next after = handled db m after now e (short_after t.shown short)
+      next after = handled (always db) m after now e (short_after t.shown short)
 
       then : Goes book s t → Ends book s (followed t next)
       then first =

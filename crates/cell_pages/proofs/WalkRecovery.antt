@@ -15,6 +15,7 @@ use Rattle.db_image.specs.Database.{Database}
 use Rattle.cell_model.specs.Book.{Book, with_version}
 use Rattle.cell_model.specs.Durable.{Durable, Made, Own_relabelling, Committed, Received, durable_after, version_after}
 use Rattle.cell_model.specs.Durable as durables
+use Rattle.cell_model.specs.Evaluating.{always}
 use Rattle.cell_model.specs.Node.{Server, ReceivedText, Flight}
 use Rattle.cell_model.specs.Polls.{new_poll, polling, with_answer, best_answer, first_with, entry_at, is_marked}
 use Rattle.cell_model.specs.Receiver.{is_sending}
@@ -91,7 +92,7 @@ module _ (db : Database) (m : Member) (now : ℕ) (starts : List (Option ℕ)) (
   settled_is : (book : Book) (s : Server) → Fit book s → Goes book s (settled m s)
   settled_is = walk.settled_is db m now starts F D P moves
 
-  settled_with_turns_is : (book : Book) (s : Server) (short : List Bool) → Fit book s → Goes book s (settled_with_turns db m s now short)
+  settled_with_turns_is : (book : Book) (s : Server) (short : List Bool) → Fit book s → Goes book s (settled_with_turns (always db) m s now short)
   settled_with_turns_is = walk.settled_with_turns_is db m now starts F D P moves
 
   -- ---- recovery
@@ -303,7 +304,7 @@ module _ (db : Database) (m : Member) (now : ℕ) (starts : List (Option ℕ)) (
   held_held (Send poll spread) k = refl
   held_held (Ready poll spread announced) k = refl
 
-  holder_is : (book : Book) (s : Server) (k : ℕ) (short : List Bool) → Fit book s → Goes book s (holder_added db m s now k short)
+  holder_is : (book : Book) (s : Server) (k : ℕ) (short : List Bool) → Fit book s → Goes book s (holder_added (always db) m s now k short)
   holder_is book s k short fit =
       before book s (with_phase s (held_by s.phase k)) _ refl
       (settled_with_turns_is book (with_phase s (held_by s.phase k)) short
@@ -332,7 +333,7 @@ module _ (db : Database) (m : Member) (now : ℕ) (starts : List (Option ℕ)) (
 
   told_is : (book : Book) (s : Server) (host : Host) (k : ℕ) (poll : Polled) (spread : Spread) (number : ℕ) (version : Version)
       (short : List Bool) → ((s.version.counter == 1) ≡ true → P book (body.SetVersion poll.number spread.old s.version)) → Fit book s →
-      Goes book s (told_to_spread db m s now host k poll spread number version short)
+      Goes book s (told_to_spread (always db) m s now host k poll spread number version short)
   told_is book s host k poll spread number version short set fit =
       either book s (number == poll.number) _ _
       (λ _. either book s (version_eq version s.version) _ _ (λ _. holder_is book s k short fit)
@@ -341,7 +342,7 @@ module _ (db : Database) (m : Member) (now : ℕ) (starts : List (Option ℕ)) (
 
   pub version_told_is : (book : Book) (s : Server) (host : Host) (k number : ℕ) (version : Version) (short : List Bool)
       (phase : PhaseRecord) →
-      s.phase ≡ phase → Fit book s → Goes book s (version_is_received db m s now host k number version short phase)
+      s.phase ≡ phase → Fit book s → Goes book s (version_is_received (always db) m s now host k number version short phase)
   version_told_is book s host k number version short NoPhase at fit = rests book s fit
   version_told_is book s host k number version short (Poll poll) at fit =
       either book s (number == poll.number) _ _
@@ -360,7 +361,7 @@ module _ (db : Database) (m : Member) (now : ℕ) (starts : List (Option ℕ)) (
       (λ first. moves.packet.set_in_ready book s poll.number poll spread announced at first fit.keeps) fit
 
   pub version_kept_is : (book : Book) (s : Server) (k : ℕ) (version : Version) (short : List Bool) (phase : PhaseRecord) → Fit book s →
-      Goes book s (version_kept_received db m s now k version short phase)
+      Goes book s (version_kept_received (always db) m s now k version short phase)
   version_kept_is book s k version short NoPhase fit = rests book s fit
   version_kept_is book s k version short (Poll poll) fit = rests book s fit
   version_kept_is book s k version short (Fetch poll best from) fit = rests book s fit

@@ -13,6 +13,7 @@ use Rattle.db_image.specs.declared.services.CallReply.{CallReply}
 use Rattle.db_image.specs.declared.services.CallReply.TheVariants as call_reply
 use Rattle.db_image.specs.Database.{Database, changes_of}
 use Rattle.cell_model.specs.Asks.{read, write_asked, served, allows_reads, asked_elsewhere, asked_as}
+use Rattle.cell_model.specs.Evaluating.{always}
 use Rattle.cell_model.specs.Node.{Server, Flight, Waiting}
 use Rattle.cell_model.specs.Polls.{new_poll}
 use Rattle.cell_model.specs.Step.{Member, cell_size, Basis, Announced_image, Beacon_image, Shown, quiet, showing, leased, is_ready}
@@ -102,21 +103,21 @@ module _ (m : Member) (inside : m.me < cell_size m) where
           cond_both short _ _ (Placed m) (λ _. shows_placed s _ fits (tt, tt))
           (λ _. turned_placed (db.call s.image now call).image (db.call s.image now call).reply)
 
-    next_placed : (waiting : List Waiting) (s : Server) (short : List Bool) → Fits s.phase → Placed m (next_turns db m now waiting s short)
+    next_placed : (waiting : List Waiting) (s : Server) (short : List Bool) → Fits s.phase → Placed m (next_turns (always db) m now waiting s short)
     next_placed [] s short fits = quiet_placed s fits
     next_placed (w ∷ waiting) s short fits =
         cond_both (is_free s) _ _ (Placed m)
         (λ _. follows m (write_turn db m (record s { waiting = waiting }) now w.id w.call (is_short short))
-        (λ after. next_turns db m now waiting after
+        (λ after. next_turns (always db) m now waiting after
         (short_after (write_turn db m (record s { waiting = waiting }) now w.id w.call (is_short short)).shown short))
         (turn_placed (record s { waiting = waiting }) fits w.id w.call (is_short short))
         (λ after. next_placed waiting (write_turn db m (record s { waiting = waiting }) now w.id w.call (is_short short)).server
         (short_after (write_turn db m (record s { waiting = waiting }) now w.id w.call (is_short short)).shown short) after))
         (λ _. quiet_placed s fits)
 
-    pub turns_placed : (s : Server) (short : List Bool) → Fits s.phase → Placed m (settled_with_turns db m s now short)
+    pub turns_placed : (s : Server) (short : List Bool) → Fits s.phase → Placed m (settled_with_turns (always db) m s now short)
     turns_placed s short fits =
-        follows m (settled m s) (λ after. next_turns db m now after.waiting after (short_after (settled m s).shown short))
+        follows m (settled m s) (λ after. next_turns (always db) m now after.waiting after (short_after (settled m s).shown short))
         (settled_placed s fits)
         (λ after. next_placed (settled m s).server.waiting (settled m s).server (short_after (settled m s).shown short) after)
 

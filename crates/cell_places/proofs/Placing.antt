@@ -20,9 +20,10 @@ use Rattle.ubik_calls.specs.declared.packets.TheConstants.{MAX_PIECES}
 use Rattle.db_image.specs.Database.{Database}
 use Rattle.cell_model.specs.declared.events.NodeEvent.{NodeEvent}
 use Rattle.cell_model.specs.declared.events.NodeEvent.TheVariants as event
+use Rattle.cell_model.specs.Evaluating.{always}
 use Rattle.cell_model.specs.Lapse.{lapsed, write_lapsed, writes_refused, without_writes}
 use Rattle.cell_model.specs.Node.{Server, ReceivedText, Flight}
-use Rattle.cell_model.specs.NodeRule.{place_of, received_from, received_packet, handled, step_of}
+use Rattle.cell_model.specs.NodeRule.{place_of, received_from, received_packet, handled, step_of, step_by}
 use Rattle.cell_model.specs.Polls.{new_poll, polling, with_answer, best_answer, first_with}
 use Rattle.cell_model.specs.Receiver.{is_sending, answers_version_kept, answers_version_is, relabelled_by, set_version_received, text_went_on}
 use Rattle.cell_model.specs.Receiver.{send_piece_received, begin_received, committed_by, write_taken, whole_write}
@@ -115,7 +116,7 @@ module _ (m : Member) (inside : m.me < cell_size m) (now : ℕ) where
   held_placed (Ready poll spread announced) k is = is
 
   module _ (db : Database) where
-    holder_placed : (s : Server) (k : ℕ) (short : List Bool) → Fits s.phase → Placed m (holder_added db m s now k short)
+    holder_placed : (s : Server) (k : ℕ) (short : List Bool) → Fits s.phase → Placed m (holder_added (always db) m s now k short)
     holder_placed s k short fits =
         turns_placed m inside db now (with_phase s (held_by s.phase k)) short (held_placed s.phase k fits)
 
@@ -125,7 +126,7 @@ module _ (m : Member) (inside : m.me < cell_size m) (now : ℕ) where
     lacking_placed s host poll spread version (Some f) there fits = rests s fits
 
     told_placed : (s : Server) (host : Host) (k : ℕ) (poll : Polled) (spread : Spread) (number : ℕ) (version : Version) (short : List Bool) →
-        HasPlace m.hosts host → Fits s.phase → Placed m (told_to_spread db m s now host k poll spread number version short)
+        HasPlace m.hosts host → Fits s.phase → Placed m (told_to_spread (always db) m s now host k poll spread number version short)
     told_placed s host k poll spread number version short there fits =
         cond_both (number == poll.number) _ _ (Placed m)
         (λ _. cond_both (version_eq version s.version) _ _ (Placed m) (λ _. holder_placed s k short fits)
@@ -133,7 +134,7 @@ module _ (m : Member) (inside : m.me < cell_size m) (now : ℕ) where
         (λ _. rests s fits)
 
     version_is_placed : (s : Server) (host : Host) (k number : ℕ) (version : Version) (short : List Bool) (phase : PhaseRecord) →
-        HasPlace m.hosts host → Fits phase → Fits s.phase → Placed m (version_is_received db m s now host k number version short phase)
+        HasPlace m.hosts host → Fits phase → Fits s.phase → Placed m (version_is_received (always db) m s now host k number version short phase)
     version_is_placed s host k number version short NoPhase there is fits = rests s fits
     version_is_placed s host k number version short (Poll poll) there is fits =
         cond_both (number == poll.number) _ _ (Placed m)
@@ -148,7 +149,7 @@ module _ (m : Member) (inside : m.me < cell_size m) (now : ℕ) where
         told_placed s host k poll spread number version short there fits
 
     version_kept_placed : (s : Server) (k : ℕ) (version : Version) (short : List Bool) (phase : PhaseRecord) → Fits s.phase →
-        Placed m (version_kept_received db m s now k version short phase)
+        Placed m (version_kept_received (always db) m s now k version short phase)
     version_kept_placed s k version short NoPhase fits = rests s fits
     version_kept_placed s k version short (Poll poll) fits = rests s fits
     version_kept_placed s k version short (Fetch poll best from) fits = rests s fits
@@ -266,7 +267,7 @@ module _ (m : Member) (inside : m.me < cell_size m) (now : ℕ) where
         (λ _. shows_placed m inside s _ fits (one_placed m inside host _ there)) (λ _. tells s poll fits)
 
     from_placed : (db : Database) (s : Server) (k : ℕ) (b : Body) (short : List Bool) → Fits s.phase →
-        Placed m (received_from db m s now host k b short)
+        Placed m (received_from (always db) m s now host k b short)
     from_placed db s k (body.Beacon start claim ready version) short fits = record { phase = fits; shown = one_placed m inside host _ there }
     from_placed db s k (body.Vote start granted) short fits = record { phase = fits; shown = tt }
     from_placed db s k (body.GetVersion poll) short fits = tells s poll fits
@@ -290,7 +291,7 @@ module _ (m : Member) (inside : m.me < cell_size m) (now : ℕ) where
   -- ---- every event
 
   packet_placed : (db : Database) (s : Server) (p : Packet) (short : List Bool) (place : Option ℕ) → place_of m.hosts p.from ≡ place →
-      Fits s.phase → Placed m (received_packet db m s now p short place)
+      Fits s.phase → Placed m (received_packet (always db) m s now p short place)
   packet_placed db s p short None at fits = rests s fits
   packet_placed db s p short (Some k) at fits = from_placed p.from (ap is_some at) db s k p.body short fits
 
@@ -299,7 +300,7 @@ module _ (m : Member) (inside : m.me < cell_size m) (now : ℕ) where
       cond_both (beacon_is_due s.votes now m.me (leased m s now)) _ _ (Placed m)
       (λ _. record { phase = fits; shown = each_placed m inside (λ k. own_beacon s now (leased m s now) ∷ []) }) (λ _. rests s fits)
 
-  handled_placed : (db : Database) (s : Server) (e : NodeEvent) (short : List Bool) → Fits s.phase → Placed m (handled db m s now e short)
+  handled_placed : (db : Database) (s : Server) (e : NodeEvent) (short : List Bool) → Fits s.phase → Placed m (handled (always db) m s now e short)
   handled_placed db s (event.Packet p) short fits = packet_placed db s p short (place_of m.hosts p.from) refl fits
   handled_placed db s event.BeaconTurn short fits = beacon_placed s fits
   handled_placed db s event.RecoverTurn short fits = recovered_placed s s.phase fits fits
@@ -323,9 +324,9 @@ module _ (m : Member) (inside : m.me < cell_size m) (now : ℕ) where
       (λ _. record { phase = tt; shown = refused_placed m s now phases.None })
 
   step_placed : (db : Database) (s : Server) (e : NodeEvent) (short : List Bool) → Fits s.phase → Placed m (step_of db m s now e short)
-  unfolding step_of
+  unfolding step_by
   step_placed db s e short fits =
-      follows m (lapsed m s now) (λ after. handled db m after now e (short_after (lapsed m s now).shown short)) (lapsed_placed s fits)
+      follows m (lapsed m s now) (λ after. handled (always db) m after now e (short_after (lapsed m s now).shown short)) (lapsed_placed s fits)
       (λ after. handled_placed db (lapsed m s now).server e (short_after (lapsed m s now).shown short) after)
 
 pub packets_have_places : PacketsHavePlaces

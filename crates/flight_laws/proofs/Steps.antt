@@ -26,9 +26,10 @@ use Rattle.cell_model.specs.declared.events.NodeEvent.{NodeEvent}
 use Rattle.cell_model.specs.declared.events.NodeEvent.TheVariants as event
 use Rattle.cell_model.specs.Asks.{allows_reads, asked_as, asked_elsewhere, read, served, write_asked}
 use Rattle.cell_model.specs.Durable.{Made}
+use Rattle.cell_model.specs.Evaluating.{always}
 use Rattle.cell_model.specs.Lapse.{lapsed, no_quorum, phase_dropped, write_given_up, write_lapsed}
 use Rattle.cell_model.specs.Node.{Server, Flight, KeptWrite, ReceivedText, Waiting}
-use Rattle.cell_model.specs.NodeRule.{handled, place_of, received_from, received_packet, step_of}
+use Rattle.cell_model.specs.NodeRule.{handled, place_of, received_from, received_packet, step_of, step_by}
 use Rattle.cell_model.specs.Pieces.{piece_from}
 use Rattle.cell_model.specs.Polls.{best_answer, first_with, new_poll, polling, with_answer}
 use Rattle.cell_model.specs.Receiver.{answers_version_is, answers_version_kept, begin_received, commit_received, committed_by, empty_write, is_sending}
@@ -113,19 +114,19 @@ module _ (db : Database) (m : Member) (now : ℕ) where
   turn_puts s id call true = tt
   turn_puts s id call false = turned_puts s id call (db.call s.image now call).image (db.call s.image now call).reply
 
-  turns_puts : (waiting : List Waiting) (s : Server) (short : List Bool) → Puts (next_turns db m now waiting s short)
+  turns_puts : (waiting : List Waiting) (s : Server) (short : List Bool) → Puts (next_turns (always db) m now waiting s short)
   turns_puts [] s short = tt
   turns_puts (w ∷ waiting) s short =
       let t = write_turn db m (record s { waiting = waiting }) now w.id w.call (is_short short) in
-      let next : Server → Stepped = λ after. next_turns db m now waiting after (short_after t.shown short) in
+      let next : Server → Stepped = λ after. next_turns (always db) m now waiting after (short_after t.shown short) in
       if_puts (is_free s) (followed t next) (quiet s)
       (then_puts t next (turn_puts (record s { waiting = waiting }) w.id w.call (is_short short))
       (turns_puts waiting t.server (short_after t.shown short))) tt
 
-  served_puts : (s : Server) (short : List Bool) → Puts (settled_with_turns db m s now short)
+  served_puts : (s : Server) (short : List Bool) → Puts (settled_with_turns (always db) m s now short)
   served_puts s short =
       let t = settled m s in
-      then_puts t (λ after. next_turns db m now after.waiting after (short_after t.shown short)) (settled_puts m s s.phase) (turns_puts t.server.waiting t.server (short_after t.shown short))
+      then_puts t (λ after. next_turns (always db) m now after.waiting after (short_after t.shown short)) (settled_puts m s s.phase) (turns_puts t.server.waiting t.server (short_after t.shown short))
 
   read_puts : (s : Server) (id : ℕ) (call image : List ℕ) (basis : Basis) (short : Bool) → Puts (read db s now id call image basis short)
   read_puts s id call image basis true = tt
@@ -198,16 +199,16 @@ module _ (db : Database) (m : Member) (now : ℕ) where
   lacking_puts s host poll spread version (Some f) = tt
 
   told_puts : (s : Server) (host : Host) (k : ℕ) (poll : Polled) (spread : Spread) (number : ℕ) (version : Version) (short : List Bool) →
-      Puts (told_to_spread db m s now host k poll spread number version short)
+      Puts (told_to_spread (always db) m s now host k poll spread number version short)
   told_puts s host k poll spread number version short =
       let lacking = lacking_sent m s host poll spread version s.flight in
-      let holds = holder_added db m s now k short in
+      let holds = holder_added (always db) m s now k short in
       if_puts (number == poll.number) (cond (version_eq version s.version) holds lacking) (quiet s)
       (if_puts (version_eq version s.version) holds lacking (served_puts (with_phase s (held_by s.phase k)) short)
       (lacking_puts s host poll spread version s.flight)) tt
 
   version_puts : (s : Server) (host : Host) (k number : ℕ) (version : Version) (short : List Bool) (phase : PhaseRecord) →
-      Puts (version_is_received db m s now host k number version short phase)
+      Puts (version_is_received (always db) m s now host k number version short phase)
   version_puts s host k number version short NoPhase = tt
   version_puts s host k number version short (Poll poll) =
       if_puts (number == poll.number) (polled m s (with_answer poll k version) now) (quiet s) (polled_puts s (with_answer poll k version)) tt
@@ -218,12 +219,12 @@ module _ (db : Database) (m : Member) (now : ℕ) where
   version_puts s host k number version short (Ready poll spread announced) = told_puts s host k poll spread number version short
 
   holds_puts : (s : Server) (k : ℕ) (version : Version) (short : List Bool) →
-      Puts (cond (version_eq version s.version) (holder_added db m s now k short) (quiet s))
+      Puts (cond (version_eq version s.version) (holder_added (always db) m s now k short) (quiet s))
   holds_puts s k version short =
-      if_puts (version_eq version s.version) (holder_added db m s now k short) (quiet s) (served_puts (with_phase s (held_by s.phase k)) short) tt
+      if_puts (version_eq version s.version) (holder_added (always db) m s now k short) (quiet s) (served_puts (with_phase s (held_by s.phase k)) short) tt
 
   kept_puts : (s : Server) (k : ℕ) (version : Version) (short : List Bool) (phase : PhaseRecord) →
-      Puts (version_kept_received db m s now k version short phase)
+      Puts (version_kept_received (always db) m s now k version short phase)
   kept_puts s k version short NoPhase = tt
   kept_puts s k version short (Poll poll) = tt
   kept_puts s k version short (Fetch poll best from) = tt
@@ -326,7 +327,7 @@ module _ (db : Database) (m : Member) (now : ℕ) where
       (if_puts (version_eq s.version old) taken (quiet s) (taken_puts s host new (whole_write new s.kept) (puts new)) tt))
 
   received_puts : (s : Server) (host : Host) (k : ℕ) (b : Body) (short : List Bool) → KeepsPuts s.kept →
-      Puts (received_from db m s now host k b short)
+      Puts (received_from (always db) m s now host k b short)
   received_puts s host k (body.Beacon start claim ready version) short puts = tt
   received_puts s host k (body.Vote start granted) short puts = tt
   received_puts s host k (body.GetVersion poll) short puts = tt
@@ -346,13 +347,13 @@ module _ (db : Database) (m : Member) (now : ℕ) where
       if_puts (is_sending s.phase) (quiet s) (quiet (record s { kept = kept_but new s.kept })) tt tt
   received_puts s host k (body.VersionKept version) short puts = kept_puts s k version short s.phase
 
-  packet_puts : (s : Server) (p : Packet) (short : List Bool) (o : Option ℕ) → KeepsPuts s.kept → Puts (received_packet db m s now p short o)
+  packet_puts : (s : Server) (p : Packet) (short : List Bool) (o : Option ℕ) → KeepsPuts s.kept → Puts (received_packet (always db) m s now p short o)
   packet_puts s p short None puts = tt
   packet_puts s p short (Some k) puts = received_puts s p.from k p.body short puts
 
   -- ---- steps
 
-  handled_puts : (s : Server) (e : NodeEvent) (short : List Bool) → KeepsPuts s.kept → Puts (handled db m s now e short)
+  handled_puts : (s : Server) (e : NodeEvent) (short : List Bool) → KeepsPuts s.kept → Puts (handled (always db) m s now e short)
   handled_puts s (event.Packet p) short puts = packet_puts s p short (place_of m.hosts p.from) puts
   handled_puts s event.BeaconTurn short puts =
       if_puts (beacon_is_due s.votes now m.me (leased m s now)) (beacon_taken m s now (leased m s now)) (quiet s) tt tt
@@ -380,9 +381,9 @@ module _ (db : Database) (m : Member) (now : ℕ) where
 
 pub step_puts : (db : Database) (m : Member) (now : ℕ) (s : Server) (e : NodeEvent) (short : List Bool) → KeepsPuts db m now s.kept →
     AllTakePuts (step_of db m s now e short).calls
-unfolding step_of
+unfolding step_by
 step_puts db m now s e short puts =
     let t = lapsed m s now in
     let l = lapse db m now s in
-    then_puts t (λ after. handled db m after now e (short_after t.shown short)) (subst AllTakePuts (sym l.none) tt)
+    then_puts t (λ after. handled (always db) m after now e (short_after t.shown short)) (subst AllTakePuts (sym l.none) tt)
     (handled_puts db m now t.server e (short_after t.shown short) (subst (KeepsPuts db m now) (sym l.kept) puts))

@@ -27,9 +27,10 @@ use Rattle.cell_model.specs.declared.events.Output.TheVariants as output
 use Rattle.cell_model.specs.Asks.{read_reply, read, write_asked, served, allows_reads, not_served, asked_elsewhere, asked_as}
 use Rattle.cell_model.specs.Durable.{Received}
 use Rattle.cell_model.specs.Durable as durables
+use Rattle.cell_model.specs.Evaluating.{always}
 use Rattle.cell_model.specs.Lapse.{no_quorum, writes_refused, without_writes, write_lapsed, waiting_refused}
 use Rattle.cell_model.specs.Node.{Server, ReceivedText, Flight, Waiting}
-use Rattle.cell_model.specs.NodeRule.{place_of, received_from, received_packet, handled, step_of}
+use Rattle.cell_model.specs.NodeRule.{place_of, received_from, received_packet, handled, step_of, step_by}
 use Rattle.cell_model.specs.Pieces.{piece_from}
 use Rattle.cell_model.specs.Receiver.{is_sending, answers_version_kept, answers_version_is, relabelled_by, set_version_received, text_went_on}
 use Rattle.cell_model.specs.Receiver.{send_piece_received, get_piece_received}
@@ -139,7 +140,7 @@ module _ (m : Member) (now : ℕ) (e : NodeEvent) (inside : m.me < cell_size m) 
 
   module _ (db : Database) where
     from_goes : (s : Server) (host : Host) (k : ℕ) (b : Body) (short : List Bool) → IsRecoveryBody b → HasPlace m.hosts host → Good s →
-        Goes 2 m e s (received_from db m s now host k b short)
+        Goes 2 m e s (received_from (always db) m s now host k b short)
     from_goes s host k (body.Beacon start claim ready version) short is there good =
         beacon_goes s host k start claim ready version there good
     from_goes s host k (body.Vote start granted) short is there good = vote_goes s k start granted good
@@ -165,7 +166,7 @@ module _ (m : Member) (now : ℕ) (e : NodeEvent) (inside : m.me < cell_size m) 
         within m e 0 2 s _ (omega arith) (version_kept_goes m now e inside moment db s k version short s.phase good)
 
     packet_goes : (s : Server) (p : Packet) (short : List Bool) (place : Option ℕ) → IsRecoveryPacket m.hosts p → Good s →
-        Goes 2 m e s (received_packet db m s now p short place)
+        Goes 2 m e s (received_packet (always db) m s now p short place)
     packet_goes s p short None is good = rests m e 2 s good
     packet_goes s p short (Some k) is good = from_goes s p.from k p.body short is.body is.sender good
 
@@ -342,7 +343,7 @@ written_here (a ∷ b ∷ hosts) me s now db id call short moment inside one goo
 
 module _ (db : Database) (m : Member) (now : ℕ) (inside : m.me < cell_size m) (moment : IsMoment now) where
   handled_goes : (s : Server) (e : NodeEvent) (short : List Bool) → HasNoWrite (cell_size m) s → IsTaken db m s e →
-      Goes 2 m e s (handled db m s now e short)
+      Goes 2 m e s (handled (always db) m s now e short)
   handled_goes s (event.Packet p) short good taken =
       packet_goes m now (event.Packet p) inside moment db s p short (place_of m.hosts p.from) taken good
   handled_goes s event.BeaconTurn short good taken = beacon_turn_goes m now event.BeaconTurn inside moment s good
@@ -362,11 +363,11 @@ module _ (db : Database) (m : Member) (now : ℕ) (inside : m.me < cell_size m) 
 
   pub step_goes : (s : Server) (e : NodeEvent) (short : List Bool) → HasNoWrite (cell_size m) s → IsTaken db m s e →
       Goes 2 m e s (step_of db m s now e short)
-  unfolding step_of
+  unfolding step_by
   step_goes s e short good taken = cond_both (leased m s now) _ _ P (λ _. kept s.flight good.flight) (λ _. lapses)
     where
       P : Stepped → Type 0
-      P t = Goes 2 m e s (followed t (λ after. handled db m after now e (short_after t.shown short)))
+      P t = Goes 2 m e s (followed t (λ after. handled (always db) m after now e (short_after t.shown short)))
 
       again : (u : Server) (t : Stepped) → Goes 2 m e u t → s.version ≡ u.version → s.image ≡ u.image →
           Goes 2 m e s (record { server = t.server; calls = t.calls; shown = t.shown })
@@ -376,7 +377,7 @@ module _ (db : Database) (m : Member) (now : ℕ) (inside : m.me < cell_size m) 
           (record { server = goes.server; shown = goes.shown; fits = goes.fits; leads = goes.leads; few = goes.few; own = goes.own })
 
       kept : (f : Option Flight) → f ≡ None → P (write_lapsed m s now f)
-      kept None is = again s (handled db m s now e short) (handled_goes s e short good taken) refl refl
+      kept None is = again s (handled (always db) m s now e short) (handled_goes s e short good taken) refl refl
       kept (Some f) is = absurd (cc)
 
       dropped : Server
@@ -399,4 +400,4 @@ module _ (db : Database) (m : Member) (now : ℕ) (inside : m.me < cell_size m) 
 
       lapses : Q (writes_refused m s now phases.None)
       lapses = subst Q (sym (none_refused s.flight s.waiting _ _ good.flight good.waiting))
-          (again dropped (handled db m dropped now e short) (handled_goes dropped e short dropped_is (dropped_takes s e taken)) refl refl)
+          (again dropped (handled (always db) m dropped now e short) (handled_goes dropped e short dropped_is (dropped_takes s e taken)) refl refl)

@@ -17,9 +17,10 @@ use Rattle.cell_model.specs.declared.events.NodeEvent.{NodeEvent}
 use Rattle.cell_model.specs.declared.events.NodeEvent.TheVariants as event
 use Rattle.cell_model.specs.declared.events.Output.TheVariants as output
 use Rattle.cell_model.specs.Asks.{write_asked, served, asked_elsewhere, asked_as, asked, allows_reads}
+use Rattle.cell_model.specs.Evaluating.{always}
 use Rattle.cell_model.specs.Lapse.{writes_refused, without_writes, write_lapsed}
 use Rattle.cell_model.specs.Node.{Server, Flight, Waiting}
-use Rattle.cell_model.specs.NodeRule.{place_of, received_from, received_packet, step_of, handled}
+use Rattle.cell_model.specs.NodeRule.{place_of, received_from, received_packet, step_of, step_by, handled}
 use Rattle.cell_model.specs.Recovery.{held_by, holder_added, lacking_sent, told_to_spread, version_is_received, version_kept_received}
 use Rattle.cell_model.specs.Step.{Member, cell_size, Shown, Stepped, followed, quiet, showing, with_phase, leased, is_ready, is_short, short_after}
 use Rattle.cell_model.specs.Writes.{flight_settled, settled_in, settled, next_turns, settled_with_turns}
@@ -49,33 +50,33 @@ module _ (db : Database) (m : Member) (now : ℕ) (short : List Bool) where
   settled_waiting s (Ready poll spread announced) = flight_waiting s poll spread announced s.flight
 
   no_turns : (s : Server) (waiting : List Waiting) (more other : List Bool) → waiting ≡ [] →
-      next_turns db m now waiting s more ≡ next_turns db m now waiting s other
+      next_turns (always db) m now waiting s more ≡ next_turns (always db) m now waiting s other
   no_turns s [] more other is = refl
   no_turns s (w ∷ waiting) more other is = absurd (cc)
 
-  turns_same : (s : Server) → s.waiting ≡ [] → settled_with_turns db m s now short ≡ settled_with_turns db m s now []
+  turns_same : (s : Server) → s.waiting ≡ [] → settled_with_turns (always db) m s now short ≡ settled_with_turns (always db) m s now []
   turns_same s none =
       let t : Stepped = settled m s in
       let waiting : t.server.waiting ≡ [] = subst (λ (w : List Waiting). t.server.waiting ≡ w) none (settled_waiting s s.phase) in
       ap (λ (u : Stepped). record { server = u.server; calls = t.calls ++ u.calls; shown = t.shown ++ u.shown })
       (no_turns t.server t.server.waiting (short_after t.shown short) (short_after t.shown []) waiting)
 
-  holder_same : (s : Server) (k : ℕ) → s.waiting ≡ [] → holder_added db m s now k short ≡ holder_added db m s now k []
+  holder_same : (s : Server) (k : ℕ) → s.waiting ≡ [] → holder_added (always db) m s now k short ≡ holder_added (always db) m s now k []
   holder_same s k none = turns_same (with_phase s (held_by s.phase k)) none
 
   told_same : (s : Server) (host : Host) (k : ℕ) (poll : Polled) (spread : Spread) (number : ℕ) (version : Version) → s.waiting ≡ [] →
-      told_to_spread db m s now host k poll spread number version short ≡ told_to_spread db m s now host k poll spread number version []
+      told_to_spread (always db) m s now host k poll spread number version short ≡ told_to_spread (always db) m s now host k poll spread number version []
   told_same s host k poll spread number version none =
       let lacking : Stepped = lacking_sent m s host poll spread version s.flight in
       cond_same (number == poll.number)
-      (cond (version_eq version s.version) (holder_added db m s now k short) lacking)
-      (cond (version_eq version s.version) (holder_added db m s now k []) lacking) (quiet s) (quiet s)
-      (cond_same (version_eq version s.version) (holder_added db m s now k short) (holder_added db m s now k []) lacking lacking
+      (cond (version_eq version s.version) (holder_added (always db) m s now k short) lacking)
+      (cond (version_eq version s.version) (holder_added (always db) m s now k []) lacking) (quiet s) (quiet s)
+      (cond_same (version_eq version s.version) (holder_added (always db) m s now k short) (holder_added (always db) m s now k []) lacking lacking
       (holder_same s k none) refl)
       refl
 
   version_is_same : (s : Server) (host : Host) (k number : ℕ) (version : Version) (phase : PhaseRecord) → s.waiting ≡ [] →
-      version_is_received db m s now host k number version short phase ≡ version_is_received db m s now host k number version [] phase
+      version_is_received (always db) m s now host k number version short phase ≡ version_is_received (always db) m s now host k number version [] phase
   version_is_same s host k number version NoPhase none = refl
   version_is_same s host k number version (Poll poll) none = refl
   version_is_same s host k number version (Fetch poll best from) none = refl
@@ -84,14 +85,14 @@ module _ (db : Database) (m : Member) (now : ℕ) (short : List Bool) where
   version_is_same s host k number version (Ready poll spread announced) none = told_same s host k poll spread number version none
 
   kept_same : (s : Server) (k : ℕ) (version : Version) → s.waiting ≡ [] →
-      cond (version_eq version s.version) (holder_added db m s now k short) (quiet s)
-      ≡ cond (version_eq version s.version) (holder_added db m s now k []) (quiet s)
+      cond (version_eq version s.version) (holder_added (always db) m s now k short) (quiet s)
+      ≡ cond (version_eq version s.version) (holder_added (always db) m s now k []) (quiet s)
   kept_same s k version none =
-      cond_same (version_eq version s.version) (holder_added db m s now k short) (holder_added db m s now k []) (quiet s) (quiet s)
+      cond_same (version_eq version s.version) (holder_added (always db) m s now k short) (holder_added (always db) m s now k []) (quiet s) (quiet s)
       (holder_same s k none) refl
 
   version_kept_same : (s : Server) (k : ℕ) (version : Version) (phase : PhaseRecord) → s.waiting ≡ [] →
-      version_kept_received db m s now k version short phase ≡ version_kept_received db m s now k version [] phase
+      version_kept_received (always db) m s now k version short phase ≡ version_kept_received (always db) m s now k version [] phase
   version_kept_same s k version NoPhase none = refl
   version_kept_same s k version (Poll poll) none = refl
   version_kept_same s k version (Fetch poll best from) none = refl
@@ -100,7 +101,7 @@ module _ (db : Database) (m : Member) (now : ℕ) (short : List Bool) where
   version_kept_same s k version (Ready poll spread announced) none = kept_same s k version none
 
   from_same : (s : Server) (host : Host) (k : ℕ) (b : Body) → s.waiting ≡ [] →
-      received_from db m s now host k b short ≡ received_from db m s now host k b []
+      received_from (always db) m s now host k b short ≡ received_from (always db) m s now host k b []
   from_same s host k (body.Beacon start claim ready version) none = refl
   from_same s host k (body.Vote start granted) none = refl
   from_same s host k (body.GetVersion poll) none = refl
@@ -117,7 +118,7 @@ module _ (db : Database) (m : Member) (now : ℕ) (short : List Bool) where
   from_same s host k (body.VersionKept version) none = version_kept_same s k version s.phase none
 
   packet_same : (s : Server) (p : Packet) (place : Option ℕ) → s.waiting ≡ [] →
-      received_packet db m s now p short place ≡ received_packet db m s now p [] place
+      received_packet (always db) m s now p short place ≡ received_packet (always db) m s now p [] place
   packet_same s p None none = refl
   packet_same s p (Some k) none = from_same s p.from k p.body none
 
@@ -162,7 +163,7 @@ module _ (db : Database) (m : Member) (s : Server) (now id : ℕ) (call : List �
 -- ---- steps
 
 handled_either : (db : Database) (m : Member) (s : Server) (now : ℕ) (e : NodeEvent) (short : List Bool) → s.flight ≡ None →
-    s.waiting ≡ [] → IsEither s (handled db m s now e short) (handled db m s now e [])
+    s.waiting ≡ [] → IsEither s (handled (always db) m s now e short) (handled (always db) m s now e [])
 handled_either db m s now (event.Packet p) short flight none = inl (packet_same db m now short s p (place_of m.hosts p.from) none)
 handled_either db m s now event.BeaconTurn short flight none = inl refl
 handled_either db m s now event.RecoverTurn short flight none = inl refl
@@ -170,13 +171,13 @@ handled_either db m s now (event.Ask id call) short flight none = asked_either d
 
 step_either : (db : Database) (m : Member) (s : Server) (now : ℕ) (e : NodeEvent) (short : List Bool) → s.flight ≡ None →
     s.waiting ≡ [] → IsEither s (step_of db m s now e short) (step_of db m s now e [])
-unfolding step_of
+unfolding step_by
 step_either db m s now e choices flight none = cond_both (leased m s now) _ _ P (λ _. kept s.flight flight) (λ _. lapses)
   where
     P : Stepped → Type 0
     P t =
-        IsEither s (followed t (λ after. handled db m after now e (short_after t.shown choices)))
-        (followed t (λ after. handled db m after now e (short_after t.shown [])))
+        IsEither s (followed t (λ after. handled (always db) m after now e (short_after t.shown choices)))
+        (followed t (λ after. handled (always db) m after now e (short_after t.shown [])))
 
     kept : (f : Option Flight) → f ≡ None → P (write_lapsed m s now f)
     kept None is = handled_either db m s now e choices flight none

@@ -15,6 +15,7 @@ use Rattle.db_image.specs.Database.{Database}
 use Rattle.cell_model.specs.declared.events.NodeEvent.{NodeEvent}
 use Rattle.cell_model.specs.Durable.{Received}
 use Rattle.cell_model.specs.Durable as durables
+use Rattle.cell_model.specs.Evaluating.{always}
 use Rattle.cell_model.specs.Node.{Server, ReceivedText, Flight, Waiting}
 use Rattle.cell_model.specs.Polls.{new_poll, polling, with_answer, best_answer, first_with, entry_at, is_marked}
 use Rattle.cell_model.specs.Recovery.{asks_versions, has_answered, spread_answer, first_of_epoch, own_relabelling, relabelled_to, relabelled, polled}
@@ -157,16 +158,16 @@ module _ (m : Member) (now : ℕ) (e : NodeEvent) (inside : m.me < cell_size m) 
 
   module _ (db : Database) where
     none_turns : (s : Server) (waiting : List Waiting) (short : List Bool) → waiting ≡ [] → Good s →
-        Goes 0 m e s (next_turns db m now waiting s short)
+        Goes 0 m e s (next_turns (always db) m now waiting s short)
     none_turns s [] short is good = rests m e 0 s good
     none_turns s (w ∷ waiting) short is good = absurd (cc)
 
-    holder_goes : (s : Server) (k : ℕ) (short : List Bool) → Good s → Goes 0 m e s (holder_added db m s now k short)
+    holder_goes : (s : Server) (k : ℕ) (short : List Bool) → Good s → Goes 0 m e s (holder_added (always db) m s now k short)
     holder_goes s k short good =
         let u : Server = with_phase s (held_by s.phase k) in
-        before m e 0 s u (holder_added db m s now k short) refl
+        before m e 0 s u (holder_added (always db) m s now k short) refl
         (follows m e 0 0 u (settled m u)
-        (λ after. next_turns db m now after.waiting after (short_after (settled m u).shown short))
+        (λ after. next_turns (always db) m now after.waiting after (short_after (settled m u).shown short))
         (settled_goes u (phase_is (cell_size m) s (held_by s.phase k) (held_is (cell_size m) s.phase k good.phase) good))
         (λ after. none_turns (settled m u).server (settled m u).server.waiting (short_after (settled m u).shown short) after.waiting after))
 
@@ -180,7 +181,7 @@ module _ (m : Member) (now : ℕ) (e : NodeEvent) (inside : m.me < cell_size m) 
 
     told_goes : (s : Server) (host : Host) (k : ℕ) (poll : Polled) (spread : Spread) (number : ℕ) (version : Version) (short : List Bool) →
         HasPlace m.hosts host → IsVersion spread.old → Good s →
-        Goes 0 m e s (told_to_spread db m s now host k poll spread number version short)
+        Goes 0 m e s (told_to_spread (always db) m s now host k poll spread number version short)
     told_goes s host k poll spread number version short there old good =
         cond_both (number == poll.number) _ _ (Goes 0 m e s)
         (λ _. cond_both (version_eq version s.version) _ _ (Goes 0 m e s) (λ _. holder_goes s k short good)
@@ -189,7 +190,7 @@ module _ (m : Member) (now : ℕ) (e : NodeEvent) (inside : m.me < cell_size m) 
 
     pub version_is_goes : (s : Server) (host : Host) (k number : ℕ) (version : Version) (short : List Bool) (phase : PhaseRecord) →
         HasPlace m.hosts host → IsVersion version → IsPhaseOf (cell_size m) phase → Good s →
-        Goes 1 m e s (version_is_received db m s now host k number version short phase)
+        Goes 1 m e s (version_is_received (always db) m s now host k number version short phase)
     version_is_goes s host k number version short NoPhase there is known good = rests m e 1 s good
     version_is_goes s host k number version short (Poll poll) there is known good =
         cond_both (number == poll.number) _ _ (Goes 1 m e s)
@@ -204,7 +205,7 @@ module _ (m : Member) (now : ℕ) (e : NodeEvent) (inside : m.me < cell_size m) 
         within m e 0 1 s _ (omega arith) (told_goes s host k poll spread number version short there known.1 good)
 
     pub version_kept_goes : (s : Server) (k : ℕ) (version : Version) (short : List Bool) (phase : PhaseRecord) → Good s →
-        Goes 0 m e s (version_kept_received db m s now k version short phase)
+        Goes 0 m e s (version_kept_received (always db) m s now k version short phase)
     version_kept_goes s k version short NoPhase good = rests m e 0 s good
     version_kept_goes s k version short (Poll poll) good = rests m e 0 s good
     version_kept_goes s k version short (Fetch poll best from) good = rests m e 0 s good

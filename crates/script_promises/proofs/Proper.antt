@@ -22,9 +22,10 @@ use Rattle.cell_model.specs.declared.events.NodeEvent.TheVariants as event
 use Rattle.cell_model.specs.declared.events.Output.{Output}
 use Rattle.cell_model.specs.declared.events.Output.TheVariants as output
 use Rattle.cell_model.specs.Asks.{read_reply, write_asked, served, asked_elsewhere, asked_as, allows_reads, not_served}
+use Rattle.cell_model.specs.Evaluating.{always}
 use Rattle.cell_model.specs.Lapse.{flight_refused, waiting_refused, without_writes, write_lapsed, no_quorum}
 use Rattle.cell_model.specs.Node.{Node, Down, Halted, Up, Server, Flight, Waiting}
-use Rattle.cell_model.specs.NodeRule.{step_of, handled, refusals}
+use Rattle.cell_model.specs.NodeRule.{step_of, step_by, handled, refusals}
 use Rattle.cell_model.specs.Polls.{polling, new_poll, best_answer}
 use Rattle.cell_model.specs.Recovery.{relabelled, polled, recovered}
 use Rattle.ubik_types.specs.declared.hosts.Host.{Host}
@@ -242,7 +243,7 @@ GoodEvent db event.RecoverTurn = Unit {0}
 GoodEvent db (event.Ask id call) = GoodCall db call
 
 handled_fine : (db : Database) (s : Server) (now : ℕ) (e : NodeEvent) → GoodEvent db e → IsAlone s → OwnHeard s.votes.sync
-    → IsFine (handled db only s now e [])
+    → IsFine (handled (always db) only s now e [])
 handled_fine db s now (event.Packet p) good alone heard = absurd good
 handled_fine db s now event.BeaconTurn good alone heard =
     cond_both (beacon_is_due s.votes now 0 (leased only s now)) _ _ IsFine
@@ -253,13 +254,13 @@ handled_fine db s now (event.Ask id call) good alone heard = as_fine db s now id
 
 pub step_fine : (db : Database) (s : Server) (now : ℕ) (e : NodeEvent) → GoodEvent db e → IsAlone s → OwnHeard s.votes.sync
     → IsFine (step_of db only s now e [])
-unfolding step_of
+unfolding step_by
 step_fine db s now e good lone heard =
     cond_both (leased only s now) _ _ P (λ _. kept s.flight lone.flight)
     (λ _. lapses _ _ s.flight s.waiting lone.flight lone.waiting)
   where
     P : Stepped → Type 0
-    P t = IsFine (followed t (λ after. handled db only after now e (short_after t.shown [])))
+    P t = IsFine (followed t (λ after. handled (always db) only after now e (short_after t.shown [])))
 
     kept : (f : Option Flight) → f ≡ None → P (write_lapsed only s now f)
     kept None is = handled_fine db s now e good lone heard

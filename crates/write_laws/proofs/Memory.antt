@@ -31,9 +31,10 @@ use Rattle.cell_model.specs.declared.events.NodeEvent.TheVariants as event
 use Rattle.cell_model.specs.declared.events.Output.{Output}
 use Rattle.cell_model.specs.declared.events.Output.TheVariants as output
 use Rattle.cell_model.specs.Asks.{read_reply, read, put_into_line, write_asked, served, asked_elsewhere, asked_as, allows_reads}
+use Rattle.cell_model.specs.Evaluating.{always}
 use Rattle.cell_model.specs.Lapse.{no_quorum, lapsed}
 use Rattle.cell_model.specs.Node.{Server, Flight, Waiting}
-use Rattle.cell_model.specs.NodeRule.{place_of, received_from, received_packet, handled, step_of}
+use Rattle.cell_model.specs.NodeRule.{place_of, received_from, received_packet, handled, step_of, step_by}
 use Rattle.cell_model.specs.Polls.{only_holder}
 use Rattle.cell_model.specs.Recovery.{held_by, holder_added, lacking_sent, version_is_received, version_kept_received}
 use Rattle.cell_model.specs.Step.{Member, cell_size, Basis, Evaluation, Shown, Stepped, quiet, showing, followed, with_phase, leased, is_ready}
@@ -320,16 +321,16 @@ module _ (db : Database) (m : Member) (s : Server) (now id : ℕ) (call : List �
 
 module _ (db : Database) (m : Member) (now : ℕ) where
   -- a server that is not free makes no turn
-  stuck_shows : (waiting : List Waiting) (s : Server) (short : List Bool) → is_free s ≡ false → (next_turns db m now waiting s short).shown ≡ []
+  stuck_shows : (waiting : List Waiting) (s : Server) (short : List Bool) → is_free s ≡ false → (next_turns (always db) m now waiting s short).shown ≡ []
   stuck_shows [] s short is = refl
   stuck_shows (w ∷ waiting) s short is =
       ap (λ (t : Bool). (cond t (followed (write_turn db m (record s { waiting = waiting }) now w.id w.call (is_short short))
-      (λ after. next_turns db m now waiting after
+      (λ after. next_turns (always db) m now waiting after
       (short_after (write_turn db m (record s { waiting = waiting }) now w.id w.call (is_short short)).shown short))) (quiet s)).shown) is
 
   next_told : (waiting : List Waiting) (s : Server) (short choices : List Bool) →
-      Tell (answers_of (next_turns db m now waiting s short).shown) choices →
-      next_turns db m now waiting s short ≡ next_turns db m now waiting s choices
+      Tell (answers_of (next_turns (always db) m now waiting s short).shown) choices →
+      next_turns (always db) m now waiting s short ≡ next_turns (always db) m now waiting s choices
   next_told [] s short choices tell = refl
   next_told (w ∷ waiting) s short choices tell =
       by (is_free s) (λ u short choices tell. next_told waiting u short choices tell) tell
@@ -341,53 +342,53 @@ module _ (db : Database) (m : Member) (now : ℕ) where
       t b = write_turn db m u now w.id w.call b
 
       turn : Bool → List Bool → Stepped
-      turn b l = followed (t b) (λ after. next_turns db m now waiting after (short_after (t b).shown l))
+      turn b l = followed (t b) (λ after. next_turns (always db) m now waiting after (short_after (t b).shown l))
 
-      by : (free : Bool) → ((u : Server) (short choices : List Bool) → Tell (answers_of (next_turns db m now waiting u short).shown) choices →
-          next_turns db m now waiting u short ≡ next_turns db m now waiting u choices) →
+      by : (free : Bool) → ((u : Server) (short choices : List Bool) → Tell (answers_of (next_turns (always db) m now waiting u short).shown) choices →
+          next_turns (always db) m now waiting u short ≡ next_turns (always db) m now waiting u choices) →
           Tell (answers_of (cond free (turn (is_short short) short) (quiet s)).shown) choices →
           cond free (turn (is_short short) short) (quiet s) ≡ cond free (turn (is_short choices) choices) (quiet s)
       by false later told = refl
       by true later told =
           let b : Bool = is_short short in
-          let rest : Stepped = next_turns db m now waiting (t b).server (short_after (t b).shown short) in
+          let rest : Stepped = next_turns (always db) m now waiting (t b).server (short_after (t b).shown short) in
           let same : is_short choices ≡ b =
           turn_told db m u now w.id w.call b rest.shown choices
           (λ stuck. ap answers_of (stuck_shows waiting (t b).server (short_after (t b).shown short) stuck)) told in
-          let after : rest ≡ next_turns db m now waiting (t b).server (short_after (t b).shown choices) =
+          let after : rest ≡ next_turns (always db) m now waiting (t b).server (short_after (t b).shown choices) =
           later (t b).server (short_after (t b).shown short) (short_after (t b).shown choices) (then_tell (t b).shown rest.shown choices told) in
           ap (λ (x : Stepped). record { server = x.server; calls = (t b).calls ++ x.calls; shown = (t b).shown ++ x.shown }) after
           ∙ ap (λ (c : Bool). turn c choices) (sym same)
 
-  holder_told : (s : Server) (k : ℕ) (short choices : List Bool) → Tell (answers_of (holder_added db m s now k short).shown) choices →
-      holder_added db m s now k short ≡ holder_added db m s now k choices
+  holder_told : (s : Server) (k : ℕ) (short choices : List Bool) → Tell (answers_of (holder_added (always db) m s now k short).shown) choices →
+      holder_added (always db) m s now k short ≡ holder_added (always db) m s now k choices
   holder_told s k short choices tell =
       let t : Stepped = settled m (with_phase s (held_by s.phase k)) in
-      let rest : Stepped = next_turns db m now t.server.waiting t.server (short_after t.shown short) in
+      let rest : Stepped = next_turns (always db) m now t.server.waiting t.server (short_after t.shown short) in
       ap (λ (x : Stepped). record { server = x.server; calls = t.calls ++ x.calls; shown = t.shown ++ x.shown })
       (next_told t.server.waiting t.server (short_after t.shown short) (short_after t.shown choices) (then_tell t.shown rest.shown choices tell))
 
   -- ---- packets
 
   kept_told : (s : Server) (k : ℕ) (same : Bool) (other : Stepped) (short choices : List Bool) →
-      Tell (answers_of (cond same (holder_added db m s now k short) other).shown) choices →
-      cond same (holder_added db m s now k short) other ≡ cond same (holder_added db m s now k choices) other
+      Tell (answers_of (cond same (holder_added (always db) m s now k short) other).shown) choices →
+      cond same (holder_added (always db) m s now k short) other ≡ cond same (holder_added (always db) m s now k choices) other
   kept_told s k true other short choices tell = holder_told s k short choices tell
   kept_told s k false other short choices tell = refl
 
   spread_told : (s : Server) (host : Host) (k : ℕ) (poll : Polled) (spread : Spread) (number : ℕ) (version : Version) (here : Bool)
       (short choices : List Bool) →
-      Tell (answers_of (cond here (cond (version_eq version s.version) (holder_added db m s now k short)
+      Tell (answers_of (cond here (cond (version_eq version s.version) (holder_added (always db) m s now k short)
       (lacking_sent m s host poll spread version s.flight)) (quiet s)).shown) choices →
-      cond here (cond (version_eq version s.version) (holder_added db m s now k short) (lacking_sent m s host poll spread version s.flight)) (quiet s)
-      ≡ cond here (cond (version_eq version s.version) (holder_added db m s now k choices) (lacking_sent m s host poll spread version s.flight)) (quiet s)
+      cond here (cond (version_eq version s.version) (holder_added (always db) m s now k short) (lacking_sent m s host poll spread version s.flight)) (quiet s)
+      ≡ cond here (cond (version_eq version s.version) (holder_added (always db) m s now k choices) (lacking_sent m s host poll spread version s.flight)) (quiet s)
   spread_told s host k poll spread number version true short choices tell =
       kept_told s k (version_eq version s.version) (lacking_sent m s host poll spread version s.flight) short choices tell
   spread_told s host k poll spread number version false short choices tell = refl
 
   version_is_told : (s : Server) (host : Host) (k number : ℕ) (version : Version) (phase : PhaseRecord) (short choices : List Bool) →
-      Tell (answers_of (version_is_received db m s now host k number version short phase).shown) choices →
-      version_is_received db m s now host k number version short phase ≡ version_is_received db m s now host k number version choices phase
+      Tell (answers_of (version_is_received (always db) m s now host k number version short phase).shown) choices →
+      version_is_received (always db) m s now host k number version short phase ≡ version_is_received (always db) m s now host k number version choices phase
   version_is_told s host k number version NoPhase short choices tell = refl
   version_is_told s host k number version (Poll poll) short choices tell = refl
   version_is_told s host k number version (Fetch poll best from) short choices tell = refl
@@ -398,8 +399,8 @@ module _ (db : Database) (m : Member) (now : ℕ) where
       spread_told s host k poll spread number version (number == poll.number) short choices tell
 
   version_kept_told : (s : Server) (k : ℕ) (version : Version) (phase : PhaseRecord) (short choices : List Bool) →
-      Tell (answers_of (version_kept_received db m s now k version short phase).shown) choices →
-      version_kept_received db m s now k version short phase ≡ version_kept_received db m s now k version choices phase
+      Tell (answers_of (version_kept_received (always db) m s now k version short phase).shown) choices →
+      version_kept_received (always db) m s now k version short phase ≡ version_kept_received (always db) m s now k version choices phase
   version_kept_told s k version NoPhase short choices tell = refl
   version_kept_told s k version (Poll poll) short choices tell = refl
   version_kept_told s k version (Fetch poll best from) short choices tell = refl
@@ -409,8 +410,8 @@ module _ (db : Database) (m : Member) (now : ℕ) where
       kept_told s k (version_eq version s.version) (quiet s) short choices tell
 
   from_told : (s : Server) (host : Host) (k : ℕ) (b : Body) (short choices : List Bool) →
-      Tell (answers_of (received_from db m s now host k b short).shown) choices →
-      received_from db m s now host k b short ≡ received_from db m s now host k b choices
+      Tell (answers_of (received_from (always db) m s now host k b short).shown) choices →
+      received_from (always db) m s now host k b short ≡ received_from (always db) m s now host k b choices
   from_told s host k (body.Beacon start claim ready version) short choices tell = refl
   from_told s host k (body.Vote start granted) short choices tell = refl
   from_told s host k (body.GetVersion poll) short choices tell = refl
@@ -427,13 +428,13 @@ module _ (db : Database) (m : Member) (now : ℕ) where
   from_told s host k (body.VersionKept version) short choices tell = version_kept_told s k version s.phase short choices tell
 
   packet_told : (s : Server) (p : Packet) (place : Option ℕ) (short choices : List Bool) →
-      Tell (answers_of (received_packet db m s now p short place).shown) choices →
-      received_packet db m s now p short place ≡ received_packet db m s now p choices place
+      Tell (answers_of (received_packet (always db) m s now p short place).shown) choices →
+      received_packet (always db) m s now p short place ≡ received_packet (always db) m s now p choices place
   packet_told s p None short choices tell = refl
   packet_told s p (Some k) short choices tell = from_told s p.from k p.body short choices tell
 
-  handled_told : (s : Server) (e : NodeEvent) (short choices : List Bool) → Tell (answers_of (handled db m s now e short).shown) choices →
-      handled db m s now e short ≡ handled db m s now e choices
+  handled_told : (s : Server) (e : NodeEvent) (short choices : List Bool) → Tell (answers_of (handled (always db) m s now e short).shown) choices →
+      handled (always db) m s now e short ≡ handled (always db) m s now e choices
   handled_told s (event.Packet p) short choices tell = packet_told s p (place_of m.hosts p.from) short choices tell
   handled_told s event.BeaconTurn short choices tell = refl
   handled_told s event.RecoverTurn short choices tell = refl
@@ -443,10 +444,10 @@ module _ (db : Database) (m : Member) (now : ℕ) where
 
 step_told : (db : Database) (m : Member) (s : Server) (now : ℕ) (e : NodeEvent) (short choices : List Bool) →
     Tell (answers_of (step_of db m s now e short).shown) choices → step_of db m s now e short ≡ step_of db m s now e choices
-unfolding step_of
+unfolding step_by
 step_told db m s now e short choices tell =
     let t : Stepped = lapsed m s now in
-    let rest : Stepped = handled db m t.server now e (short_after t.shown short) in
+    let rest : Stepped = handled (always db) m t.server now e (short_after t.shown short) in
     ap (λ (x : Stepped). record { server = x.server; calls = t.calls ++ x.calls; shown = t.shown ++ x.shown })
     (handled_told db m now t.server e (short_after t.shown short) (short_after t.shown choices) (then_tell t.shown rest.shown choices tell))
 

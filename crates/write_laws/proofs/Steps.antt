@@ -20,10 +20,11 @@ use Rattle.db_image.specs.Database.{Database}
 use Rattle.cell_model.specs.Durable.{durable}
 use Rattle.cell_model.specs.declared.events.NodeEvent.{NodeEvent}
 use Rattle.cell_model.specs.declared.events.NodeEvent.TheVariants as event
+use Rattle.cell_model.specs.Evaluating.{always}
 use Rattle.cell_model.specs.Lapse.{no_quorum, flight_refused, waiting_refused, writes_refused, without_writes, phase_dropped, write_given_up}
 use Rattle.cell_model.specs.Lapse.{write_lapsed, lapsed}
 use Rattle.cell_model.specs.Node.{Server, Flight, Waiting}
-use Rattle.cell_model.specs.NodeRule.{place_of, received_from, received_packet, handled, step_of}
+use Rattle.cell_model.specs.NodeRule.{place_of, received_from, received_packet, handled, step_of, step_by}
 use Rattle.cell_model.specs.Polls.{polling, with_answer}
 use Rattle.cell_model.specs.Recovery.{told_to_spread, holder_added, version_is_received, version_kept_received}
 use Rattle.cell_model.specs.Step.{Member, cell_size, Shown, Stepped, quiet, showing, leased, with_phase, is_short, short_after, sends_to_all}
@@ -146,24 +147,24 @@ module _ (db : Database) (m : Member) (now : ℕ) (inside : m.me < cell_size m) 
   resting : Part (quiet s)
   resting = still 2 (quiet s) (omega arith) (rests db m 2 s fits)
 
-  holder : (k : ℕ) (short : List Bool) → Part (holder_added db m s now k short)
+  holder : (k : ℕ) (short : List Bool) → Part (holder_added (always db) m s now k short)
   holder k short = by (holder_handles db m now inside moment s k short good)
     where
       at_most : (n : ℕ) → n ≤ 1 → n ≤ 2
       at_most n few = omega arith
 
-      by : Handles db m 1 [] s (holder_added db m s now k short) → Part (holder_added db m s now k short)
+      by : Handles db m 1 [] s (holder_added (always db) m s now k short) → Part (holder_added (always db) m s now k short)
       by is = record {
         server = is.server;
         shown = is.shown;
         fits = is.fits;
         leads = is.leads;
-        few = at_most (length (holder_added db m s now k short).calls) is.few;
+        few = at_most (length (holder_added (always db) m s now k short).calls) is.few;
         line = is.line;
       }
 
   told : (host : Host) (k : ℕ) (poll : Polled) (spread : Spread) (number : ℕ) (version : Version) (short : List Bool) →
-      HasPlace m.hosts host → IsVersion spread.old → Part (told_to_spread db m s now host k poll spread number version short)
+      HasPlace m.hosts host → IsVersion spread.old → Part (told_to_spread (always db) m s now host k poll spread number version short)
   told host k poll spread number version short there old =
       cond_both (number == poll.number) _ _ Part
       (λ _. cond_both (version_eq version s.version) _ _ Part (λ _. holder k short)
@@ -172,7 +173,7 @@ module _ (db : Database) (m : Member) (now : ℕ) (inside : m.me < cell_size m) 
 
   version_is : (host : Host) (k number : ℕ) (version : Version) (short : List Bool) (phase : PhaseRecord) → s.phase ≡ phase →
       HasPlace m.hosts host → IsVersion version → IsPhaseOf (cell_size m) phase →
-      Part (version_is_received db m s now host k number version short phase)
+      Part (version_is_received (always db) m s now host k number version short phase)
   version_is host k number version short NoPhase at there is known = resting
   version_is host k number version short (Poll poll) at there is known =
       cond_both (number == poll.number) _ _ Part
@@ -190,7 +191,7 @@ module _ (db : Database) (m : Member) (now : ℕ) (inside : m.me < cell_size m) 
       told host k poll spread number version short there known.1
 
   version_kept : (k : ℕ) (version : Version) (short : List Bool) (phase : PhaseRecord) →
-      Part (version_kept_received db m s now k version short phase)
+      Part (version_kept_received (always db) m s now k version short phase)
   version_kept k version short NoPhase = resting
   version_kept k version short (Poll poll) = resting
   version_kept k version short (Fetch poll best from) = resting
@@ -201,7 +202,7 @@ module _ (db : Database) (m : Member) (now : ℕ) (inside : m.me < cell_size m) 
       cond_both (version_eq version s.version) _ _ Part (λ _. holder k short) (λ _. resting)
 
   from_goes : (host : Host) (k : ℕ) (b : Body) (short : List Bool) → IsBoundedBody b → HasPlace m.hosts host →
-      Part (received_from db m s now host k b short)
+      Part (received_from (always db) m s now host k b short)
   from_goes host k (body.Beacon start claim ready version) short is there =
       still 2 _ (omega arith) (beacon_goes db m now inside moment s host k start claim ready version there fits)
   from_goes host k (body.Vote start granted) short is there = still 2 _ (omega arith) (vote_goes db m now inside moment s k start granted fits)
@@ -227,13 +228,13 @@ module _ (db : Database) (m : Member) (now : ℕ) (inside : m.me < cell_size m) 
   from_goes host k (body.Abort new) short is there = still 1 _ (omega arith) (abort_goes db m now inside moment s new fits)
   from_goes host k (body.VersionKept version) short is there = version_kept k version short s.phase
 
-  packet_goes : (p : Packet) (short : List Bool) (place : Option ℕ) → IsCellPacket m.hosts p → Part (received_packet db m s now p short place)
+  packet_goes : (p : Packet) (short : List Bool) (place : Option ℕ) → IsCellPacket m.hosts p → Part (received_packet (always db) m s now p short place)
   packet_goes p short None is = resting
   packet_goes p short (Some k) is = from_goes p.from k p.body short is.bounded is.sender
 
   -- ---- events
 
-  pub handled_goes : (e : NodeEvent) (short : List Bool) → IsBrought m e → Handles db m 2 (asked_in e) s (handled db m s now e short)
+  pub handled_goes : (e : NodeEvent) (short : List Bool) → IsBrought m e → Handles db m 2 (asked_in e) s (handled (always db) m s now e short)
   handled_goes (event.Packet p) short brought = packet_goes p short (place_of m.hosts p.from) brought
   handled_goes event.BeaconTurn short brought = still 2 _ (omega arith) (beacon_turn_goes db m now inside moment s fits)
   handled_goes event.RecoverTurn short brought =
@@ -244,8 +245,8 @@ module _ (db : Database) (m : Member) (now : ℕ) (inside : m.me < cell_size m) 
 
 pub step_goes : (db : Database) (m : Member) (now : ℕ) (s : Server) (e : NodeEvent) (short : List Bool) → m.me < cell_size m → IsMoment now →
     IsKeeping db (cell_size m) s → IsBrought m e → Handles db m 2 (asked_in e) s (step_of db m s now e short)
-unfolding step_of
+unfolding step_by
 step_goes db m now s e short inside moment good brought =
     let lapse : Handles db m 0 [] s (lapsed m s now) = lapse_goes db m now inside s good in
-    handles_then db m 0 2 (asked_in e) s (lapsed m s now) (λ after. handled db m after now e (short_after (lapsed m s now).shown short)) lapse
+    handles_then db m 0 2 (asked_in e) s (lapsed m s now) (λ after. handled (always db) m after now e (short_after (lapsed m s now).shown short)) lapse
     (handled_goes db m now inside moment (lapsed m s now).server lapse.server e (short_after (lapsed m s now).shown short) brought)

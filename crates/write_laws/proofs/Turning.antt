@@ -25,6 +25,7 @@ use Rattle.db_image.specs.declared.services.CallReply.{CallReply}
 use Rattle.db_image.specs.declared.services.CallReply.TheVariants as call_reply
 use Rattle.db_image.specs.Database.{Database, Outcome, changes_of}
 use Rattle.cell_model.specs.declared.events.Output.TheVariants as output
+use Rattle.cell_model.specs.Evaluating.{always}
 use Rattle.cell_model.specs.Lapse.{no_quorum, waiting_refused}
 use Rattle.cell_model.specs.Node.{Server, Flight, Waiting}
 use Rattle.cell_model.specs.Polls.{only_at, only_holder}
@@ -355,7 +356,7 @@ module _ (db : Database) (m : Member) (now : ℕ) (inside : m.me < cell_size m) 
 
   -- Where the server is free these wait; where it is not, and no write is in flight, none does.
   pub next_go : (waiting : List Waiting) (s : Server) (short : List Bool) → 1 < cell_size m → Good s →
-      (is_free s ≡ true → s.waiting ≡ waiting) → (is_free s ≡ false → IsIdle (line_of s)) → TurnsGo db m s (next_turns db m now waiting s short)
+      (is_free s ≡ true → s.waiting ≡ waiting) → (is_free s ≡ false → IsIdle (line_of s)) → TurnsGo db m s (next_turns (always db) m now waiting s short)
   next_go [] s short several good free stuck = turns_over s good (by (is_free s) refl)
     where
       by : (t : Bool) → is_free s ≡ t → IsIdle (line_of s)
@@ -371,7 +372,7 @@ module _ (db : Database) (m : Member) (now : ℕ) (inside : m.me < cell_size m) 
       let t : Stepped = write_turn db m u now w.id w.call (is_short short) in
       let first : Turned db m w u t =
       write_turned db m now inside moment u (line_keeps db (cell_size m) s waiting line.1 good) has.1 has.0 w.id w.call line.0 (is_short short) in
-      turn_then w waiting s t (λ after. next_turns db m now waiting after (short_after t.shown short)) has.1 at first several
+      turn_then w waiting s t (λ after. next_turns (always db) m now waiting after (short_after t.shown short)) has.1 at first several
       (next_go waiting t.server (short_after t.shown short) several first.serves.server first.free first.stuck))
       (λ is. turns_over s good (stuck is))
 
@@ -447,7 +448,7 @@ module _ (db : Database) (m : Member) (now : ℕ) (inside : m.me < cell_size m) 
 
   -- a holder is added, and those that wait have their turns
   pub holder_handles : (s : Server) (k : ℕ) (short : List Bool) → IsKeeping db (cell_size m) s →
-      Handles db m 1 [] s (holder_added db m s now k short)
+      Handles db m 1 [] s (holder_added (always db) m s now k short)
   holder_handles s k short good = by s.flight refl
     where
       u : Server
@@ -462,7 +463,7 @@ module _ (db : Database) (m : Member) (now : ℕ) (inside : m.me < cell_size m) 
       settling : Settled u t
       settling = settles u u.phase refl held.phase good.idle held
 
-      from : Serves db m 1 (unanswered u) u (holder_added db m s now k short) → Serves db m 1 (unanswered s) s (holder_added db m s now k short)
+      from : Serves db m 1 (unanswered u) u (holder_added (always db) m s now k short) → Serves db m 1 (unanswered s) s (holder_added (always db) m s now k short)
       from is = record {
         server = is.server;
         shown = is.shown;
@@ -476,22 +477,22 @@ module _ (db : Database) (m : Member) (now : ℕ) (inside : m.me < cell_size m) 
 
       -- nothing waits
       none_waits : (waiting : List Waiting) → waiting ≡ [] → IsIdle (line_of t.server) →
-          TurnsGo db m t.server (next_turns db m now waiting t.server (short_after t.shown short))
+          TurnsGo db m t.server (next_turns (always db) m now waiting t.server (short_after t.shown short))
       none_waits [] none idle = turns_over t.server settling.serves.server idle
       none_waits (w ∷ waiting) none idle = absurd (cc)
 
-      then_go : TurnsGo db m t.server (next_turns db m now t.server.waiting t.server (short_after t.shown short)) →
-          Handles db m 1 [] s (holder_added db m s now k short)
+      then_go : TurnsGo db m t.server (next_turns (always db) m now t.server.waiting t.server (short_after t.shown short)) →
+          Handles db m 1 [] s (holder_added (always db) m s now k short)
       then_go go =
-          handles db m 1 s (holder_added db m s now k short) good
-          (from (serves_then db m 0 1 (unanswered u) u t (λ after. next_turns db m now after.waiting after (short_after t.shown short)) settling.serves go.serves))
+          handles db m 1 s (holder_added (always db) m s now k short) good
+          (from (serves_then db m 0 1 (unanswered u) u t (λ after. next_turns (always db) m now after.waiting after (short_after t.shown short)) settling.serves go.serves))
           go.idle
 
       -- without a write in flight none waits behind it
       nobody : s.flight ≡ None → t.server.waiting ≡ []
       nobody none = settling.waits ∙ good.idle none
 
-      by : (f : Option Flight) → s.flight ≡ f → Handles db m 1 [] s (holder_added db m s now k short)
+      by : (f : Option Flight) → s.flight ≡ f → Handles db m 1 [] s (holder_added (always db) m s now k short)
       by None none = then_go (none_waits t.server.waiting (nobody none) (λ _. nobody none))
       by (Some f) there =
           then_go (next_go t.server.waiting t.server (short_after t.shown short) (several_there s f there (keeps db (cell_size m) s good))
