@@ -7,7 +7,7 @@ use Rattle.ubik_types.specs.Version.{IsVersion, version_lt}
 use Rattle.ubik_types.specs.Phase as phases
 use Rattle.ubik_calls.specs.declared.packets.Body.{Body}
 use Rattle.ubik_calls.specs.declared.packets.Body.TheVariants as body
-use Rattle.db_image.specs.Database.{Database}
+use Rattle.cell_model.specs.Evaluating.{Databases}
 use Rattle.cell_model.specs.declared.events.Output.{Output}
 use Rattle.cell_model.specs.Node.{ReceivedText, Server, halted_from}
 use Rattle.cell_model.specs.Pieces.{piece_from}
@@ -39,16 +39,16 @@ then_ended m (text_end.Waits next) s = quiet (with_phase s (phases.Relabel (poll
 then_ended m (text_end.Relabelled next new) s = followed (relabelled_to m s (polled_of next) new) (settled m)
 
 -- the step of the rules that an act comes to
-abbrev pub stepped_by : Database → Member → ℕ → List Bool → Server → Act → Stepped
-stepped_by db m now short s act.Rest = quiet s
-stepped_by db m now short s (act.Send host b) = showing s (sends_to m host b)
-stepped_by db m now short s (act.SendPiece host poll at asked) = showing s (sends_to m host (own_piece s poll at asked))
-stepped_by db m now short s (act.TakeVersion host new) = followed (relabelled_by s new) (answers_version_kept m host)
-stepped_by db m now short s (act.TakeWrite host new changes) = followed (committed_by s new changes) (answers_version_kept m host)
-stepped_by db m now short s (act.EndText end source at bytes) =
+abbrev pub stepped_by : Databases → Member → ℕ → List Bool → Server → Act → Stepped
+stepped_by dbs m now short s act.Rest = quiet s
+stepped_by dbs m now short s (act.Send host b) = showing s (sends_to m host b)
+stepped_by dbs m now short s (act.SendPiece host poll at asked) = showing s (sends_to m host (own_piece s poll at asked))
+stepped_by dbs m now short s (act.TakeVersion host new) = followed (relabelled_by s new) (answers_version_kept m host)
+stepped_by dbs m now short s (act.TakeWrite host new changes) = followed (committed_by s new changes) (answers_version_kept m host)
+stepped_by dbs m now short s (act.EndText end source at bytes) =
     followed (installed s source.version (with_piece source at bytes.now s.received).bytes) (then_ended m end)
-stepped_by db m now short s (act.Relabel next new) = followed (relabelled_to m s (polled_of next) new) (settled m)
-stepped_by db m now short s act.Settle = settled_with_turns db m s now short
+stepped_by dbs m now short s (act.Relabel next new) = followed (relabelled_to m s (polled_of next) new) (settled m)
+stepped_by dbs m now short s act.Settle = settled_with_turns dbs m s now short
 
 -- another version may be taken over
 pub record MayTake (st : State) (new : Version) : Type 0 where
@@ -91,14 +91,12 @@ CanAct st (act.EndText end source at bytes) =
 CanAct st (act.Relabel next new) = MayTake st new × IsOfCell (length st.cell) next
 CanAct st act.Settle = Unit {0}
 
--- what an act needs of the disk: 1, that it tells its files where there is another server; 2, that it tells them; 3, that the image stands for
--- a state too
+-- what an act needs of the disk: 1, that it tells its files where there is another server; 2, that it tells them
 abbrev pub act_need : Act → ℕ
 act_need act.Rest = 0
 act_need (act.Send host b) = 0
 act_need (act.TakeVersion host new) = 0
 act_need (act.Relabel next new) = 1
-act_need act.Settle = 3
 act_need _ = 2
 
 -- behind so many outputs there is room for what it puts out

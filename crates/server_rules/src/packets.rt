@@ -1,7 +1,7 @@
 //! The packets of another server.
 ghost use Rattle.std.specs.Prelude.{◌≡◌, ◌<◌, ◌≤◌, ℕ, Bool, List, IfOk, IsOk, OnErr, length};
 ghost use Rattle.ubik_types.specs.Moment.{IsMoment};
-ghost use Rattle.db_image.specs.Database.{Database};
+ghost use Rattle.cell_model.specs.Evaluating.{Databases};
 ghost use Rattle.cell_model.specs.NodeRule.{received_from};
 ghost use Rattle.server_state.specs.State.{member_of, server_of};
 ghost use Rattle.server_rules.specs.Acts.{Leaves, MayEndShort, act_need, stepped_by};
@@ -31,9 +31,9 @@ pub fn packet_heard<'a>(
     requires from { from < length state.old.cell }
     requires moment { IsMoment now }
     requires built { IsBuiltBody packet.now }
-    ensures step { (db : Database) (short : List Bool) → IfOk result (λ act.
-        received_from db (member_of state.old) (server_of state.old) now host from packet.now short
-        ≡ stepped_by db (member_of state.new) now short (server_of state.new) act) }
+    ensures step { (dbs : Databases) (short : List Bool) → IfOk result (λ act.
+        received_from dbs (member_of state.old) (server_of state.old) now host from packet.now short
+        ≡ stepped_by dbs (member_of state.new) now short (server_of state.new) act) }
     ensures leaves { IfOk result (Leaves state.old state.new) }
     ensures need { IfOk result (λ act. act_need act ≤ body_need packet.now) }
     ensures memory { BodyTakesNoMemory packet.now → IsOk result × IfOk result (λ act. ¬ MayEndShort act) }
@@ -86,9 +86,9 @@ fn small_heard(
     requires moment { IsMoment now }
     requires built { IsBuiltBody packet.now }
     requires small { IsSmall packet.now }
-    ensures step { (db : Database) (short : List Bool) → IfOk result (λ act.
-        received_from db (member_of state.old) (server_of state.old) now host from packet.now short
-        ≡ stepped_by db (member_of state.new) now short (server_of state.new) act) }
+    ensures step { (dbs : Databases) (short : List Bool) → IfOk result (λ act.
+        received_from dbs (member_of state.old) (server_of state.old) now host from packet.now short
+        ≡ stepped_by dbs (member_of state.new) now short (server_of state.new) act) }
     ensures leaves { IfOk result (Leaves state.old state.new) }
     ensures need { IfOk result (λ act. act_need act ≤ body_need packet.now) }
     ensures memory { BodyTakesNoMemory packet.now → IsOk result × IfOk result (λ act. ¬ MayEndShort act) }
@@ -134,9 +134,9 @@ fn write_heard(
 ) -> Result<Act<'static>, NoMemory>
     requires built { IsBuiltBody packet.now }
     requires of_write { IsOfWrite packet.now }
-    ensures step { (db : Database) (now from : ℕ) (short : List Bool) → IfOk result (λ act.
-        received_from db (member_of state.old) (server_of state.old) now host from packet.now short
-        ≡ stepped_by db (member_of state.new) now short (server_of state.new) act) }
+    ensures step { (dbs : Databases) (now from : ℕ) (short : List Bool) → IfOk result (λ act.
+        received_from dbs (member_of state.old) (server_of state.old) now host from packet.now short
+        ≡ stepped_by dbs (member_of state.new) now short (server_of state.new) act) }
     ensures leaves { IfOk result (Leaves state.old state.new) }
     ensures need { IfOk result (λ act. act_need act ≤ body_need packet.now) }
     ensures memory { BodyTakesNoMemory packet.now → IsOk result × IfOk result (λ act. ¬ MayEndShort act) }

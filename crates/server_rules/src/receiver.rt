@@ -1,7 +1,7 @@
 //! Receiver: what a server takes over of another one's database, the writes that another one began, and what it tells of its own to each that asks.
 ghost use Rattle.std.specs.Prelude.{◌≡◌, ◌≤◌, ℕ, Bool, List, IfOk, OnErr, OnOk};
 ghost use Rattle.ubik_types.specs.Version.{IsVersion};
-ghost use Rattle.db_image.specs.Database.{Database};
+ghost use Rattle.cell_model.specs.Evaluating.{Databases};
 ghost use Rattle.cell_model.specs.Receiver.{begin_received, commit_received, get_piece_received, get_version_received, put_piece_received, send_piece_received, set_version_received};
 ghost use Rattle.cell_model.specs.Step.{quiet};
 ghost use Rattle.server_state.specs.State.{Keeps, member_of, server_of};
@@ -18,8 +18,8 @@ use ubik_write::{Pending, PendingEnd};
 
 /// Get version: it is told.
 pub fn version_asked(state: &State, host: Host, poll: u32) -> Act<'static>
-    ensures step { (db : Database) (now : ℕ) (short : List Bool) → get_version_received (member_of state.now) (server_of state.now) host poll
-        ≡ stepped_by db (member_of state.now) now short (server_of state.now) result }
+    ensures step { (dbs : Databases) (now : ℕ) (short : List Bool) → get_version_received (member_of state.now) (server_of state.now) host poll
+        ≡ stepped_by dbs (member_of state.now) now short (server_of state.now) result }
     ensures can { CanAct state.now result }
     ensures need { act_need result ≤ 0 }
     ensures memory { ¬ MayEndShort result }
@@ -39,8 +39,8 @@ pub fn piece_asked(
     version: Version,
     offset: u32,
 ) -> Act<'static>
-    ensures step { (db : Database) (now : ℕ) (short : List Bool) → get_piece_received (member_of state.now) (server_of state.now) host poll version offset
-        ≡ stepped_by db (member_of state.now) now short (server_of state.now) result }
+    ensures step { (dbs : Databases) (now : ℕ) (short : List Bool) → get_piece_received (member_of state.now) (server_of state.now) host poll version offset
+        ≡ stepped_by dbs (member_of state.now) now short (server_of state.now) result }
     ensures can { CanAct state.now result }
     ensures need { act_need result ≤ 2 }
 {
@@ -58,8 +58,8 @@ pub fn piece_asked(
 /// Set version: the database of the old version is to be the one of the new version.
 pub fn version_set(state: &State, host: Host, poll: u32, old: Version, new: Version) -> Act<'static>
     requires version { IsVersion new }
-    ensures step { (db : Database) (now : ℕ) (short : List Bool) → set_version_received (member_of state.now) (server_of state.now) host poll old new
-        ≡ stepped_by db (member_of state.now) now short (server_of state.now) result }
+    ensures step { (dbs : Databases) (now : ℕ) (short : List Bool) → set_version_received (member_of state.now) (server_of state.now) host poll old new
+        ≡ stepped_by dbs (member_of state.now) now short (server_of state.now) result }
     ensures can { CanAct state.now result }
     ensures need { act_need result ≤ 0 }
 {
@@ -92,9 +92,9 @@ pub fn piece_sent<'a>(
     bytes: &'a [u8],
 ) -> Result<Act<'a>, NoMemory>
     requires version { IsVersion source.version }
-    ensures step { (db : Database) (now : ℕ) (short : List Bool) → IfOk result (λ act.
+    ensures step { (dbs : Databases) (now : ℕ) (short : List Bool) → IfOk result (λ act.
         send_piece_received (member_of state.old) (server_of state.old) host source.server poll source.version source.total offset bytes.now
-        ≡ stepped_by db (member_of state.new) now short (server_of state.new) act) }
+        ≡ stepped_by dbs (member_of state.new) now short (server_of state.new) act) }
     ensures leaves { IfOk result (Leaves state.old state.new) }
     ensures need { IfOk result (λ act. act_need act ≤ 2) }
     ensures err { OnErr result (state.new ≡ state.old) }
@@ -179,9 +179,9 @@ pub fn write_committed(
     old: Version,
     new: Version,
 ) -> Result<Act<'static>, NoMemory>
-    ensures step { (db : Database) (now : ℕ) (short : List Bool) → IfOk result (λ act.
+    ensures step { (dbs : Databases) (now : ℕ) (short : List Bool) → IfOk result (λ act.
         commit_received (member_of state.now) (server_of state.now) host old new
-        ≡ stepped_by db (member_of state.now) now short (server_of state.now) act) }
+        ≡ stepped_by dbs (member_of state.now) now short (server_of state.now) act) }
     ensures can { IfOk result (CanAct state.now) }
     ensures need { IfOk result (λ act. act_need act ≤ 2) }
 {

@@ -3,7 +3,7 @@ ghost use Rattle.std.specs.Prelude.{◌≡◌, ◌≤◌, ◌<◌, ◌+◌, ◌=
 ghost use Rattle.ubik_types.specs.declared.limits.TheConstants.{SMALLTIME};
 ghost use Rattle.ubik_types.specs.Moment.{IsMoment};
 ghost use Rattle.ubik_types.specs.Version.{IsVersion};
-ghost use Rattle.db_image.specs.Database.{Database};
+ghost use Rattle.cell_model.specs.Evaluating.{Databases};
 ghost use Rattle.cell_model.specs.Recovery.{lacking_sent, next_asked, piece_kept_received, piece_received, poll_asked, poll_begun, polled, recovery_turn, relabelled, told_to_spread, version_is_received, version_kept_received};
 ghost use Rattle.cell_model.specs.Step.{host_at};
 ghost use Rattle.ubik_recovery.specs.Record.{adopted, best_of, host_of, is_fetch, polled_of, spread_of};
@@ -31,8 +31,8 @@ pub fn recovery_turn(
 ) -> Result<Act<'static>, NoMemory>
     requires moment { IsMoment now }
     requires few { length out.old ≤ 100 }
-    ensures step { (db : Database) (short : List Bool) → IfOk result (λ act. GoesOn (recovery_turn (member_of state.old) (server_of state.old) now)
-        (stepped_by db (member_of state.new) now short (server_of state.new) act) out.old out.new) }
+    ensures step { (dbs : Databases) (short : List Bool) → IfOk result (λ act. GoesOn (recovery_turn (member_of state.old) (server_of state.old) now)
+        (stepped_by dbs (member_of state.new) now short (server_of state.new) act) out.old out.new) }
     ensures leaves { IfOk result (Leaves state.old state.new) }
     ensures need { IfOk result (λ act. act_need act ≤ 1) }
     ensures room { IfOk result (λ act. HasRoom act (length out.new)) }
@@ -72,8 +72,8 @@ fn poll_begun(state: &mut State, now: u32, out: &mut Outputs) -> Act<'static>
     requires resting { ¬ IsServing state.old.recovery }
     requires moment { IsMoment now }
     requires few { length out.old ≤ 100 }
-    ensures step { (db : Database) (short : List Bool) → GoesOn (poll_begun (member_of state.old) (server_of state.old) now)
-        (stepped_by db (member_of state.new) now short (server_of state.new) result) out.old out.new }
+    ensures step { (dbs : Databases) (short : List Bool) → GoesOn (poll_begun (member_of state.old) (server_of state.old) now)
+        (stepped_by dbs (member_of state.new) now short (server_of state.new) result) out.old out.new }
     ensures leaves { Leaves state.old state.new result }
     ensures need { act_need result ≤ 1 }
     ensures room { HasRoom result (length out.new) }
@@ -90,9 +90,9 @@ fn poll_asked(state: &mut State, next: Recovery, now: u32, out: &mut Outputs) ->
     requires moment { IsMoment now }
     requires phase { next.phase ≡ Phase.Poll }
     requires few { length out.old ≤ 100 }
-    ensures step { (db : Database) (short : List Bool)
+    ensures step { (dbs : Databases) (short : List Bool)
         → GoesOn (poll_asked (member_of state.old) (server_with state.old (adopted next state.old.recovery)) (polled_of next) now)
-        (stepped_by db (member_of state.new) now short (server_of state.new) result) out.old out.new }
+        (stepped_by dbs (member_of state.new) now short (server_of state.new) result) out.old out.new }
     ensures leaves { Leaves state.old state.new result }
     ensures need { act_need result ≤ 1 }
     ensures room { HasRoom result (length out.new) }
@@ -103,9 +103,9 @@ fn poll_asked(state: &mut State, next: Recovery, now: u32, out: &mut Outputs) ->
 
 /// In a fetch the next piece is asked for.
 fn piece_wanted(state: &State) -> Act<'static>
-    ensures step { (db : Database) (now : ℕ) (short : List Bool)
+    ensures step { (dbs : Databases) (now : ℕ) (short : List Bool)
         → next_asked (member_of state.now) (server_of state.now) (polled_of state.now.recovery) (best_of state.now.recovery) (host_of state.now.recovery)
-        ≡ stepped_by db (member_of state.now) now short (server_of state.now) result }
+        ≡ stepped_by dbs (member_of state.now) now short (server_of state.now) result }
     ensures can { CanAct state.now result }
     ensures need { act_need result ≤ 0 }
     ensures memory { ¬ MayEndShort result }
@@ -129,9 +129,9 @@ fn relabelled(state: &mut State, next: Recovery, now: u32) -> Act<'static>
     requires of_cell { IsOfCell (length state.old.cell) next }
     requires moment { IsMoment now }
     requires phase { is_fetch next.phase ≡ false }
-    ensures step { (db : Database) (short : List Bool)
+    ensures step { (dbs : Databases) (short : List Bool)
         → relabelled (member_of state.old) (server_with state.old (adopted next state.old.recovery)) (polled_of next) now
-        ≡ stepped_by db (member_of state.new) now short (server_of state.new) result }
+        ≡ stepped_by dbs (member_of state.new) now short (server_of state.new) result }
     ensures leaves { Leaves state.old state.new result }
     ensures need { act_need result ≤ 1 }
     ensures room { (outputs : ℕ) → outputs ≤ 120 → HasRoom result outputs }
@@ -155,9 +155,9 @@ fn polled(state: &mut State, next: Recovery, now: u32) -> Act<'static>
     requires of_cell { IsOfCell (length state.old.cell) next }
     requires moment { IsMoment now }
     requires phase { next.phase ≡ Phase.Poll }
-    ensures step { (db : Database) (short : List Bool)
+    ensures step { (dbs : Databases) (short : List Bool)
         → polled (member_of state.old) (server_with state.old (adopted next state.old.recovery)) (polled_of next) now
-        ≡ stepped_by db (member_of state.new) now short (server_of state.new) result }
+        ≡ stepped_by dbs (member_of state.new) now short (server_of state.new) result }
     ensures leaves { Leaves state.old state.new result }
     ensures need { act_need result ≤ 1 }
     ensures room { (outputs : ℕ) → outputs ≤ 120 → HasRoom result outputs }
@@ -196,9 +196,9 @@ pub fn version_told(
     requires from { from < length state.old.cell }
     requires moment { IsMoment now }
     requires version { IsVersion version }
-    ensures step { (db : Database) (short : List Bool)
-        → version_is_received db (member_of state.old) (server_of state.old) now host from poll version short (server_of state.old).phase
-        ≡ stepped_by db (member_of state.new) now short (server_of state.new) result }
+    ensures step { (dbs : Databases) (short : List Bool)
+        → version_is_received dbs (member_of state.old) (server_of state.old) now host from poll version short (server_of state.old).phase
+        ≡ stepped_by dbs (member_of state.new) now short (server_of state.new) result }
     ensures leaves { Leaves state.old state.new result }
     ensures need { act_need result ≤ 3 }
 {
@@ -228,9 +228,9 @@ fn version_spread(
 ) -> Act<'static>
     requires from { from < length state.old.cell }
     requires phase { IsSpreading state.old.recovery.phase }
-    ensures step { (db : Database) (now : ℕ) (short : List Bool)
-        → told_to_spread db (member_of state.old) (server_of state.old) now host from (polled_of state.old.recovery) (spread_of state.old.recovery) poll version short
-        ≡ stepped_by db (member_of state.new) now short (server_of state.new) result }
+    ensures step { (dbs : Databases) (now : ℕ) (short : List Bool)
+        → told_to_spread dbs (member_of state.old) (server_of state.old) now host from (polled_of state.old.recovery) (spread_of state.old.recovery) poll version short
+        ≡ stepped_by dbs (member_of state.new) now short (server_of state.new) result }
     ensures leaves { Leaves state.old state.new result }
     ensures need { act_need result ≤ 3 }
 {
@@ -247,9 +247,9 @@ fn version_spread(
 /// A server with another version than the own one is sent what it lacks, unless a write is in flight.
 fn lacking(state: &State, host: Host, version: Version) -> Act<'static>
     requires phase { IsSpreading state.now.recovery.phase }
-    ensures step { (db : Database) (now : ℕ) (short : List Bool)
+    ensures step { (dbs : Databases) (now : ℕ) (short : List Bool)
         → lacking_sent (member_of state.now) (server_of state.now) host (polled_of state.now.recovery) (spread_of state.now.recovery) version (server_of state.now).flight
-        ≡ stepped_by db (member_of state.now) now short (server_of state.now) result }
+        ≡ stepped_by dbs (member_of state.now) now short (server_of state.now) result }
     ensures can { CanAct state.now result }
     ensures need { act_need result ≤ 2 }
 {
@@ -277,9 +277,9 @@ fn lacking(state: &State, host: Host, version: Version) -> Act<'static>
 /// A server of the cell says that its database is the one of this version.
 pub fn version_kept(state: &mut State, from: usize, version: Version) -> Act<'static>
     requires from { from < length state.old.cell }
-    ensures step { (db : Database) (now : ℕ) (short : List Bool)
-        → version_kept_received db (member_of state.old) (server_of state.old) now from version short (server_of state.old).phase
-        ≡ stepped_by db (member_of state.new) now short (server_of state.new) result }
+    ensures step { (dbs : Databases) (now : ℕ) (short : List Bool)
+        → version_kept_received dbs (member_of state.old) (server_of state.old) now from version short (server_of state.old).phase
+        ≡ stepped_by dbs (member_of state.new) now short (server_of state.new) result }
     ensures leaves { Leaves state.old state.new result }
     ensures need { act_need result ≤ 3 }
     ensures memory { ¬ MayEndShort result }
@@ -293,9 +293,9 @@ pub fn version_kept(state: &mut State, from: usize, version: Version) -> Act<'st
 
 /// Piece kept: a host has the image of that version up to a place.
 pub fn piece_kept(state: &State, host: Host, version: Version, next: u32) -> Act<'static>
-    ensures step { (db : Database) (now : ℕ) (short : List Bool)
+    ensures step { (dbs : Databases) (now : ℕ) (short : List Bool)
         → piece_kept_received (member_of state.now) (server_of state.now) host version next (server_of state.now).phase
-        ≡ stepped_by db (member_of state.now) now short (server_of state.now) result }
+        ≡ stepped_by dbs (member_of state.now) now short (server_of state.now) result }
     ensures can { CanAct state.now result }
     ensures need { act_need result ≤ 2 }
 {
@@ -335,10 +335,10 @@ fn image_fetched<'a>(
     requires phase { state.old.recovery.phase ≡ Phase.Fetch }
     requires best { source.version ≡ best_of state.old.recovery }
     requires ends { EndsText (length (received_bytes state.old.recovery.text) == 0) state.old.recovery.text source offset bytes.now }
-    ensures step { (db : Database) (short : List Bool)
+    ensures step { (dbs : Databases) (short : List Bool)
         → fetched (member_of state.old) (server_of state.old) now (polled_of state.old.recovery) (best_of state.old.recovery)
         (with_piece source offset bytes.now state.old.recovery.text).bytes
-        ≡ stepped_by db (member_of state.new) now short (server_of state.new) result }
+        ≡ stepped_by dbs (member_of state.new) now short (server_of state.new) result }
     ensures leaves { Leaves state.old state.new result }
     ensures need { act_need result ≤ 2 }
 {
@@ -379,9 +379,9 @@ pub fn piece_told<'a>(
     bytes: &'a [u8],
 ) -> Result<Act<'a>, NoMemory>
     requires moment { IsMoment now }
-    ensures step { (db : Database) (short : List Bool) → IfOk result (λ act.
+    ensures step { (dbs : Databases) (short : List Bool) → IfOk result (λ act.
         piece_received (member_of state.old) (server_of state.old) now source.server poll source.version source.total offset bytes.now (server_of state.old).phase
-        ≡ stepped_by db (member_of state.new) now short (server_of state.new) act) }
+        ≡ stepped_by dbs (member_of state.new) now short (server_of state.new) act) }
     ensures leaves { IfOk result (Leaves state.old state.new) }
     ensures need { IfOk result (λ act. act_need act ≤ 2) }
     ensures err { OnErr result (state.new ≡ state.old) }

@@ -36,7 +36,7 @@ may st version fetches best newer = record {
 }
 
 pub returns-then-not-newer-clause-step : goal.returns-then-not-newer-clause-step
-returns-then-not-newer-clause-step c = λ db short.
+returns-then-not-newer-clause-step c = λ dbs short.
     let st = c.args.state.now in
     let m = member_of st in
     let r = st.recovery in
@@ -45,10 +45,10 @@ returns-then-not-newer-clause-step c = λ db short.
     let older : version_lt st.version (best_of r) ≡ false = ap (version_lt st.version) (sym c.requires.best) ∙ less in
     fetched_relabels m (server_of st) c.args.now st.me (with_piece c.args.source c.args.offset c.args.bytes.now r.text).bytes (announced st) r c.requires.phase older
     ∙ ap (λ (x : RecoveryRecord). relabelled m (server_with st (adopted x r)) (polled_of x) c.args.now) (sym is)
-    ∙ c.relabelled.ensures.step db short
+    ∙ c.relabelled.ensures.step dbs short
 
 pub returns-then-early-clause-step : goal.returns-then-early-clause-step
-returns-then-early-clause-step c = λ db short.
+returns-then-early-clause-step c = λ dbs short.
     let st = c.args.state.now in
     let r = st.recovery in
     let image = (with_piece c.args.source c.args.offset c.args.bytes.now r.text).bytes in
@@ -63,7 +63,7 @@ returns-then-early-clause-step c = λ db short.
     ∙ ap (λ (x : RecoveryRecord). waits c.args.source.version (polled_of x)) (sym is)
 
 pub returns-clause-step : goal.returns-clause-step
-returns-clause-step c = λ db short.
+returns-clause-step c = λ dbs short.
     let st = c.args.state.now in
     let m = member_of st in
     let r = st.recovery in

@@ -8,7 +8,7 @@ use Rattle.server_rules.proofs.Fetches.{asked_goes, best_asked, fits_of, piece_e
 use Rattle.server_rules.proofs.recovery.piece_told.Goals as goal
 
 pub returns-then-whole-clause-step : goal.returns-then-whole-clause-step
-returns-then-whole-clause-step c = λ db short.
+returns-then-whole-clause-step c = λ dbs short.
     let st = c.args.state.now in
     let source = c.args.source in
     let at = c.args.offset in
@@ -22,7 +22,7 @@ returns-then-whole-clause-step c = λ db short.
     (sym c.is_asked.ensures ∙ asked) text
     (asked_goes c.has_no_byte-may_begin.result source.server source.version source.total at bytes st.recovery.text text c.has_no_byte-may_begin.ensures (c.takes_piece.ensures.text takes))
     (whole_at source at bytes st.recovery.text true (c.takes_piece.ensures.next takes) (eq-eqb _ _ ends))
-    ∙ c.image_fetched.ensures.step db short
+    ∙ c.image_fetched.ensures.step dbs short
 
 pub image_fetched-requires-clause-best : goal.image_fetched-requires-clause-best
 image_fetched-requires-clause-best c =

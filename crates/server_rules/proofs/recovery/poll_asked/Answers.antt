@@ -9,7 +9,7 @@ use Rattle.server_rules.proofs.Turns.{asks_answered}
 use Rattle.server_rules.proofs.recovery.poll_asked.Goals as goal
 
 pub returns-clause-step : goal.returns-clause-step
-returns-clause-step c = λ db short.
+returns-clause-step c = λ dbs short.
     let st = c.args.state.now in
     let next = c.args.next in
     let m = member_of st in
@@ -20,7 +20,7 @@ returns-clause-step c = λ db short.
           c.ask_versions.ensures.asked
           ∙ ap (λ (p : ℕ). c.args.out.now ++ outputs_of (asks_versions m p (is_marked (marked (length st.cell) c.answered.result.set)))) c.poll.ensures
           ∙ ap (λ (shown : List Shown). c.args.out.now ++ outputs_of shown) (asks_answered m poll (length st.cell) next.servers c.answered.result.set c.answered.ensures c.requires.of_cell.servers);
-      step = ap (λ (u : Stepped). record { server = u.server; calls = u.calls; shown = asks_versions m poll.number (has_answered poll) ++ u.shown }) (c.polled.ensures.step db short);
+      step = ap (λ (u : Stepped). record { server = u.server; calls = u.calls; shown = asks_versions m poll.number (has_answered poll) ++ u.shown }) (c.polled.ensures.step dbs short);
     }
 
 pub polled-requires-clause-of_cell : goal.polled-requires-clause-of_cell

@@ -9,19 +9,19 @@ use Rattle.server_rules.proofs.Turns.{goes_as, leased_here, marks_back, rests_on
 use Rattle.server_rules.proofs.recovery.recovery_turn.Goals as goal
 
 pub returns-in-None-clause-step : goal.returns-in-None-clause-step
-returns-in-None-clause-step c = λ db short.
+returns-in-None-clause-step c = λ dbs short.
     let st = c.args.state.now in
     goes_as (turn_begins (member_of st) (server_of st) c.args.now (announced st) st.recovery (sym c.phase.ensures ∙ c.in-None.is)
-    (leased_here st c.args.now true st.voters (sym c.in_lease-leased.ensures ∙ c.if-leased.true))) (c.poll_begun.ensures.step db short)
+    (leased_here st c.args.now true st.voters (sym c.in_lease-leased.ensures ∙ c.if-leased.true))) (c.poll_begun.ensures.step dbs short)
 
 pub returns-in-None-2-clause-step : goal.returns-in-None-2-clause-step
-returns-in-None-2-clause-step c = λ db short.
+returns-in-None-2-clause-step c = λ dbs short.
     let st = c.args.state.now in
     rests_on (turn_rests (member_of st) (server_of st) c.args.now (announced st) st.recovery (sym c.phase.ensures ∙ c.in-None-2.is)
     (leased_here st c.args.now false st.voters (sym c.in_lease-leased.ensures ∙ c.if-leased.false)))
 
 pub returns-in-Poll-clause-step : goal.returns-in-Poll-clause-step
-returns-in-Poll-clause-step c = λ db short.
+returns-in-Poll-clause-step c = λ dbs short.
     let st = c.args.state.now in
     let m = member_of st in
     let r = st.recovery in
@@ -29,22 +29,22 @@ returns-in-Poll-clause-step c = λ db short.
     let same : poll_asked m (server_with st (adopted c.marks-next.result r)) (polled_of c.marks-next.result) c.args.now ≡ poll_asked m (server_of st) (polled_of r) c.args.now =
     ap (λ (x : RecoveryRecord). poll_asked m (server_with st (adopted x r)) (polled_of x) c.args.now) c.marks-next.ensures
     ∙ ap (λ (x : RecoveryRecord). poll_asked m (server_with st x) (polled_of r) c.args.now) (marks_back r (ap is_fetch is)) in
-    goes_as (turn_in m (server_of st) c.args.now (announced st) r phase.Poll is ∙ sym same) (c.poll_asked.ensures.step db short)
+    goes_as (turn_in m (server_of st) c.args.now (announced st) r phase.Poll is ∙ sym same) (c.poll_asked.ensures.step dbs short)
 
 pub returns-in-Fetch-clause-step : goal.returns-in-Fetch-clause-step
-returns-in-Fetch-clause-step c = λ db short.
+returns-in-Fetch-clause-step c = λ dbs short.
     let st = c.args.state.now in
     goes_as (turn_fetch_over (member_of st) (server_of st) c.args.now (announced st) st.recovery (sym c.phase.ensures ∙ c.in-Fetch.is) (sym c.poll_is_over-over.ensures ∙ c.if-over.true))
-    (c.poll_begun-in-Fetch.ensures.step db short)
+    (c.poll_begun-in-Fetch.ensures.step dbs short)
 
 pub returns-in-Fetch-2-clause-step : goal.returns-in-Fetch-2-clause-step
-returns-in-Fetch-2-clause-step c = λ db short.
+returns-in-Fetch-2-clause-step c = λ dbs short.
     let st = c.args.state.now in
     rests_on (turn_fetches (member_of st) (server_of st) c.args.now (announced st) st.recovery (sym c.phase.ensures ∙ c.in-Fetch-2.is) (sym c.poll_is_over-over.ensures ∙ c.if-over.false)
-    ∙ c.piece_wanted.ensures.step db c.args.now short)
+    ∙ c.piece_wanted.ensures.step dbs c.args.now short)
 
 pub returns-in-Relabel-clause-step : goal.returns-in-Relabel-clause-step
-returns-in-Relabel-clause-step c = λ db short.
+returns-in-Relabel-clause-step c = λ dbs short.
     let st = c.args.state.now in
     let m = member_of st in
     let r = st.recovery in
@@ -53,10 +53,10 @@ returns-in-Relabel-clause-step c = λ db short.
     let same : relabelled m (server_with st (adopted next.result r)) (polled_of next.result) c.args.now ≡ relabelled m (server_of st) (polled_of r) c.args.now =
     ap (λ (x : RecoveryRecord). relabelled m (server_with st (adopted x r)) (polled_of x) c.args.now) next.ensures
     ∙ ap (λ (x : RecoveryRecord). relabelled m (server_with st x) (polled_of r) c.args.now) (marks_back r (ap is_fetch is)) in
-    rests_on (turn_in m (server_of st) c.args.now (announced st) r phase.Relabel is ∙ sym same ∙ c.relabelled.ensures.step db short)
+    rests_on (turn_in m (server_of st) c.args.now (announced st) r phase.Relabel is ∙ sym same ∙ c.relabelled.ensures.step dbs short)
 
 pub returns-in_ok-spread_again-in-Send-clause-step : goal.returns-in_ok-spread_again-in-Send-clause-step
-returns-in_ok-spread_again-in-Send-clause-step c = λ db short.
+returns-in_ok-spread_again-in-Send-clause-step c = λ dbs short.
     let st = c.args.state.now in
     shown_on (recovered (member_of st) (server_of st) c.args.now (server_of st).phase) (server_of c.spread_again.new.self) (c.in_ok-spread_again-in-Send.ensures.shows c.args.now)
 
