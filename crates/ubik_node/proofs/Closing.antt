@@ -3,7 +3,7 @@ use Rattle.std.proofs.Common.{◌≡◌, ◌≢◌, ◌↔◌, ◌⊎◌, inl, i
 use Rattle.std.proofs.Common.{Result, Ok, Err, IfErr, IsErrOf, IsOk, refl, sym, ap, subst, ◌∙◌, arith}
 use Rattle.std.proofs.lemmas.Bool.{false≢true}
 use Rattle.disk_base.specs.declared.disks.Disk.{Ghosts}
-use Rattle.db_image.specs.Database.{Database}
+use Rattle.db_image.specs.Standing.{Standing}
 use Rattle.ubik_store.specs.declared.faults.StoreFault.{StoreFault}
 use Rattle.ubik_store.specs.declared.faults.StoreFault.TheVariants as fault
 use Rattle.ubik_store.proofs.Applied.{calls_as}
@@ -11,14 +11,15 @@ use Rattle.cell_model.specs.declared.events.NodeEvent.{NodeEvent}
 use Rattle.cell_model.specs.declared.events.Output.{Output}
 use Rattle.cell_model.specs.Durable.{Durable}
 use Rattle.cell_model.specs.Node as model
-use Rattle.cell_model.specs.NodeRule.{refusals, step_of}
+use Rattle.cell_model.specs.NodeRule.{refusals, step_by}
 use Rattle.cell_model.specs.Step.{Member, Stepped, outputs_of}
 use Rattle.ubik_node.specs.declared.nodes.StepEnd.{StepEnd}
 use Rattle.ubik_node.specs.declared.nodes.StepEnd.TheVariants.{Done, Halted, NoMemory}
+use Rattle.ubik_node.specs.Choices.{Choices, dbs_of}
 use Rattle.ubik_node.specs.Disk.{FailsIn, Serves}
 use Rattle.ubik_node.proofs.Endings.{fault_is}
 use Rattle.ubik_node.proofs.Stepping.{up_if}
-use Rattle.ubik_node.specs.Node.{CallsSo, Closes, Ends, Held, IsHalting, IsKept, IsStoredAs, Makes, Steps, durable_in}
+use Rattle.ubik_node.specs.Node.{CallsSo, Closes, Ends, Held, IsHalting, IsKept, IsStoredAs, Makes, StepsFreely, durable_in}
 
 -- the abstract server
 abbrev pub node_at : {D : Type 0} → Held D → model.Node
@@ -32,12 +33,12 @@ disk_or (fault.BadLabel len head) = inr (λ is. cc)
 disk_or (fault.TooLarge bytes) = inr (λ is. cc)
 disk_or (fault.NotNewer own given) = inr (λ is. cc)
 
-module _ {D : Type 0} (g : Ghosts D) (db : Database) (m : Member) (s : model.Server) (e : NodeEvent) (now : ℕ) (t : Stepped)
+module _ {D : Type 0} (g : Ghosts D) (d : Standing) (m : Member) (s : model.Server) (e : NodeEvent) (now : ℕ) (t : Stepped)
     (first mid last : Held D) (before after : List Output) (back : model.Server) (end : StepEnd)
-    (up : first.halted ≡ false) (choices : List Bool) (step : step_of db m s now e choices ≡ t)
+    (up : first.halted ≡ false) (choices : Choices d) (step : step_by (dbs_of choices) m s now e choices.short ≡ t)
     (kept : durable_in first.server ≡ durable_in s) where
   abbrev pub StepsSo : StepEnd → Held D → List Output → Type 0
-  StepsSo x h out = Steps g db m x e now (model.Up s) (node_at h) out first.store.disk h.store.disk
+  StepsSo x h out = StepsFreely g d m x e now (model.Up s) (node_at h) out first.store.disk h.store.disk
 
   -- what is known of how it ended, the server after it and what it put out is put in their place
   steps_so : (x : StepEnd) (h : Held D) (out : List Output) → end ≡ x → last ≡ h → after ≡ out → StepsSo x h out → StepsSo end last after
@@ -52,7 +53,7 @@ module _ {D : Type 0} (g : Ghosts D) (db : Database) (m : Member) (s : model.Ser
       let made_for : Makes t (node_at mid) before (Serves g (durable_in s) first.store.disk mid.store.disk) = record {
         server = up_if mid.halted (model.halted_from mid.server) mid.server (ends.halted ∙ up) ∙ ap model.Up (sym made.server);
         outputs = made.outputs;
-        disk = subst (λ (d : Durable). Serves g d first.store.disk mid.store.disk t.calls) kept made.disk;
+        disk = subst (λ (b : Durable). Serves g b first.store.disk mid.store.disk t.calls) kept made.disk;
       } in
       steps_so Done mid before closed.0 closed.1 closed.2
       (choices, subst (λ (u : Stepped). Makes u (node_at mid) before (Serves g (durable_in s) first.store.disk mid.store.disk)) (sym step) made_for)
@@ -64,7 +65,7 @@ module _ {D : Type 0} (g : Ghosts D) (db : Database) (m : Member) (s : model.Ser
         refl,
         choices,
         subst (λ (u : Stepped). FailsIn g (durable_in s) first.store.disk mid.store.disk u.calls) (sym step)
-            (subst (λ (d : Durable). FailsIn g d first.store.disk mid.store.disk t.calls) kept (ends.failed known (ap Err is))),
+            (subst (λ (b : Durable). FailsIn g b first.store.disk mid.store.disk t.calls) kept (ends.failed known (ap Err is))),
       ))
       (λ other.
       let rests = closed.1 other in
@@ -90,7 +91,7 @@ module _ {D : Type 0} (g : Ghosts D) (e : NodeEvent) (first mid last : Held D)
   goes_on : {t : Stepped} {knows : Type 0} {start : List Output} (r : Result (Unit {0}) StoreFault) (x : StepEnd) (server : model.Server) → x ≢ Halted → ¬ IsErrOf r fault.DiskFault → durable_in server ≡ durable_in mid.server
       → Ends g knows t start before first mid r → IsClosed g first (record mid { server = server }) x
   goes_on r x server went fine same ends = record {
-    stored = subst (λ (d : Durable). IsStoredAs g mid.store d.version d.image mid.halted) (sym same) (ends.stored fine);
+    stored = subst (λ (b : Durable). IsStoredAs g mid.store b.version b.image mid.halted) (sym same) (ends.stored fine);
     told = λ _. ends.told fine;
     calls = (ends.calls.0, calls_as (omega arith) (λ is. absurd (fine is)) (λ is. absurd (went is.0)) ends.calls.1);
     halts = (λ is. absurd (went is), λ is. absurd (false≢true (sym (ends.halted ∙ up) ∙ is)));

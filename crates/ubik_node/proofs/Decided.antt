@@ -17,10 +17,11 @@ use Rattle.server_rules.specs.Acts.{HasRoom, MayEndShort, MayFail, act_need}
 use Rattle.server_rules.specs.Packets.{body_need}
 use Rattle.ubik_store.proofs.Telling.{ok_map}
 use Rattle.ubik_node.specs.Acts.{ActNeeds, needs_at}
+use Rattle.ubik_node.specs.Choices.{dbs_of}
 use Rattle.ubik_node.specs.Disk.{FailsIn, Serves}
 use Rattle.ubik_node.proofs.Endings.{never_short, ok_not}
 use Rattle.std.proofs.lemmas.Bool.{false≢true}
-use Rattle.ubik_node.specs.Node.{Ends, Held, IsMade, IsMeantIn, NeedsFiles, durable_in}
+use Rattle.ubik_node.specs.Node.{Ends, Held, IsMade, NeedsFiles, durable_in}
 
 not_both : (r : Result (Unit {0}) StoreFault) {P : Type 0} → IsOk r → IsErrOf r DiskFault → P
 not_both (Ok x) went failed = absurd (ok_not x failed)
@@ -32,23 +33,17 @@ always (Err e) p = λ other. p
 
 -- ---- what is needed
 
-module _ (knows tells meant : Type 0) (less : tells → knows) (more : meant → tells) where
-  pub needs_less : (a b : ℕ) → a ≤ b → needs_at b knows tells meant → needs_at a knows tells meant
+module _ (knows tells : Type 0) (less : tells → knows) where
+  pub needs_less : (a b : ℕ) → a ≤ b → needs_at b knows tells → needs_at a knows tells
   needs_less zero b few needs = tt
   needs_less (suc zero) zero few needs = absurd (omega (arith, few))
   needs_less (suc zero) (suc zero) few needs = needs
-  needs_less (suc zero) (suc (suc zero)) few needs = less needs
-  needs_less (suc zero) (suc (suc (suc b))) few needs = less (more needs)
-  needs_less (suc (suc zero)) zero few needs = absurd (omega (arith, few))
-  needs_less (suc (suc zero)) (suc zero) few needs = absurd (omega (arith, few))
-  needs_less (suc (suc zero)) (suc (suc zero)) few needs = needs
-  needs_less (suc (suc zero)) (suc (suc (suc b))) few needs = more needs
-  needs_less (suc (suc (suc a))) zero few needs = absurd (omega (arith, few))
-  needs_less (suc (suc (suc a))) (suc zero) few needs = absurd (omega (arith, few))
-  needs_less (suc (suc (suc a))) (suc (suc zero)) few needs = absurd (omega (arith, few))
-  needs_less (suc (suc (suc a))) (suc (suc (suc b))) few needs = needs
+  needs_less (suc zero) (suc (suc b)) few needs = less needs
+  needs_less (suc (suc a)) zero few needs = absurd (omega (arith, few))
+  needs_less (suc (suc a)) (suc zero) few needs = absurd (omega (arith, few))
+  needs_less (suc (suc a)) (suc (suc b)) few needs = needs
 
-  body_needs : (b : Body) → NeedsFiles b tells meant → needs_at (body_need b) knows tells meant
+  body_needs : (b : Body) → NeedsFiles b tells → needs_at (body_need b) knows tells
   body_needs (body.Beacon start claim ready version) needs = tt
   body_needs (body.Vote start granted) needs = tt
   body_needs (body.GetVersion poll) needs = tt
@@ -64,15 +59,13 @@ module _ (knows tells meant : Type 0) (less : tells → knows) (more : meant →
   body_needs (body.Abort new) needs = tt
   body_needs (body.VersionKept version) needs = needs
 
-  pub act_needs : (b : Body) (a : Act) → act_need a ≤ body_need b → NeedsFiles b tells meant → ActNeeds a knows tells meant
+  pub act_needs : (b : Body) (a : Act) → act_need a ≤ body_need b → NeedsFiles b tells → ActNeeds a knows tells
   act_needs b a few needs = needs_less (act_need a) (body_need b) few (body_needs b needs)
 
--- at another state of the same place and image
-pub needs_there : (d : Standing) (files : Option Files) (a : Act) {m k : Member} {image bytes : List ℕ} → m ≡ k → image ≡ bytes
-    → ActNeeds a (1 < cell_size k → IsSome files) (IsSome files) (IsMeantIn d files bytes) → ActNeeds a (1 < cell_size m → IsSome files) (IsSome files) (IsMeantIn d files image)
-needs_there d files a {m} {k} {image} {bytes} here same needs =
-    subst (λ (x : Member). ActNeeds a (1 < cell_size x → IsSome files) (IsSome files) (IsMeantIn d files image)) (sym here)
-    (subst (λ (xs : List ℕ). ActNeeds a (1 < cell_size k → IsSome files) (IsSome files) (IsMeantIn d files xs)) (sym same) needs)
+-- at another state of the same place
+pub needs_there : (files : Option Files) (a : Act) {m k : Member} → m ≡ k → ActNeeds a (1 < cell_size k → IsSome files) (IsSome files)
+    → ActNeeds a (1 < cell_size m → IsSome files) (IsSome files)
+needs_there files a {m} {k} here needs = subst (λ (x : Member). ActNeeds a (1 < cell_size x → IsSome files) (IsSome files)) (sym here) needs
 
 -- behind a hundred outputs there is room for every act
 pub has_room : (a : Act) (outputs : ℕ) → outputs ≤ 100 → HasRoom a outputs

@@ -10,6 +10,7 @@ pub mod Decided
 pub mod Durables
 pub mod Ended
 pub mod Endings
+pub mod Evaluated
 pub mod Fetching
 pub mod Fronts
 pub mod Gapless
@@ -20,6 +21,7 @@ pub mod Least
 pub mod Lending
 pub mod Logging
 pub mod Made
+pub mod MadeOver
 pub mod Places
 pub mod Putting
 pub mod Reading

@@ -18,37 +18,41 @@ use Rattle.ubik_store.specs.Store.{IsSound, StaysAsItWas, image_in}
 use Rattle.cell_model.specs.declared.events.Output.{Output}
 use Rattle.cell_model.specs.declared.events.Output.TheVariants as output
 use Rattle.cell_model.specs.Asks.{read_reply}
+use Rattle.cell_model.specs.Evaluating.{Evaluated, MayCome, outcome_told}
 use Rattle.cell_model.specs.Node.{Flight}
 use Rattle.cell_model.specs.Step.{Evaluation, Stepped}
 use Rattle.site_writes.specs.OwnWrite.{OwnRecord}
 use Rattle.ubik_node.specs.declared.evaluations.Evaluation as code
-use Rattle.ubik_node.specs.Evaluation.{IsMadeOf, IsOutcome}
-use Rattle.ubik_node.specs.Node.{Held, IsKept, IsMeantIn}
+use Rattle.ubik_node.specs.Choices.{none_chosen}
+use Rattle.ubik_node.specs.Evaluation.{IsOutcome}
+use Rattle.ubik_node.specs.Node.{Held, IsKept}
 use Rattle.ubik_node.specs.Serving.{IsReadReply, ReadsFrom}
 use Rattle.server_state.specs.State.{ShowsBehind}
 use Rattle.cell_model.specs.Node.{Server}
 use Rattle.ubik_node.proofs.Calling.{stored_read}
 use Rattle.ubik_node.proofs.Durables.{IsThere}
+use Rattle.ubik_node.proofs.Evaluated.{one_chosen}
 use Rattle.ubik_node.proofs.Endings.{failed_ends, ok_not, read_ends}
 
--- what the database makes of a call over an image that comes from the one that is known
-pub made_from : (d : Standing) (files : Option Files) (change : List ℕ → List ℕ) (own image : List ℕ) (now : ℕ) (call : List ℕ) (e : code.Evaluation) → IsMeantIn d files image → IsThere own (image_in files) → change own ≡ image
-    → IsMadeOf d (option_map change (image_in files)) now call e → IsOutcome d image (d.database.call image now call) e
-made_from d None change own image now call e meant there leads made = absurd (false≢true meant.0)
-made_from d (Some fs) change own image now call e meant there leads made =
-    subst (λ (bytes : List ℕ). (s : d.State) → d.StandsFor bytes s → IsOutcome d bytes (d.database.call bytes now call) e) (ap change there ∙ leads) made meant.1 meant.2
+-- what is told of an evaluation over an image that comes from the one in the files
+pub made_from : (d : Standing) (one : Option Evaluated) (files : Option Files) (change : List ℕ → List ℕ) (own image : List ℕ) (now : ℕ) (call : List ℕ) (e : code.Evaluation) → IsSome files → IsThere own (image_in files)
+    → change own ≡ image → IfSome (option_map change (image_in files)) (λ bytes. IsOutcome d bytes (outcome_told one d.database bytes now call) e) → IsOutcome d image (outcome_told one d.database image now call) e
+made_from d one None change own image now call e tells there leads made = absurd (false≢true tells)
+made_from d one (Some fs) change own image now call e tells there leads made =
+    subst (λ (bytes : List ℕ). IsOutcome d bytes (outcome_told one d.database bytes now call) e) (ap change there ∙ leads) made
 
 -- so of its reply, if it was made
-pub replied_as : {E : Type 0} (d : Standing) (image : List ℕ) (now : ℕ) (call : List ℕ) (told : Option (List ℕ)) (r : Result code.Evaluation E) → ((e : code.Evaluation) → IsMadeOf d told now call e → IsOutcome d image (d.database.call image now call) e)
-    → IfOk r (IsMadeOf d told now call) → IfOk r (λ e. e.reply ≡ (d.database.call image now call).reply)
-replied_as d image now call told (Ok e) so made = (so e made).reply
-replied_as d image now call told (Err why) so made = tt
+pub replied_as : {E : Type 0} (d : Standing) (one : Option Evaluated) (image : List ℕ) (now : ℕ) (call : List ℕ) (read : Option (List ℕ)) (r : Result code.Evaluation E)
+    → ((e : code.Evaluation) → IfSome read (λ bytes. IsOutcome d bytes (outcome_told one d.database bytes now call) e) → IsOutcome d image (outcome_told one d.database image now call) e)
+    → IfOk r (λ e. IfSome read (λ bytes. IsOutcome d bytes (outcome_told one d.database bytes now call) e)) → IfOk r (λ e. e.reply ≡ (outcome_told one d.database image now call).reply)
+replied_as d one image now call read (Ok e) so made = (so e made).reply
+replied_as d one image now call read (Err why) so made = tt
 
-module _ {D : Type 0} (g : Ghosts D) (d : Standing) (n : Held D) (s : Store D) (was : IsKept g n) (up : n.halted ≡ false) (sound : IsSound g s) (image : List ℕ) (now id : ℕ) (call : List ℕ) (before after : List Output) where
-  answered : {F : Type 0} (e : code.Evaluation) (told : Reply) → StaysAsItWas n.store s → OnlyReads g n.store.disk s.disk F → ¬ F → (IsMeantIn d (g.files n.store.disk) image → e.reply ≡ (d.database.call image now call).reply)
+module _ {D : Type 0} (g : Ghosts D) (d : Standing) (n : Held D) (s : Store D) (was : IsKept g n) (up : n.halted ≡ false) (sound : IsSound g s) (image : List ℕ) (now id : ℕ) (call : List ℕ) (before after : List Output) (one : Option Evaluated) (may : IfSome one (MayCome d)) where
+  answered : {F : Type 0} (e : code.Evaluation) (told : Reply) → StaysAsItWas n.store s → OnlyReads g n.store.disk s.disk F → ¬ F → (IsSome (g.files n.store.disk) → e.reply ≡ (outcome_told one d.database image now call).reply)
       → after ≡ before ++ output.Reply id told ∷ [] → IsReadReply (Ok e) told → ReadsFrom g d n (record n { store = s }) image now id call before after (Ok tt)
   answered e told stays reads went outcome put says = (
-    [],
+    one_chosen d one may [],
     λ basis.
         let on : Evaluation = record { call = call; moment = now; basis = basis } in
         read_ends g n (record n { store = s }) refl refl refl was up reads went (stored_read g n s was up sound stays reads went) refl (λ meant. (
@@ -59,18 +63,18 @@ module _ {D : Type 0} (g : Ghosts D) (d : Standing) (n : Held D) (s : Store D) (
 
   -- it found no memory
   short_answered : {F : Type 0} → StaysAsItWas n.store s → OnlyReads g n.store.disk s.disk F → ¬ F → after ≡ before ++ output.Reply id reply.NoMemory ∷ [] → ReadsFrom g d n (record n { store = s }) image now id call before after (Ok tt)
-  short_answered stays reads went put = (true ∷ [], λ basis. read_ends g n (record n { store = s }) refl refl refl was up reads went (stored_read g n s was up sound stays reads went) refl (λ meant. (refl, put)))
+  short_answered stays reads went put = (one_chosen d None tt (true ∷ []), λ basis. read_ends g n (record n { store = s }) refl refl refl was up reads went (stored_read g n s was up sound stays reads went) refl (λ meant. (refl, put)))
 
   -- the disk failed
   unanswered : {F : Type 0} → HasFailed n.store s → OnlyReads g n.store.disk s.disk F → F → ReadsFrom g d n (record n { store = s }) image now id call before after (Err DiskFault)
   unanswered has reads failed = (
-    [],
+    none_chosen d,
     λ basis.
         failed_ends g n (record n { store = s }) refl refl refl DiskFault (inl refl) was up reads (λ _. refl) (λ _. failed) (λ other. absurd (other refl)) (λ _. record { sound = sound; failed = has.failed }) refl,
   )
 
   pub read_ended : (made : Result code.Evaluation StoreFault) (r : Result (Unit {0}) StoreFault) → (¬ IsErrOf made DiskFault → StaysAsItWas n.store s) → (IsErrOf made DiskFault → HasFailed n.store s) → OnlyReads g n.store.disk s.disk (IsErrOf made DiskFault)
-      → (IsMeantIn d (g.files n.store.disk) image → IfOk made (λ e. e.reply ≡ (d.database.call image now call).reply)) → (IsErrOf r DiskFault ↔ IsErrOf made DiskFault) → IsErrOf r DiskFault ⊎ IsOk r
+      → (IsSome (g.files n.store.disk) → IfOk made (λ e. e.reply ≡ (outcome_told one d.database image now call).reply)) → (IsErrOf r DiskFault ↔ IsErrOf made DiskFault) → IsErrOf r DiskFault ⊎ IsOk r
       → OnOk r ((told : Reply) × (after ≡ before ++ output.Reply id told ∷ []) × IsReadReply made told) → ReadsFrom g d n (record n { store = s }) image now id call before after r
   read_ended (Ok e) (Ok done) stays failed reads outcome fault memory told = answered e told.0 (stays (λ is. ok_not e is)) reads (λ is. ok_not e is) outcome told.1 told.2
   read_ended (Ok e) (Err why) stays failed reads outcome fault memory told = absurd (elim memory [ inl is ↦ ok_not e (fault.0 is) | inr ok ↦ false≢true ok ])

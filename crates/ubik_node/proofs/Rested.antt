@@ -5,12 +5,12 @@ use Rattle.ubik_types.specs.declared.phases.Phase.{Phase}
 use Rattle.ubik_types.specs.declared.phases.Phase.TheVariants as phase
 use Rattle.ubik_types.specs.declared.versions.Version.{Version}
 use Rattle.ubik_types.specs.Phase.{phase_of}
-use Rattle.db_image.specs.Database.{Database}
+use Rattle.cell_model.specs.Evaluating.{Databases}
 use Rattle.cell_model.specs.declared.events.NodeEvent.{NodeEvent}
 use Rattle.cell_model.specs.Durable.{Made}
 use Rattle.cell_model.specs.Lapse.{lapsed}
 use Rattle.cell_model.specs.Node.{HaltedServer, ReceivedText, Server, halted_from}
-use Rattle.cell_model.specs.NodeRule.{step_of, handled}
+use Rattle.cell_model.specs.NodeRule.{step_by, handled}
 use Rattle.cell_model.specs.Step.{Member, Shown, Stepped, is_reply}
 use Rattle.ubik_recovery.specs.Record.{RecoveryRecord, is_fetch, phase_record, record_in, restored, with_text}
 use Rattle.server_state.specs.declared.lapse.Dropped.{Dropped}
@@ -32,14 +32,14 @@ drop_past zero short = drop_none short
 drop_past (suc n) short = drop_past n short
 
 -- a step shows what the lapse shows, and then is what the event makes of the server that the lapse leaves
-pub step_comes : (db : Database) (m : Member) (s mid : Server) (now : ℕ) (e : NodeEvent) (short : List Bool) → (lapsed m s now).server ≡ mid → (lapsed m s now).calls ≡ []
-    → (let u = handled db m mid now e short in
-    step_of db m s now e (short_behind (lapsed m s now).shown short) ≡ record { server = u.server; calls = u.calls; shown = (lapsed m s now).shown ++ u.shown })
-unfolding step_of
-step_comes db m s mid now e short server calls =
+pub step_comes : (dbs : Databases) (m : Member) (s mid : Server) (now : ℕ) (e : NodeEvent) (short : List Bool) → (lapsed m s now).server ≡ mid → (lapsed m s now).calls ≡ []
+    → (let u = handled dbs m mid now e short in
+    step_by dbs m s now e (short_behind (lapsed m s now).shown short) ≡ record { server = u.server; calls = u.calls; shown = (lapsed m s now).shown ++ u.shown })
+unfolding step_by
+step_comes dbs m s mid now e short server calls =
     let t = lapsed m s now in
     let at : Server → List Bool → List Made → Stepped = λ x choices before.
-    record { server = (handled db m x now e choices).server; calls = before ++ (handled db m x now e choices).calls; shown = t.shown ++ (handled db m x now e choices).shown } in
+    record { server = (handled dbs m x now e choices).server; calls = before ++ (handled dbs m x now e choices).calls; shown = t.shown ++ (handled dbs m x now e choices).shown } in
     ap (λ (choices : List Bool). at t.server choices t.calls) (drop_past (count_by (λ (one : Shown). is_reply one.output) t.shown) short)
     ∙ ap (λ (x : Server). at x short t.calls) server
     ∙ ap (λ (before : List Made). at mid short before) calls

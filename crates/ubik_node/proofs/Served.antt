@@ -1,8 +1,12 @@
 -- Where a call is served.
-use Rattle.std.proofs.Common.{◌≡◌, ℕ, Bool, true, false, cond, List, Some, refl}
+use Rattle.std.proofs.Common.{◌≡◌, ◌⊎◌, ⊎_elim, ◌∙◌, ℕ, Bool, true, false, cond, not, List, Option, Some, None, refl, sym, ap}
+use Rattle.std.proofs.lemmas.Bool.{false≢true}
+use Rattle.std.specs.Prelude.{◌&&◌, is_none}
 use Rattle.db_image.specs.Database.{Database}
 use Rattle.cell_model.specs.Asks.{allows_reads, asked_as, read, write_asked}
+use Rattle.cell_model.specs.Node.{Flight}
 use Rattle.cell_model.specs.Writes.{announced_image}
+use Rattle.ubik_node.specs.Evaluation.{is_evaluated}
 use Rattle.cell_model.specs.Step.{Member, Announced_image, Beacon_image, Stepped, is_ready, leased, told_version}
 use Rattle.server_state.specs.declared.state.State.{State}
 use Rattle.server_state.specs.State.{server_of}
@@ -28,3 +32,20 @@ by_turn b r w x y z u held ready writes = rw (held, ready, writes) refl
 pub waits_or_writes : (db : Database) (m : Member) (st : State) (now id : ℕ) (call : List ℕ) (short w : Bool) → leased m (server_of st) now ≡ true → is_ready (server_of st).phase ≡ true → w ≡ true
     → asked_as db m (server_of st) now id call short (Some w) ≡ write_asked db m (server_of st) now id call short (server_of st).flight
 waits_or_writes db m st now id call short w held ready writes = by_turn _ _ _ _ _ _ _ held ready writes
+
+-- a call that is evaluated at a server in lease, or at another one
+pub evaluates_leased : (m : Member) (st : State) (now : ℕ) (w : Bool) → leased m (server_of st) now ≡ true → is_ready (server_of st).phase ≡ true → (w ≡ false) ⊎ ((server_of st).flight ≡ None)
+    → is_evaluated m (server_of st) now (Some w) ≡ true
+evaluates_leased m st now true held ready free =
+    let none : (server_of st).flight ≡ None = ⊎_elim (λ is. absurd (false≢true (sym is))) (λ is. is) free in
+    ap (λ (b : Bool). cond b (is_ready (server_of st).phase && is_none (server_of st).flight) (not true && allows_reads st.version now (server_of st).beacon)) held
+    ∙ ap (λ (b : Bool). b && is_none (server_of st).flight) ready ∙ ap (λ (f : Option Flight). is_none f) none
+evaluates_leased m st now false held ready free =
+    ap (λ (b : Bool). cond b (is_ready (server_of st).phase && true) (allows_reads st.version now (server_of st).beacon)) held
+    ∙ ap (λ (b : Bool). b && true) ready
+
+pub evaluates_own : (m : Member) (st : State) (now : ℕ) (w : Bool) → leased m (server_of st) now ≡ false → w ≡ false → allows_reads st.version now (server_of st).beacon ≡ true
+    → is_evaluated m (server_of st) now (Some w) ≡ true
+evaluates_own m st now true held reads allowed = absurd (false≢true (sym reads))
+evaluates_own m st now false held reads allowed =
+    ap (λ (b : Bool). cond b (is_ready (server_of st).phase && true) (allows_reads st.version now (server_of st).beacon)) held ∙ allowed

@@ -3,29 +3,52 @@ use Rattle.std.proofs.Common.{◌≡◌, ℕ, Bool, false, cond, None, List, [],
 use Rattle.ubik_types.specs.declared.versions.Version.{Version}
 use Rattle.ubik_types.specs.Phase.{NoPhase}
 use Rattle.ubik_votes.specs.Voter.{Voter, fresh_voter}
-use Rattle.db_image.specs.Database.{Database}
+use Rattle.db_image.specs.Standing.{Standing}
 use Rattle.cell_model.specs.declared.events.NodeEvent.{NodeEvent}
 use Rattle.cell_model.specs.declared.events.Output.{Output}
-use Rattle.cell_model.specs.Durable.{durable}
+use Rattle.cell_model.specs.Durable.{Made, durable}
 use Rattle.cell_model.specs.Node as model
-use Rattle.cell_model.specs.Step.{Member}
+use Rattle.cell_model.specs.Evaluating.{KeepsStates}
+use Rattle.cell_model.specs.Step.{Member, Stepped, outputs_of}
+use Rattle.cell_model.proofs.MeantSteps.{step_is_meant}
 use Rattle.disk_base.specs.declared.disks.Disk.{Ghosts}
+use Rattle.ubik_node.specs.Disk.{FailsIn, Serves}
 use Rattle.ubik_node.specs.declared.nodes.StepEnd.{StepEnd}
-use Rattle.ubik_node.specs.Node.{Steps}
+use Rattle.ubik_node.specs.declared.nodes.StepEnd.TheVariants.{Done, Halted, NoMemory}
+use Rattle.ubik_node.specs.Node.{HoldsStates, Makes, Steps, StepsFreely, durable_in}
 
 -- a node that is not halted
 pub up_if : (b : Bool) (h : model.HaltedServer) (s : model.Server) → b ≡ false → cond b (model.Halted h) (model.Up s) ≡ model.Up s
 up_if b h s is = rw is refl
 
 -- a step from the node that is up
-pub steps_at : {D : Type 0} (g : Ghosts D) (db : Database) (m : Member) (end : StepEnd) (e f : NodeEvent) (s : model.Server) (now : ℕ) (before after then : model.Node) (out : List Output) (old new : D)
+pub steps_at : {D : Type 0} (g : Ghosts D) (d : Standing) (m : Member) (end : StepEnd) (e f : NodeEvent) (s : model.Server) (now : ℕ) (before after then : model.Node) (out : List Output) (old new : D)
     → before ≡ model.Up s → after ≡ then → e ≡ f
-    → Steps g db m end f now (model.Up s) then out old new → Steps g db m end e now before after out old new
-steps_at g db m end e f s now before after then out old new is was same steps =
-    let P : model.Node → Type 0 = λ n. Steps g db m end e now n after out old new in
-    let Q : model.Node → Type 0 = λ n. Steps g db m end e now (model.Up s) n out old new in
-    let R : NodeEvent → Type 0 = λ x. Steps g db m end x now (model.Up s) then out old new in
+    → StepsFreely g d m end f now (model.Up s) then out old new → StepsFreely g d m end e now before after out old new
+steps_at g d m end e f s now before after then out old new is was same steps =
+    let P : model.Node → Type 0 = λ n. StepsFreely g d m end e now n after out old new in
+    let Q : model.Node → Type 0 = λ n. StepsFreely g d m end e now (model.Up s) n out old new in
+    let R : NodeEvent → Type 0 = λ x. StepsFreely g d m end x now (model.Up s) then out old new in
     subst P (sym is) (subst Q (sym was) (subst R (sym same) steps))
+
+-- Where the images stand for states, a step is the world's.
+pub steps_meant : {D : Type 0} (g : Ghosts D) (d : Standing) → KeepsStates d → (m : Member) (end : StepEnd) (e : NodeEvent) (now : ℕ) (before after : model.Node) (out : List Output) (old new : D)
+    → HoldsStates d before → StepsFreely g d m end e now before after out old new → Steps g d.database m end e now before after out old new
+steps_meant g d keeps m Done e now (model.Up s) after out old new holds steps =
+    let o = steps.0 in
+    let is = step_is_meant d keeps o.told o.may m s now e o.short holds.0.0 holds.1.0 holds.0.1 holds.1.1 in
+    (o.short, subst (λ (t : Stepped). Makes t after out (Serves g (durable_in s) old new)) is steps.1)
+steps_meant g d keeps m Done e now (model.Halted h) after out old new holds steps = steps
+steps_meant g d keeps m Done e now model.Down after out old new holds steps = steps
+steps_meant g d keeps m Halted e now (model.Up s) after out old new holds steps =
+    let o = steps.2 in
+    let is = step_is_meant d keeps o.told o.may m s now e o.short holds.0.0 holds.1.0 holds.0.1 holds.1.1 in
+    (steps.0, steps.1, o.short, subst (λ (t : Stepped). FailsIn g (durable_in s) old new t.calls) is steps.3)
+steps_meant g d keeps m Halted e now (model.Halted h) after out old new holds steps = steps
+steps_meant g d keeps m Halted e now model.Down after out old new holds steps = steps
+steps_meant g d keeps m NoMemory e now (model.Up s) after out old new holds steps = steps
+steps_meant g d keeps m NoMemory e now (model.Halted h) after out old new holds steps = steps
+steps_meant g d keeps m NoMemory e now model.Down after out old new holds steps = steps
 
 -- the server that was opened
 pub opened_is : (v : Voter) (n size me now : ℕ) (version : Version) (image : List ℕ) → v ≡ fresh_voter n me now → n ≡ size

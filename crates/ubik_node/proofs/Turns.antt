@@ -20,6 +20,7 @@ use Rattle.ubik_store.specs.declared.faults.StoreFault.TheVariants.{DiskFault}
 use Rattle.ubik_store.proofs.Telling.{ok_map}
 use Rattle.cell_model.specs.declared.events.Output.{Output}
 use Rattle.cell_model.specs.Durable.{Made}
+use Rattle.cell_model.specs.Evaluating.{Databases, behind_first}
 use Rattle.cell_model.specs.Node.{Flight, Server, Waiting, halted_from}
 use Rattle.cell_model.specs.Step.{Member, Shown, Stepped, announcing, cell_size, followed, is_ready, is_reply, is_short, outputs_of}
 use Rattle.cell_model.specs.Step.{quiet, short_after, showing, with_phase}
@@ -95,20 +96,20 @@ module _ (m : Member) (s : Server) (now id : ℕ) (call : List ℕ) (others : 1 
   turn_is db false = replied_turns db (db.call s.image now call).image (db.call s.image now call).reply
 
 -- where no write can begin nobody has a turn
-pub turns_rest : (db : Database) (m : Member) (now : ℕ) (waiting : List Waiting) (s : Server) (short : List Bool) → is_free s ≡ false
-    → next_turns db m now waiting s short ≡ quiet s
-turns_rest db m now [] s short busy = refl
-turns_rest db m now (w ∷ waiting) s short busy = rw busy refl
+pub turns_rest : (dbs : Databases) (m : Member) (now : ℕ) (waiting : List Waiting) (s : Server) (short : List Bool) → is_free s ≡ false
+    → next_turns dbs m now waiting s short ≡ quiet s
+turns_rest dbs m now [] s short busy = refl
+turns_rest dbs m now (w ∷ waiting) s short busy = rw busy refl
 
 -- the first of those that wait has its turn, and then the others
-abbrev pub turns_from : Database → Member → ℕ → List Waiting → Stepped → List Bool → Stepped
-turns_from db m now waiting t short = followed t (λ after. next_turns db m now waiting after (short_after t.shown short))
+abbrev pub turns_from : Databases → Member → ℕ → List Waiting → Stepped → List Bool → Stepped
+turns_from dbs m now waiting t short = followed t (λ after. next_turns (behind_first dbs) m now waiting after (short_after t.shown short))
 
-turns_first : (db : Database) (m : Member) (now : ℕ) (w : Waiting) (waiting : List Waiting) (s : Server) (short : List Bool)
+turns_first : (dbs : Databases) (m : Member) (now : ℕ) (w : Waiting) (waiting : List Waiting) (s : Server) (short : List Bool)
     → is_free s ≡ true
-    → next_turns db m now (w ∷ waiting) s short ≡ turns_from db m now waiting
-    (write_turn db m (record s { waiting = waiting }) now w.id w.call (is_short short)) short
-turns_first db m now w waiting s short free = rw free refl
+    → next_turns dbs m now (w ∷ waiting) s short ≡ turns_from dbs m now waiting
+    (write_turn (dbs 0) m (record s { waiting = waiting }) now w.id w.call (is_short short)) short
+turns_first dbs m now w waiting s short free = rw free refl
 
 abbrev with_line : Server → List Waiting → Server
 with_line s waiting = record s { waiting = waiting }
@@ -133,29 +134,29 @@ followed_rest t next is =
     ∙ ap (λ (calls : List Made). stepped t.server calls (t.shown ++ [])) (append-nil t.calls)
     ∙ ap (λ (shown : List Shown). stepped t.server t.calls shown) (append-nil t.shown)
 
-module _ (db : Database) (m : Member) (s : Server) (now : ℕ) (w : Waiting) (waiting : List Waiting) (b : Bool) (free : is_free s ≡ true)
+module _ (dbs : Databases) (m : Member) (s : Server) (now : ℕ) (w : Waiting) (waiting : List Waiting) (b : Bool) (free : is_free s ≡ true)
     (line : s.waiting ≡ w ∷ waiting) where
   abbrev turn : Stepped
-  turn = write_turn db m (with_line s waiting) now w.id w.call b
+  turn = write_turn (dbs 0) m (with_line s waiting) now w.id w.call b
 
-  first_turn : (short : List Bool) → next_turns db m now s.waiting s (b ∷ short) ≡ turns_from db m now waiting turn (b ∷ short)
+  first_turn : (short : List Bool) → next_turns dbs m now s.waiting s (b ∷ short) ≡ turns_from dbs m now waiting turn (b ∷ short)
   first_turn short =
-      ap (λ (those : List Waiting). next_turns db m now those s (b ∷ short)) line ∙ turns_first db m now w waiting s (b ∷ short) free
+      ap (λ (those : List Waiting). next_turns dbs m now those s (b ∷ short)) line ∙ turns_first dbs m now w waiting s (b ∷ short) free
 
   -- after it no write can begin
-  turn_alone : is_free turn.server ≡ false → next_turns db m now s.waiting s (b ∷ []) ≡ turn
+  turn_alone : is_free turn.server ≡ false → next_turns dbs m now s.waiting s (b ∷ []) ≡ turn
   turn_alone busy =
       first_turn []
-      ∙ followed_rest turn (λ after. next_turns db m now waiting after (short_after turn.shown (b ∷ [])))
-      (turns_rest db m now waiting turn.server (short_after turn.shown (b ∷ [])) busy)
+      ∙ followed_rest turn (λ after. next_turns (behind_first dbs) m now waiting after (short_after turn.shown (b ∷ [])))
+      (turns_rest (behind_first dbs) m now waiting turn.server (short_after turn.shown (b ∷ [])) busy)
 
   -- its call was replied to, and nothing changed
   turn_then : (short : List Bool) → turn.server ≡ with_line s waiting → turn.calls ≡ [] → replies turn.shown ≡ 1
-      → (let u = next_turns db m now waiting (with_line s waiting) short in
-      next_turns db m now s.waiting s (b ∷ short) ≡ stepped u.server u.calls (turn.shown ++ u.shown))
+      → (let u = next_turns (behind_first dbs) m now waiting (with_line s waiting) short in
+      next_turns dbs m now s.waiting s (b ∷ short) ≡ stepped u.server u.calls (turn.shown ++ u.shown))
   turn_then short same calls one =
       let at : Server → List Bool → List Made → Stepped = λ x choices made.
-      (let u = next_turns db m now waiting x choices in
+      (let u = next_turns (behind_first dbs) m now waiting x choices in
       stepped u.server (made ++ u.calls) (turn.shown ++ u.shown)) in
       first_turn short
       ∙ ap (λ (choices : List Bool). at turn.server choices turn.calls) (ap (λ (k : ℕ). drop k (b ∷ short)) one ∙ drop_none short)
@@ -179,42 +180,42 @@ pub named_fault : {D : Type 0} (g : Ghosts D) {knows : Type 0} {t : Stepped} {be
     → e ≡ DiskFault → Ends g knows t before after n m (Err e) → Ends g knows t before after n m (Err DiskFault)
 named_fault g {knows} {t} {before} {after} {n} {m} e is ends = subst (λ (x : StoreFault). Ends g knows t before after n m (Err x)) is ends
 
-module _ {D : Type 0} (g : Ghosts D) {knows : Type 0} (db : Database) (now : ℕ) (w : Waiting) (waiting : List Waiting) (b : Bool)
+module _ {D : Type 0} (g : Ghosts D) {knows : Type 0} (dbs : Databases) (now : ℕ) (w : Waiting) (waiting : List Waiting) (b : Bool)
     (before after : List Output) (n : Held D) (free : is_free n.server ≡ true) (others : 1 < cell_size n.member)
     (line : n.server.waiting ≡ w ∷ waiting) (s : Server) (place : Member) (is : s ≡ with_line n.server waiting)
     (at : place ≡ n.member) where
   -- a turn after which no write can begin, or in which the disk failed
   pub turn_over : (last : Held D) (r : Result (Unit {0}) StoreFault) → IsErrOf r DiskFault ⊎ IsOk r
       → (IsOk r → is_free last.server ≡ false)
-      → Ends g knows (write_turn db place s now w.id w.call b) before after (record n { server = s; member = place }) last r
-      → Ends g knows (next_turns db n.member now n.server.waiting n.server (b ∷ [])) before after n last r
+      → Ends g knows (write_turn (dbs 0) place s now w.id w.call b) before after (record n { server = s; member = place }) last r
+      → Ends g knows (next_turns dbs n.member now n.server.waiting n.server (b ∷ [])) before after n last r
   turn_over last r fine busy ends =
       by r fine busy (went_on g n s place last r (ap durable_in is)
-      (λ failed. ap halted_from is) at fine (same_ends g (named db now w b n.member place s (with_line n.server waiting) at is) ends))
+      (λ failed. ap halted_from is) at fine (same_ends g (named (dbs 0) now w b n.member place s (with_line n.server waiting) at is) ends))
     where
       by : (r : Result (Unit {0}) StoreFault) → IsErrOf r DiskFault ⊎ IsOk r → (IsOk r → is_free last.server ≡ false)
-          → Ends g knows (turn db n.member n.server now w waiting b free line) before after n last r
-          → Ends g knows (next_turns db n.member now n.server.waiting n.server (b ∷ [])) before after n last r
+          → Ends g knows (turn dbs n.member n.server now w waiting b free line) before after n last r
+          → Ends g knows (next_turns dbs n.member now n.server.waiting n.server (b ∷ [])) before after n last r
       by (Ok done) fine busy one =
           known_so g (Ok done) (λ known.
-          (known, turn_alone db n.member n.server now w waiting b free line (ap is_free (one.made known).server ∙ busy refl))) one
+          (known, turn_alone dbs n.member n.server now w waiting b free line (ap is_free (one.made known).server ∙ busy refl))) one
       by (Err why) fine busy one =
           ends_as g (λ known. tt) (λ known failed.
           ⊎_elim (λ rests. subst (λ (t : Stepped). FailsIn g (durable_in n.server) n.store.disk last.store.disk t.calls)
-          (sym (turn_alone db n.member n.server now w waiting b free line rests)) (one.failed known failed))
+          (sym (turn_alone dbs n.member n.server now w waiting b free line rests)) (one.failed known failed))
           (λ rests. fails_none g (durable_in n.server) n.store.disk last.store.disk
-          (next_turns db n.member now n.server.waiting n.server (b ∷ [])).calls
+          (next_turns dbs n.member now n.server.waiting n.server (b ∷ [])).calls
           (subst (λ (calls : List Made). FailsIn g (durable_in n.server) n.store.disk last.store.disk calls) rests.1
           (one.failed known failed)))
-          (turn_is n.member (with_line n.server waiting) now w.id w.call others db b)) one
+          (turn_is n.member (with_line n.server waiting) now w.id w.call others (dbs 0) b)) one
 
   -- a turn after which one can, and then those of the others
   pub turn_goes : {more : Type 0} (mid last : Held D) (between : List Output) (short : List Bool) (r : Result (Unit {0}) StoreFault)
       → IsErrOf r DiskFault ⊎ IsOk r → is_free mid.server ≡ true → (knows → more)
-      → Ends g knows (write_turn db place s now w.id w.call b) before between (record n { server = s; member = place }) mid (Ok tt)
+      → Ends g knows (write_turn (dbs 0) place s now w.id w.call b) before between (record n { server = s; member = place }) mid (Ok tt)
       → IsRepliedTo g before between (record n { server = s; member = place }) mid
-      → Ends g more (next_turns db mid.member now mid.server.waiting mid.server short) between after mid last r
-      → Ends g knows (next_turns db n.member now n.server.waiting n.server (b ∷ short)) before after n last r
+      → Ends g more (next_turns (behind_first dbs) mid.member now mid.server.waiting mid.server short) between after mid last r
+      → Ends g knows (next_turns dbs n.member now n.server.waiting n.server (b ∷ short)) before after n last r
   turn_goes {more} mid last between short r fine ready so ends replied later =
       let named_held : Server → Bool → ℕ → Member → Held D =
       λ x h l k. record { store = mid.store; server = x; halted = h; last = l; member = k } in
@@ -223,31 +224,31 @@ module _ {D : Type 0} (g : Ghosts D) {knows : Type 0} (db : Database) (now : ℕ
       ∙ ap (λ (h : Bool). named_held s h mid.last mid.member) ends.halted
       ∙ ap (λ (l : ℕ). named_held s n.halted l mid.member) ends.last
       ∙ ap (λ (k : Member). named_held s n.halted n.last k) ends.member in
-      let u = next_turns db mid.member now mid.server.waiting mid.server short in
-      let same : u ≡ next_turns db n.member now waiting (with_line n.server waiting) short =
-      ap (λ (k : Member). next_turns db k now mid.server.waiting mid.server short) (ends.member ∙ at)
-      ∙ ap (λ (x : Server). next_turns db n.member now x.waiting x short) (replied.server ∙ is) in
-      let t = turn db n.member n.server now w waiting b free line in
+      let u = next_turns (behind_first dbs) mid.member now mid.server.waiting mid.server short in
+      let same : u ≡ next_turns (behind_first dbs) n.member now waiting (with_line n.server waiting) short =
+      ap (λ (k : Member). next_turns (behind_first dbs) k now mid.server.waiting mid.server short) (ends.member ∙ at)
+      ∙ ap (λ (x : Server). next_turns (behind_first dbs) n.member now x.waiting x short) (replied.server ∙ is) in
+      let t = turn dbs n.member n.server now w waiting b free line in
       let one = went_on g n s place last r (ap durable_in is) (λ failed. ap halted_from is) at fine
       (after_reads g (record n { server = s; member = place }) mid.store last r replied.reads (λ none. none)
       (subst (λ (h : Held D). Ends g more u between after h last r) mid_is later)) in
       let goes : knows → (between ≡ before ++ outputs_of t.shown) ×
-      (next_turns db n.member now n.server.waiting n.server (b ∷ short) ≡ stepped u.server u.calls (t.shown ++ u.shown)) = λ known.
+      (next_turns dbs n.member now n.server.waiting n.server (b ∷ short) ≡ stepped u.server u.calls (t.shown ++ u.shown)) = λ known.
       (let made = ends.made known in
-      let first = same_ends g (named db now w b n.member place s (with_line n.server waiting) at is) ends in
+      let first = same_ends g (named (dbs 0) now w b n.member place s (with_line n.server waiting) at is) ends in
       let shown = (first.made known).outputs in
       let server = (first.made known).server in
       let rests : (t.server ≡ with_line n.server waiting) × (t.calls ≡ []) × (replies t.shown ≡ 1) =
       ⊎_elim (λ busy. absurd (false≢true (sym busy ∙ ap is_free server ∙ ready))) (λ rests. rests)
-      (turn_is n.member (with_line n.server waiting) now w.id w.call others db b) in (
+      (turn_is n.member (with_line n.server waiting) now w.id w.call others (dbs 0) b) in (
         shown,
-        turn_then db n.member n.server now w waiting b free line short rests.0 rests.1 rests.2
+        turn_then dbs n.member n.server now w waiting b free line short rests.0 rests.1 rests.2
             ∙ ap (λ (x : Stepped). stepped x.server x.calls (t.shown ++ x.shown)) (sym same),
       )) in
       ends_as g (λ known.
       let step = goes known in
       ok_map r (IsMade g u between after n last)
-      (IsMade g (next_turns db n.member now n.server.waiting n.server (b ∷ short)) before after n last) (one.made (so known))
+      (IsMade g (next_turns dbs n.member now n.server.waiting n.server (b ∷ short)) before after n last) (one.made (so known))
       (λ made.
       subst (λ (x : Stepped). IsMade g x before after n last) (sym step.1) (record {
         server = made.server;
@@ -261,10 +262,10 @@ module _ {D : Type 0} (g : Ghosts D) {knows : Type 0} (db : Database) (now : ℕ
       (sym (goes known).1) (one.failed (so known) failed)) one
 
 -- nobody waits
-pub nobody_left : (db : Database) (m : Member) (now : ℕ) (s after : Server) (short : List Bool) (out : List Output) → s.waiting ≡ []
-    → after ≡ without_first s → ShowsBehind (next_turns db m now s.waiting s short) after out out
-nobody_left db m now s after short out none is =
-    let rests : next_turns db m now s.waiting s short ≡ quiet s = ap (λ (those : List Waiting). next_turns db m now those s short) none in
+pub nobody_left : (dbs : Databases) (m : Member) (now : ℕ) (s after : Server) (short : List Bool) (out : List Output) → s.waiting ≡ []
+    → after ≡ without_first s → ShowsBehind (next_turns dbs m now s.waiting s short) after out out
+nobody_left dbs m now s after short out none is =
+    let rests : next_turns dbs m now s.waiting s short ≡ quiet s = ap (λ (those : List Waiting). next_turns dbs m now those s short) none in
     let same : s ≡ after =
     ap (λ (those : List Waiting). with_line s those) (none ∙ sym (ap (λ (those : List Waiting). drop 1 those) none)) ∙ sym is in
     subst (λ (t : Stepped). ShowsBehind t after out out) (sym rests)
@@ -272,15 +273,15 @@ nobody_left db m now s after short out none is =
 
 -- ---- a write that a majority has, and then the turns
 
-pub settled_comes : (db : Database) (m : Member) (s mid : Server) (now : ℕ) (short : List Bool) → (settled m s).server ≡ mid
+pub settled_comes : (dbs : Databases) (m : Member) (s mid : Server) (now : ℕ) (short : List Bool) → (settled m s).server ≡ mid
     → (settled m s).calls ≡ []
-    → (let u = next_turns db m now mid.waiting mid short in
-    settled_with_turns db m s now (replicate (replies (settled m s).shown) false ++ short) ≡ stepped u.server u.calls
+    → (let u = next_turns dbs m now mid.waiting mid short in
+    settled_with_turns dbs m s now (replicate (replies (settled m s).shown) false ++ short) ≡ stepped u.server u.calls
     ((settled m s).shown ++ u.shown))
-settled_comes db m s mid now short server calls =
+settled_comes dbs m s mid now short server calls =
     let t = settled m s in
     let at : Server → List Bool → List Made → Stepped = λ x choices made.
-    (let u = next_turns db m now x.waiting x choices in
+    (let u = next_turns dbs m now x.waiting x choices in
     stepped u.server (made ++ u.calls) (t.shown ++ u.shown)) in
     ap (λ (choices : List Bool). at t.server choices t.calls) (drop_past (replies t.shown) short)
     ∙ ap (λ (x : Server). at x short t.calls) server

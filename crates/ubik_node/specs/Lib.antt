@@ -1,6 +1,7 @@
 pub mod Acts
 pub mod Appending
 pub mod Built
+pub mod Choices
 pub mod Database
 pub mod Debug
 pub mod Disk

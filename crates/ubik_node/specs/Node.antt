@@ -17,14 +17,17 @@ use Rattle.cell_model.specs.declared.events.NodeEvent.{NodeEvent}
 use Rattle.cell_model.specs.declared.events.NodeEvent.TheVariants as events
 use Rattle.cell_model.specs.declared.events.Output.{Output}
 use Rattle.cell_model.specs.Durable.{Durable, Made, durable}
+use Rattle.cell_model.specs.Lapse.{lapsed}
 use Rattle.cell_model.specs.Node as model
-use Rattle.cell_model.specs.NodeRule.{step_of, refusals}
+use Rattle.cell_model.specs.NodeRule.{step_by, step_of, refusals}
 use Rattle.cell_model.specs.Step.{Member, Stepped, cell_size, outputs_of}
 use Rattle.cell_model.specs.Writes.{announced_image}
 use Rattle.ubik_node.specs.declared.nodes.Node.{Node}
 use Rattle.ubik_node.specs.declared.nodes.StepEnd.{StepEnd}
 use Rattle.ubik_node.specs.declared.nodes.StepEnd.TheVariants.{Done, Halted, NoMemory}
+use Rattle.ubik_node.specs.Choices.{Choices, dbs_of}
 use Rattle.ubik_node.specs.Disk.{FailsIn, Serves}
+use Rattle.ubik_node.specs.Evaluation.{is_evaluated}
 use Rattle.server_state.specs.State.{server_of, member_of}
 
 -- the server of a node that is not halted
@@ -75,51 +78,63 @@ pub record Makes (t : Stepped) (after : model.Node) (out : List Output) (Did : L
   pub outputs : out ≡ outputs_of t.shown
   pub disk : Did t.calls
 
--- A step at a moment that ended so, from one server and its disk to others, with these outputs. Which calls found no memory is free where
--- it was made. A server that is halted, now or before, puts out refusals alone; what ended for want of memory changed nothing.
+-- A step that ended so, from one server and its disk to others, with these outputs. Where it was made, it was so by one of the choices. A
+-- server that is halted, now or before, puts out refusals alone; what ended for want of memory changed nothing.
+abbrev pub StepsBy : {D Choice : Type 0} → Ghosts D → (model.Server → Choice → Stepped) → StepEnd → NodeEvent → (before after : model.Node) → List Output
+    → (old new : D) → Type 0
+StepsBy {D} {Choice} g made Done event (model.Up s) after outputs old new =
+    (choice : Choice) × Makes (made s choice) after outputs (Serves g (durable_in s) old new)
+StepsBy g made Done event _ after outputs old new = ⊥
+StepsBy {D} {Choice} g made Halted event (model.Up s) after outputs old new =
+    (after ≡ model.Halted (model.halted_from s)) × (outputs ≡ outputs_of (refusals event))
+    × (choice : Choice) × FailsIn g (durable_in s) old new (made s choice).calls
+StepsBy g made Halted event (model.Halted h) after outputs old new =
+    (after ≡ model.Halted h) × (outputs ≡ outputs_of (refusals event)) × (new ≡ old)
+StepsBy g made Halted event model.Down after outputs old new = ⊥
+StepsBy g made NoMemory event (model.Up s) after outputs old new = (after ≡ model.Up s) × (outputs ≡ []) × OnlyReads g old new ⊥
+StepsBy g made NoMemory event _ after outputs old new = ⊥
+
+-- A step of the rules at a moment, over any image. Which calls found no memory is free, and so is what came of a call over an image that
+-- holds no state of the database.
+abbrev pub StepsFreely : {D : Type 0} → Ghosts D → Standing → Member → StepEnd → NodeEvent → ℕ → (before after : model.Node) → List Output
+    → (old new : D) → Type 0
+StepsFreely g d m end event now before after outputs old new =
+    StepsBy g (λ s (o : Choices d). step_by (dbs_of o) m s now event o.short) end event before after outputs old new
+
+-- A step of the world: each call is evaluated as the database has it. Which calls found no memory is free.
 abbrev pub Steps : {D : Type 0} → Ghosts D → Database → Member → StepEnd → NodeEvent → ℕ → (before after : model.Node) → List Output
     → (old new : D) → Type 0
-Steps g db m Done event now (model.Up s) after outputs old new =
-    (short : List Bool) × Makes (step_of db m s now event short) after outputs (Serves g (durable_in s) old new)
-Steps g db m Done event now _ after outputs old new = ⊥
-Steps g db m Halted event now (model.Up s) after outputs old new =
-    (after ≡ model.Halted (model.halted_from s)) × (outputs ≡ outputs_of (refusals event))
-    × (short : List Bool) × FailsIn g (durable_in s) old new (step_of db m s now event short).calls
-Steps g db m Halted event now (model.Halted h) after outputs old new =
-    (after ≡ model.Halted h) × (outputs ≡ outputs_of (refusals event)) × (new ≡ old)
-Steps g db m Halted event now model.Down after outputs old new = ⊥
-Steps g db m NoMemory event now (model.Up s) after outputs old new = (after ≡ model.Up s) × (outputs ≡ []) × OnlyReads g old new ⊥
-Steps g db m NoMemory event now _ after outputs old new = ⊥
+Steps g db m end event now before after outputs old new =
+    StepsBy g (λ s (short : List Bool). step_of db m s now event short) end event before after outputs old new
 
--- the disk tells its files, and the image stands for a state of the database
-abbrev pub IsMeantIn : Standing → Option Files → (image : List ℕ) → Type 0
-IsMeantIn d files image = IsSome files × (s : d.State) × d.StandsFor image s
+-- the image stands for a state of the database, and so does the one before the write in flight
+abbrev pub HoldsStates : Standing → model.Node → Type 0
+HoldsStates d (model.Up s) = ((x : d.State) × d.StandsFor s.image x) × ((y : d.State) × d.StandsFor (announced_image s) y)
+HoldsStates d _ = Unit {0}
 
--- so of the image before the write in flight too
-abbrev pub AreMeantIn : Standing → Option Files → model.Server → Type 0
-AreMeantIn d files s = IsMeantIn d files s.image × IsMeantIn d files (announced_image s)
+-- a packet that may be answered from the image, or changes it, needs a disk that tells its files
+abbrev pub NeedsFiles : Body → (tells : Type 0) → Type 0
+NeedsFiles (body.Beacon start claim ready version) tells = Unit {0}
+NeedsFiles (body.Vote start granted) tells = Unit {0}
+NeedsFiles (body.GetVersion poll) tells = Unit {0}
+NeedsFiles (body.SetVersion poll old new) tells = Unit {0}
+NeedsFiles (body.Begin old new pieces len) tells = Unit {0}
+NeedsFiles (body.PutPiece new number bytes) tells = Unit {0}
+NeedsFiles (body.Abort new) tells = Unit {0}
+NeedsFiles _ tells = tells
 
--- A packet that may be answered from the image, or changes it, needs a disk that tells its files. One that may make a holder needs more: calls
--- that wait may then have their turns, for which the image has to stand for a state.
-abbrev pub NeedsFiles : Body → (tells meant : Type 0) → Type 0
-NeedsFiles (body.Beacon start claim ready version) tells meant = Unit {0}
-NeedsFiles (body.Vote start granted) tells meant = Unit {0}
-NeedsFiles (body.GetVersion poll) tells meant = Unit {0}
-NeedsFiles (body.SetVersion poll old new) tells meant = Unit {0}
-NeedsFiles (body.VersionKept version) tells meant = meant
-NeedsFiles (body.VersionIs poll version) tells meant = meant
-NeedsFiles (body.Begin old new pieces len) tells meant = Unit {0}
-NeedsFiles (body.PutPiece new number bytes) tells meant = Unit {0}
-NeedsFiles (body.Abort new) tells meant = Unit {0}
-NeedsFiles _ tells meant = tells
+-- What an event needs after the lapse to be handled as the rules have it: a call that is evaluated, and what is sent of an image to another server
+-- or taken over, needs a disk that tells its files. A refusal needs nothing.
+abbrev pub NeedsThen : Database → Member → model.Server → NodeEvent → ℕ → Option Files → Type 0
+NeedsThen db m s (events.Ask id call) now files = is_evaluated m s now (db.writes call) ≡ true → IsSome files
+NeedsThen db m s (events.Packet p) now files = NeedsFiles p.body (IsSome files)
+NeedsThen db m s events.RecoverTurn now files = 1 < cell_size m → IsSome files
+NeedsThen db m s events.BeaconTurn now files = Unit {0}
 
--- What an event needs to be handled as the rules have it. A call at a server that is up needs its image and the announced one, and what is sent of an image to
--- another server, or taken over, needs a disk that tells its files.
-abbrev pub Needs : Standing → Member → model.Node → NodeEvent → Option Files → Type 0
-Needs d m (model.Up s) (events.Ask id call) files = AreMeantIn d files s
-Needs d m (model.Up s) (events.Packet p) files = NeedsFiles p.body (IsSome files) (IsMeantIn d files s.image)
-Needs d m (model.Up s) events.RecoverTurn files = 1 < cell_size m → IsSome files
-Needs d m before event files = Unit {0}
+-- so before it
+abbrev pub Needs : Database → Member → model.Node → NodeEvent → ℕ → Option Files → Type 0
+Needs db m (model.Up s) event now files = NeedsThen db m (lapsed m s now).server event now files
+Needs db m _ event now files = Unit {0}
 
 -- the moment of the last step after one that ended so
 abbrev pub last_after : StepEnd → ℕ → ℕ → ℕ
@@ -169,9 +184,9 @@ pub record Ends {D : Type 0} (g : Ghosts D) (knows : Type 0) (t : Stepped) (befo
   pub last : new.last ≡ old.last
   pub member : new.member ≡ old.member
 
--- how a rule ended, whichever of its replies were for want of memory
-abbrev pub EndsSo : {D : Type 0} → Ghosts D → (knows : Type 0) → (List Bool → Stepped) → (before after : List Output) → (old new : Held D) → Result (Unit {0}) StoreFault → Type 0
-EndsSo g knows t before after old new r = (short : List Bool) × Ends g knows (t short) before after old new r
+-- how a rule ended, whatever was chosen in it
+abbrev pub EndsSo : {D : Type 0} → Ghosts D → (d : Standing) → (knows : Type 0) → (Choices d → Stepped) → (before after : List Output) → (old new : Held D) → Result (Unit {0}) StoreFault → Type 0
+EndsSo g d knows t before after old new r = (o : Choices d) × Ends g knows (t o) before after old new r
 
 -- a step whose rule the disk failed in: the server is halted, and keeps what a halted one tells
 abbrev pub IsHalting : {D : Type 0} → NodeEvent → (back : model.Server) → (old new : Held D) → List Output → StepEnd → Type 0

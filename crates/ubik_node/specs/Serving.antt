@@ -1,5 +1,5 @@
 -- What becomes of a call.
-use Rattle.std.specs.Prelude.{◌≡◌, ◌≤◌, ◌+◌, ℕ, Bool, List, [], ◌∷◌, length, IfSome, Result, Ok, Err}
+use Rattle.std.specs.Prelude.{◌≡◌, ◌≤◌, ◌+◌, ℕ, Bool, List, [], ◌∷◌, length, IfSome, IsSome, Result, Ok, Err}
 use Rattle.disk_base.specs.declared.disks.Disk.{Ghosts}
 use Rattle.disk_base.specs.Runs.{OnlyReads}
 use Rattle.ubik_calls.specs.declared.replies.Reply.{Reply}
@@ -16,7 +16,8 @@ use Rattle.cell_model.specs.Writes.{announced_image, write_turn}
 use Rattle.ubik_node.specs.declared.evaluations.Evaluation as code
 use Rattle.ubik_node.specs.declared.serving.Turn.{Turn}
 use Rattle.ubik_node.specs.declared.serving.Turn.TheVariants as turn
-use Rattle.ubik_node.specs.Node.{Ends, Held, IsMeantIn}
+use Rattle.ubik_node.specs.Choices.{Choices, dbs_of}
+use Rattle.ubik_node.specs.Node.{Ends, Held}
 use Rattle.server_state.specs.Plain.{IsPlainReply}
 
 -- what a call leads to
@@ -32,6 +33,13 @@ abbrev pub IsPlainTurn : Turn → Type 0
 IsPlainTurn (turn.Refuse r) = IsPlainReply r
 IsPlainTurn _ = Unit {0}
 
+-- the call is evaluated
+abbrev pub IsEvaluation : Turn → Type 0
+IsEvaluation turn.Read = Unit {0}
+IsEvaluation turn.ReadOwn = Unit {0}
+IsEvaluation turn.Write = Unit {0}
+IsEvaluation _ = ⊥
+
 abbrev pub IsWait : Turn → Type 0
 IsWait turn.Wait = Unit {0}
 IsWait _ = ⊥
@@ -44,8 +52,8 @@ IsWrite _ = ⊥
 abbrev pub ReadsFrom : {D : Type 0} → Ghosts D → Standing → (old new : Held D) → (image : List ℕ) → (now id : ℕ) → List ℕ → (before after : List Output)
     → Result (Unit {0}) StoreFault → Type 0
 ReadsFrom g d old new image now id call before after r =
-    (short : List Bool) × ((basis : Basis) → Ends g (IsMeantIn d (g.files old.store.disk) image) (read d.database old.server now id call image basis (is_short short))
-    before after old new r)
+    (o : Choices d)
+    × ((basis : Basis) → Ends g (IsSome (g.files old.store.disk)) (read (dbs_of o 0) old.server now id call image basis (is_short o.short)) before after old new r)
 
 -- a call was only replied to, and nothing changed
 pub record IsRepliedTo {D : Type 0} (g : Ghosts D) (before after : List Output) (old new : Held D) : Type 0 where

@@ -7,6 +7,7 @@ ghost use Rattle.cell_model.specs.Step.{sends_to, showing};
 ghost use Rattle.server_rules.specs.Acts.{CanAct, HasRoom, MayEndShort, MayFail, own_piece, stepped_by};
 ghost use Rattle.server_state.specs.Plain.{IsPiece, IsPlainBody};
 ghost use Rattle.ubik_node.specs.Acts.{ActNeeds};
+ghost use Rattle.ubik_node.specs.Choices.{dbs_of};
 ghost use Rattle.ubik_node.specs.Built.{BodyTakesNoMemory, IsBuiltBody};
 
 use crate::nodes::Node;
@@ -20,7 +21,7 @@ use ubik_store::StoreFault;
 use ubik_types::{Bytes, Host};
 
 impl<D: Disk, V: DraftService> Node<D, V> {
-    ghost use Rattle.ubik_node.specs.Node.{Ends, EndsSo, held, IsMeantIn, IsStored, Knows, NeedsFiles, own_member, up_server};
+    ghost use Rattle.ubik_node.specs.Node.{Ends, EndsSo, held, IsStored, Knows, NeedsFiles, own_member, up_server};
 
     /// A packet of a server of the cell: what is to be done is decided, and then done.
     pub(crate) fn heard(
@@ -37,8 +38,8 @@ impl<D: Disk, V: DraftService> Node<D, V> {
         requires few { length out.old ≤ 100 }
         requires from { from < length self.old.state.cell }
         requires built { IsBuiltBody packet.now }
-        ensures ends { EndsSo D.Disk (NeedsFiles packet.now (IsSome (D.files self.old.store.disk)) (IsMeantIn V.standing (D.files self.old.store.disk) self.old.state.image))
-            (λ short. received_from V.standing.database (own_member self.old) (up_server self.old) now host from packet.now short)
+        ensures ends { EndsSo D.Disk V.standing (NeedsFiles packet.now (IsSome (D.files self.old.store.disk)))
+            (λ o. received_from (dbs_of o) (own_member self.old) (up_server self.old) now host from packet.now o.short)
             out.old out.new (held self.old) (held self.new) result }
         ensures memory { BodyTakesNoMemory packet.now → IsErrOf result StoreFault.DiskFault ⊎ IsOk result }
     {
@@ -52,7 +53,7 @@ impl<D: Disk, V: DraftService> Node<D, V> {
         requires not_halted { self.old.halted ≡ false }
         requires stored { IsStored D.Disk self.old }
         requires few { length out.old ≤ 100 }
-        ensures { EndsSo D.Disk (Knows D.Disk self.old) (λ _. recovery_turn (own_member self.old) (up_server self.old) now)
+        ensures { EndsSo D.Disk V.standing (Knows D.Disk self.old) (λ _. recovery_turn (own_member self.old) (up_server self.old) now)
             out.old out.new (held self.old) (held self.new) result }
     {
         let act = recovery_turn(&mut self.state, self.alloc, now, out)?;
@@ -71,8 +72,8 @@ impl<D: Disk, V: DraftService> Node<D, V> {
         requires stored { IsStored D.Disk self.old }
         requires room { HasRoom act (length out.old) }
         requires can { CanAct self.old.state act }
-        ensures ends { EndsSo D.Disk (ActNeeds act.entry (Knows D.Disk self.old) (IsSome (D.files self.old.store.disk)) (IsMeantIn V.standing (D.files self.old.store.disk) self.old.state.image))
-            (λ short. stepped_by V.standing.database (own_member self.old) now short (up_server self.old) act.entry)
+        ensures ends { EndsSo D.Disk V.standing (ActNeeds act.entry (Knows D.Disk self.old) (IsSome (D.files self.old.store.disk)))
+            (λ o. stepped_by (dbs_of o) (own_member self.old) now o.short (up_server self.old) act.entry)
             out.old out.new (held self.old) (held self.new) result }
         ensures memory { ¬ MayEndShort act.entry → IsErrOf result StoreFault.DiskFault ⊎ IsOk result }
         ensures fine { ¬ MayFail act.entry → IsOk result }

@@ -5,7 +5,7 @@ ghost use Rattle.ubik_types.specs.Logged.{too_large};
 ghost use Rattle.cell_model.specs.declared.events.Output.TheVariants as outputs;
 ghost use Rattle.server_state.specs.Recovering.{IsServing};
 ghost use Rattle.server_state.specs.Plain.{IsAnswer, IsPlainReply};
-ghost use Rattle.ubik_node.specs.Evaluation.{IsShortReply};
+ghost use Rattle.ubik_node.specs.Evaluation.{IsShortReply, is_evaluated};
 ghost use Rattle.ubik_node.specs.Serving.{IsReadReply};
 ghost use Rattle.ubik_calls.specs.declared.replies.Reply.{Reply};
 ghost use Rattle.server_state.specs.Writing.{own_of, waiting_of};
@@ -27,7 +27,8 @@ impl<D: Disk, V: DraftService> Node<D, V> {
     ghost use Rattle.cell_model.specs.Asks.{asked};
     ghost use Rattle.cell_model.specs.Step.{is_short};
     ghost use Rattle.cell_model.specs.Writes.{announced_image, is_free, next_version, write_turn, written_in};
-    ghost use Rattle.ubik_node.specs.Node.{AreMeantIn, Ends, EndsSo, held, IsMeantIn, IsStored, own_member, up_server};
+    ghost use Rattle.ubik_node.specs.Choices.{dbs_of};
+    ghost use Rattle.ubik_node.specs.Node.{Ends, EndsSo, held, IsStored, own_member, up_server};
     ghost use Rattle.ubik_node.specs.Serving.{IsRepliedTo, ReadsFrom};
     ghost use Rattle.ubik_node.specs.Verdict.{IsWritten};
 
@@ -42,8 +43,9 @@ impl<D: Disk, V: DraftService> Node<D, V> {
         requires not_halted { self.old.halted ≡ false }
         requires stored { IsStored D.Disk self.old }
         requires few { length out.old ≤ 100 }
-        ensures ends { EndsSo D.Disk (AreMeantIn V.standing (D.files self.old.store.disk) (up_server self.old))
-            (λ short. asked V.standing.database (own_member self.old) (up_server self.old) now id call.now (is_short short))
+        ensures ends { EndsSo D.Disk V.standing
+            (is_evaluated (own_member self.old) (up_server self.old) now (V.standing.database.writes call.now) ≡ true → IsSome (D.files self.old.store.disk))
+            (λ o. asked (dbs_of o 0) (own_member self.old) (up_server self.old) now id call.now (is_short o.short))
             out.old out.new (held self.old) (held self.new) result }
         ensures memory { IsErrOf result StoreFault.DiskFault ⊎ IsOk result }
     {
@@ -112,8 +114,8 @@ impl<D: Disk, V: DraftService> Node<D, V> {
         requires serving { IsServing self.old.state.recovery }
         requires free { own_of self.old.state.writes ≡ None }
         requires few { length out.old + length (waiting_of self.old.state.writes) ≤ 180 }
-        ensures ends { EndsSo D.Disk (IsMeantIn V.standing (D.files self.old.store.disk) self.old.state.image)
-            (λ short. write_turn V.standing.database (own_member self.old) (up_server self.old) now id call.now (is_short short))
+        ensures ends { EndsSo D.Disk V.standing (IsSome (D.files self.old.store.disk))
+            (λ o. write_turn (dbs_of o 0) (own_member self.old) (up_server self.old) now id call.now (is_short o.short))
             out.old out.new (held self.old) (held self.new) result }
         ensures line { length (waiting_of self.new.state.writes) ≤ length (waiting_of self.old.state.writes) }
         ensures rests { 1 < length self.old.state.cell → OnOk result (is_free (up_server self.new) ≡ true → IsRepliedTo D.Disk out.old out.new (held self.old) (held self.new)) }
@@ -148,8 +150,8 @@ impl<D: Disk, V: DraftService> Node<D, V> {
         requires serving { IsServing self.old.state.recovery }
         requires free { own_of self.old.state.writes ≡ None }
         requires few { length out.old + length (waiting_of self.old.state.writes) ≤ 180 }
-        ensures ends { Ends D.Disk (IsMeantIn V.standing (D.files self.old.store.disk) self.old.state.image)
-            (write_turn V.standing.database (own_member self.old) (up_server self.old) now id call.now false)
+        ensures ends { EndsSo D.Disk V.standing (IsSome (D.files self.old.store.disk))
+            (λ o. write_turn (dbs_of o 0) (own_member self.old) (up_server self.old) now id call.now false)
             out.old out.new (held self.old) (held self.new) result }
         ensures front { OnErr result (take (length out.old) out.new ≡ out.old) }
         ensures line { length (waiting_of self.new.state.writes) ≤ length (waiting_of self.old.state.writes) }

@@ -1,5 +1,5 @@
 //! The line of those that wait for the write in flight, and their turns.
-ghost use Rattle.std.specs.Prelude.{◌≡◌, ◌≤◌, ◌<◌, ◌⊎◌, [], length, false, IsErrOf, IsOk};
+ghost use Rattle.std.specs.Prelude.{◌≡◌, ◌≤◌, ◌<◌, ◌⊎◌, [], length, false, IsErrOf, IsOk, IsSome};
 ghost use Rattle.cell_model.specs.Writes.{is_free, next_turns, settled_with_turns};
 ghost use Rattle.server_state.specs.Writing.{waiting_of};
 
@@ -10,7 +10,8 @@ use server_state::Outputs;
 use ubik_store::StoreFault;
 
 impl<D: Disk, V: DraftService> Node<D, V> {
-    ghost use Rattle.ubik_node.specs.Node.{EndsSo, held, IsMeantIn, IsStored, own_member, up_server};
+    ghost use Rattle.ubik_node.specs.Choices.{dbs_of};
+    ghost use Rattle.ubik_node.specs.Node.{EndsSo, held, IsStored, own_member, up_server};
 
     /// Holders have come: a write that a majority has is over, and those that wait have their turns.
     pub(crate) fn settle_with_turns(
@@ -21,8 +22,8 @@ impl<D: Disk, V: DraftService> Node<D, V> {
         requires not_halted { self.old.halted ≡ false }
         requires stored { IsStored D.Disk self.old }
         requires few { length out.old ≤ 100 }
-        ensures ends { EndsSo D.Disk (IsMeantIn V.standing (D.files self.old.store.disk) self.old.state.image)
-            (λ short. settled_with_turns V.standing.database (own_member self.old) (up_server self.old) now short)
+        ensures ends { EndsSo D.Disk V.standing (IsSome (D.files self.old.store.disk))
+            (λ o. settled_with_turns (dbs_of o) (own_member self.old) (up_server self.old) now o.short)
             out.old out.new (held self.old) (held self.new) result }
         ensures memory { IsErrOf result StoreFault.DiskFault ⊎ IsOk result }
     {
@@ -35,8 +36,8 @@ impl<D: Disk, V: DraftService> Node<D, V> {
         requires not_halted { self.old.halted ≡ false }
         requires stored { IsStored D.Disk self.old }
         requires few { length out.old ≤ 102 }
-        ensures ends { EndsSo D.Disk (IsMeantIn V.standing (D.files self.old.store.disk) self.old.state.image)
-            (λ short. next_turns V.standing.database (own_member self.old) now (up_server self.old).waiting (up_server self.old) short)
+        ensures ends { EndsSo D.Disk V.standing (IsSome (D.files self.old.store.disk))
+            (λ o. next_turns (dbs_of o) (own_member self.old) now (up_server self.old).waiting (up_server self.old) o.short)
             out.old out.new (held self.old) (held self.new) result }
         ensures memory { IsErrOf result StoreFault.DiskFault ⊎ IsOk result }
         ensures nobody { waiting_of self.old.state.writes ≡ [] → IsOk result }

@@ -70,7 +70,8 @@ impl<D: Disk, V: DraftService> Node<D, V> {
     ghost use Rattle.cell_model.specs.Durable.{Durable};
     ghost use Rattle.ubik_node.specs.Disk.{StandsAs};
     ghost use Rattle.server_state.specs.Lapsing.{IsDroppedOf, returned};
-    ghost use Rattle.ubik_node.specs.Node.{Calls, Closes, EndsSo, held, IsMeantIn, IsStored, Needs, NeedsFiles, Steps, last_after, node_of, own_member, up_server};
+    ghost use Rattle.ubik_node.specs.Choices.{dbs_of};
+    ghost use Rattle.ubik_node.specs.Node.{Calls, Closes, EndsSo, held, HoldsStates, IsStored, Needs, NeedsFiles, NeedsThen, Steps, StepsFreely, last_after, node_of, own_member, up_server};
 
     /// Opens a server over its disk, on which nothing is pending, at a moment in seconds: the server at a place of the cell. An
     /// empty disk is an empty database of version 0.0. A refusal is that of the store, and hands the disk back as the store left it.
@@ -124,7 +125,8 @@ impl<D: Disk, V: DraftService> Node<D, V> {
     }
 
     /// One step: what an event makes of the server at a moment in seconds, not below the last one. An id of a
-    /// call is new since the opening. A call is made as the database has it where the image stands for a state. `out` is empty before it, and
+    /// call is new since the opening. Over an image that stands for a state a call is made as the database has it. Over another one what comes of
+    /// it is free, and nothing else: it keeps the grammar and the sizes, and only a writing call changes the image. `out` is empty before it, and
     /// has what the step put out after it. A recovery turn, and packets of recovery and of writes, can end for want of memory: a call that
     /// finds none is answered so. At each moment of the step a crash leaves the state after the first so many of its durable calls.
     pub fn step(&mut self, now: u32, event: NodeEvent, out: &mut Outputs) -> StepEnd
@@ -133,7 +135,11 @@ impl<D: Disk, V: DraftService> Node<D, V> {
         requires built { IsBuilt event }
         requires empty { out.old ≡ [] }
         requires stored { IsStored D.Disk self.old }
-        ensures step { Needs V.standing (own_member self.old) (node_of self.old) event (D.files self.old.store.disk)
+        ensures step { Needs V.standing.database (own_member self.old) (node_of self.old) event now (D.files self.old.store.disk)
+            → StepsFreely D.Disk V.standing (own_member self.old) result event now (node_of self.old) (node_of self.new) out.new
+            self.old.store.disk self.new.store.disk }
+        ensures meant { Needs V.standing.database (own_member self.old) (node_of self.old) event now (D.files self.old.store.disk)
+            → HoldsStates V.standing (node_of self.old)
             → Steps D.Disk V.standing.database (own_member self.old) result event now (node_of self.old) (node_of self.new) out.new
             self.old.store.disk self.new.store.disk }
         ensures member { own_member self.new ≡ own_member self.old }
@@ -154,7 +160,11 @@ impl<D: Disk, V: DraftService> Node<D, V> {
         requires built { IsBuilt event.now }
         requires empty { out.old ≡ [] }
         requires stored { IsStored D.Disk self.old }
-        ensures step { Needs V.standing (own_member self.old) (node_of self.old) event.now (D.files self.old.store.disk)
+        ensures step { Needs V.standing.database (own_member self.old) (node_of self.old) event.now now (D.files self.old.store.disk)
+            → StepsFreely D.Disk V.standing (own_member self.old) result event.now now (node_of self.old) (node_of self.new) out.new
+            self.old.store.disk self.new.store.disk }
+        ensures meant { Needs V.standing.database (own_member self.old) (node_of self.old) event.now now (D.files self.old.store.disk)
+            → HoldsStates V.standing (node_of self.old)
             → Steps D.Disk V.standing.database (own_member self.old) result event.now now (node_of self.old) (node_of self.new) out.new
             self.old.store.disk self.new.store.disk }
         ensures member { own_member self.new ≡ own_member self.old }
@@ -268,7 +278,11 @@ impl<D: Disk, V: DraftService> Node<D, V> {
         requires built { IsBuilt event.now }
         requires empty { out.old ≡ [] }
         requires stored { IsStored D.Disk self.old }
-        ensures step { Needs V.standing (own_member self.old) (node_of self.old) event.now (D.files self.old.store.disk)
+        ensures step { Needs V.standing.database (own_member self.old) (node_of self.old) event.now now (D.files self.old.store.disk)
+            → StepsFreely D.Disk V.standing (own_member self.old) result event.now now (node_of self.old) (node_of self.new) out.new
+            self.old.store.disk self.new.store.disk }
+        ensures meant { Needs V.standing.database (own_member self.old) (node_of self.old) event.now now (D.files self.old.store.disk)
+            → HoldsStates V.standing (node_of self.old)
             → Steps D.Disk V.standing.database (own_member self.old) result event.now now (node_of self.old) (node_of self.new) out.new
             self.old.store.disk self.new.store.disk }
         ensures member { own_member self.new ≡ own_member self.old }
@@ -291,8 +305,8 @@ impl<D: Disk, V: DraftService> Node<D, V> {
         requires built { IsBuilt event.now }
         requires few { length out.old ≤ 100 }
         requires stored { IsStored D.Disk self.old }
-        ensures ends { EndsSo D.Disk (Needs V.standing (own_member self.old) (model.Up (up_server self.old)) event.now (D.files self.old.store.disk))
-            (λ short. handled V.standing.database (own_member self.old) (up_server self.old) now event.now short) out.old out.new (held self.old) (held self.new) result }
+        ensures ends { EndsSo D.Disk V.standing (NeedsThen V.standing.database (own_member self.old) (up_server self.old) event.now now (D.files self.old.store.disk))
+            (λ o. handled (dbs_of o) (own_member self.old) (up_server self.old) now event.now o.short) out.old out.new (held self.old) (held self.new) result }
         ensures memory { TakesNoMemory event.now → IsErrOf result StoreFault.DiskFault ⊎ IsOk result }
     {
         match event {
@@ -343,8 +357,8 @@ impl<D: Disk, V: DraftService> Node<D, V> {
         requires kind { IsBuiltBody packet.now.body }
         requires few { length out.old ≤ 100 }
         requires stored { IsStored D.Disk self.old }
-        ensures ends { EndsSo D.Disk (NeedsFiles packet.now.body (IsSome (D.files self.old.store.disk)) (IsMeantIn V.standing (D.files self.old.store.disk) self.old.state.image))
-            (λ short. received_packet V.standing.database (own_member self.old) (up_server self.old) now packet.now short (place_of self.old.state.cell packet.now.from))
+        ensures ends { EndsSo D.Disk V.standing (NeedsFiles packet.now.body (IsSome (D.files self.old.store.disk)))
+            (λ o. received_packet (dbs_of o) (own_member self.old) (up_server self.old) now packet.now o.short (place_of self.old.state.cell packet.now.from))
             out.old out.new (held self.old) (held self.new) result }
         ensures memory { BodyTakesNoMemory packet.now.body → IsErrOf result StoreFault.DiskFault ⊎ IsOk result }
     {

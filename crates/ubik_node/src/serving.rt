@@ -1,12 +1,12 @@
 //! Where a call is served, and what its client is told else.
-ghost use Rattle.std.specs.Prelude.{◌≡◌, ℕ, Bool, List, None, Some, IsSome};
+ghost use Rattle.std.specs.Prelude.{◌≡◌, ℕ, Bool, List, None, Some, IsSome, true};
 ghost use Rattle.ubik_types.specs.Votes.{sync_heard};
 ghost use Rattle.db_image.specs.Database.{Database};
 ghost use Rattle.cell_model.specs.Asks.{asked_as, allows_reads, not_served, read_reply};
 ghost use Rattle.cell_model.specs.Step.{Evaluation};
 ghost use Rattle.cell_model.specs.declared.events.Output.TheVariants as outputs;
-ghost use Rattle.ubik_node.specs.Evaluation.{IsShortReply};
-ghost use Rattle.ubik_node.specs.Serving.{TurnsTo, IsPlainTurn, IsWait, IsWrite};
+ghost use Rattle.ubik_node.specs.Evaluation.{IsShortReply, is_evaluated};
+ghost use Rattle.ubik_node.specs.Serving.{TurnsTo, IsEvaluation, IsPlainTurn, IsWait, IsWrite};
 ghost use Rattle.server_state.specs.Beacons.{beacon_of};
 ghost use Rattle.server_state.specs.Plain.{IsPlainReply};
 ghost use Rattle.server_state.specs.State.{server_of, member_of};
@@ -41,6 +41,7 @@ pub fn turn_of(state: &State, now: u32, writes: bool) -> Turn
     ensures serving { IsWrite result → IsServing state.now.recovery }
     ensures writing { IsWait result → IsSome (own_of state.now.writes) }
     ensures free { IsWrite result → own_of state.now.writes ≡ None }
+    ensures evaluates { IsEvaluation result → is_evaluated (member_of state.now) (server_of state.now) now (Some writes) ≡ true }
     ensures plain { IsPlainTurn result }
 {
     let leased = state.votes.in_lease(now);

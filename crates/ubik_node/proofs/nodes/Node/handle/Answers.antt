@@ -1,4 +1,5 @@
-use Rattle.std.proofs.Common.{[], refl}
+use Rattle.std.proofs.Common.{refl}
+use Rattle.ubik_node.specs.Choices.{none_chosen}
 use Rattle.ubik_node.specs.Node.{held}
 use Rattle.ubik_node.proofs.Endings.{shown_ends}
 use Rattle.ubik_node.proofs.nodes.Node.handle.Goals as goal
@@ -9,8 +10,10 @@ returns-in-Packet-clause-ends g c = rw c.in-Packet.is c.receive.ensures.ends
 pub returns-in-BeaconTurn-clause-ends : goal.returns-in-BeaconTurn-clause-ends
 returns-in-BeaconTurn-clause-ends g c =
     let n = c.args.self.now in
-    rw c.in-BeaconTurn.is
-    ([], shown_ends g.D.Disk (held n) n.state c.beacon_turn.new.self c.requires.stored c.requires.not_halted refl refl c.beacon_turn.ensures.kept c.beacon_turn.ensures.shows)
+    rw c.in-BeaconTurn.is (
+      none_chosen g.V.DraftService.standing,
+      shown_ends g.D.Disk (held n) n.state c.beacon_turn.new.self c.requires.stored c.requires.not_halted refl refl c.beacon_turn.ensures.kept c.beacon_turn.ensures.shows,
+    )
 
 pub returns-in-RecoverTurn-clause-ends : goal.returns-in-RecoverTurn-clause-ends
 returns-in-RecoverTurn-clause-ends g c = rw c.in-RecoverTurn.is c.recover.ensures

@@ -1,28 +1,35 @@
-use Rattle.std.proofs.Common.{◌≡◌, ◌++◌, ◌∙◌, List, [], ◌∷◌, true, length, IsSome, refl, sym, ap, length-append, arith}
+use Rattle.std.proofs.Common.{◌≡◌, ◌++◌, ◌∙◌, List, [], ◌∷◌, true, length, IsSome, Ok, refl, sym, ap, length-append, arith}
 use Rattle.std.specs.Result.{is_err}
 use Rattle.std.proofs.lemmas.Bool.{false≢true}
 use Rattle.cell_model.specs.declared.events.Output.{Output}
 use Rattle.cell_model.specs.declared.events.Output.TheVariants as output
+use Rattle.cell_model.specs.Evaluating.{outcome_told}
 use Rattle.cell_model.specs.Node.{Server}
 use Rattle.cell_model.specs.Step.{Stepped, outputs_of}
 use Rattle.cell_model.specs.Writes.{is_free}
+use Rattle.ubik_store.specs.declared.faults.StoreFault.{StoreFault}
+use Rattle.ubik_store.specs.Store.{image_in}
 use Rattle.ubik_store.proofs.Telling.{ok_map}
 use Rattle.ubik_node.specs.declared.verdicts.Verdict.TheVariants as verdict
-use Rattle.ubik_node.specs.Node.{held, IsMeantIn, up_server}
+use Rattle.ubik_node.specs.Choices.{none_chosen}
+use Rattle.ubik_node.specs.Node.{held, up_server}
 use Rattle.ubik_node.specs.Serving.{IsRepliedTo}
 use Rattle.server_state.specs.State.{member_of, server_of}
 use Rattle.server_state.specs.Writing.{own_of}
 use Rattle.ubik_node.proofs.Calling.{after_reads, known_so, stored_read, unread_ends}
 use Rattle.ubik_node.proofs.Endings.{handed_ends, kept_with, known_read_ends, reads_as, told_still}
+use Rattle.ubik_node.proofs.Evaluated.{answers_of, never_less, one_chosen}
 use Rattle.ubik_node.proofs.Made.{judged_here}
 use Rattle.ubik_node.proofs.Turns.{front_whole, writes_busy}
 use Rattle.ubik_node.proofs.nodes.Node.make_write.Goals as goal
 
 pub returns-in_err-made-clause-ends : goal.returns-in_err-made-clause-ends
-returns-in_err-made-clause-ends g c =
-    handed_ends g.D.Disk c.from_residual.result c.in_err-made.field-0.0 c.from_residual.ensures.1
-    (unread_ends g.D.Disk (held c.args.self.now) c.evaluate.new.store c.evaluate.result c.in_err-made.field-0.0 c.in_err-made.was c.evaluate.ensures.fault c.requires.stored c.requires.not_halted c.evaluate.ensures.sound c.evaluate.ensures.same c.evaluate.ensures.failed
-    c.evaluate.ensures.disk)
+returns-in_err-made-clause-ends g c = (
+  none_chosen g.V.DraftService.standing,
+  handed_ends g.D.Disk c.from_residual.result c.in_err-made.field-0.0 c.from_residual.ensures.1
+      (unread_ends g.D.Disk (held c.args.self.now) c.evaluate.new.store c.evaluate.result c.in_err-made.field-0.0 c.in_err-made.was c.evaluate.ensures.fault c.requires.stored c.requires.not_halted c.evaluate.ensures.sound c.evaluate.ensures.same c.evaluate.ensures.failed
+      c.evaluate.ensures.disk),
+)
 
 pub returns-in_err-made-clause-front : goal.returns-in_err-made-clause-front
 returns-in_err-made-clause-front g c = front_whole c.from_residual.result c.args.out.now
@@ -34,17 +41,20 @@ returns-in-Reply-clause-ends g c =
     let d = g.V.DraftService.standing in
     let files = g.D.Disk.files n.store.disk in
     let went = λ (failed : _). false≢true (ap is_err failed) in
+    let told = answers_of {E = StoreFault} d (image_in files) c.args.now c.args.call.now (Ok c.in_ok-made.made) c.in_ok-made.ensures.made in
     let reads = c.in_ok-made.ensures.disk in
     let still = stored_read g.D.Disk (held n) c.evaluate.new.store c.requires.stored c.requires.not_halted c.in_ok-made.ensures.sound (c.in_ok-made.ensures.same went) reads went in
-    let judged = λ (meant : IsMeantIn d files st.image). judged_here d (member_of st) st files c.args.now c.args.id c.args.call.now c.in_ok-made.made (verdict.Reply c.in-Reply.reply) (g.met.V.DraftService.never_shrinks st.image c.args.now c.args.call.now)
-    c.in-Reply.ensures.judged c.in_ok-made.ensures.made (c.requires.stored.image c.requires.not_halted) meant in
-    known_read_ends g.D.Disk (held n) (record (held n) { store = c.evaluate.new.store }) refl refl refl c.requires.stored c.requires.not_halted reads went still
-    (λ meant.
-    let leads = judged meant in (
-      leads.calls,
-      leads.server,
-      c.put_reply.ensures ∙ ap (λ (o : List Output). c.args.out.now ++ o) (sym leads.outputs),
-    ))
+    let judged = λ (tells : IsSome files). judged_here d told.one (member_of st) st files c.args.now c.args.id c.args.call.now c.in_ok-made.made (verdict.Reply c.in-Reply.reply) (never_less d g.met.V.DraftService.never_shrinks told.one told.may st.image c.args.now c.args.call.now)
+    c.in-Reply.ensures.judged told.says (c.requires.stored.image c.requires.not_halted) tells in (
+      one_chosen d told.one told.may [],
+      known_read_ends g.D.Disk (held n) (record (held n) { store = c.evaluate.new.store }) refl refl refl c.requires.stored c.requires.not_halted reads went still
+          (λ tells.
+          let leads = judged tells in (
+            leads.calls,
+            leads.server,
+            c.put_reply.ensures ∙ ap (λ (o : List Output). c.args.out.now ++ o) (sym leads.outputs),
+          )),
+    )
 
 pub returns-in-Reply-clause-rests : goal.returns-in-Reply-clause-rests
 returns-in-Reply-clause-rests g c = λ more free.
@@ -63,20 +73,23 @@ returns-in-NewPoll-clause-ends g c =
     let d = g.V.DraftService.standing in
     let files = g.D.Disk.files n.store.disk in
     let went = λ (failed : _). false≢true (ap is_err failed) in
+    let told = answers_of {E = StoreFault} d (image_in files) c.args.now c.args.call.now (Ok c.in_ok-made.made) c.in_ok-made.ensures.made in
     let reads = c.in_ok-made.ensures.disk in
     let shows = c.last_counter.ensures.shows in
     let kept = c.last_counter.ensures.kept in
     let still = stored_read g.D.Disk (held n) c.evaluate.new.store c.requires.stored c.requires.not_halted c.in_ok-made.ensures.sound (c.in_ok-made.ensures.same went) reads went in
-    let judged = λ (meant : IsMeantIn d files st.image). judged_here d (member_of st) st files c.args.now c.args.id c.args.call.now c.in_ok-made.made verdict.NewPoll (g.met.V.DraftService.never_shrinks st.image c.args.now c.args.call.now)
-    c.in-NewPoll.ensures.judged c.in_ok-made.ensures.made (c.requires.stored.image c.requires.not_halted) meant in
-    known_read_ends g.D.Disk (held n) (record (held n) { store = c.evaluate.new.store; server = server_of last; member = member_of last }) refl refl kept.member c.requires.stored c.requires.not_halted reads went
-    (kept_with g.D.Disk (record (held n) { store = c.evaluate.new.store }) (server_of last) still kept.version kept.image)
-    (λ meant.
-    let is = judged meant in (
-      ap (λ (t : Stepped). t.calls) is ∙ shows.calls,
-      ap (λ (t : Stepped). t.server) is ∙ shows.server,
-      shows.outputs ∙ ap (λ (t : Stepped). c.args.out.now ++ outputs_of t.shown) (sym is),
-    ))
+    let judged = λ (tells : IsSome files). judged_here d told.one (member_of st) st files c.args.now c.args.id c.args.call.now c.in_ok-made.made verdict.NewPoll (never_less d g.met.V.DraftService.never_shrinks told.one told.may st.image c.args.now c.args.call.now)
+    c.in-NewPoll.ensures.judged told.says (c.requires.stored.image c.requires.not_halted) tells in (
+      one_chosen d told.one told.may [],
+      known_read_ends g.D.Disk (held n) (record (held n) { store = c.evaluate.new.store; server = server_of last; member = member_of last }) refl refl kept.member c.requires.stored c.requires.not_halted reads went
+          (kept_with g.D.Disk (record (held n) { store = c.evaluate.new.store }) (server_of last) still kept.version kept.image)
+          (λ tells.
+          let is = judged tells in (
+            ap (λ (t : Stepped). t.calls) is ∙ shows.calls,
+            ap (λ (t : Stepped). t.server) is ∙ shows.server,
+            shows.outputs ∙ ap (λ (t : Stepped). c.args.out.now ++ outputs_of t.shown) (sym is),
+          )),
+    )
 
 pub returns-in-NewPoll-clause-rests : goal.returns-in-NewPoll-clause-rests
 returns-in-NewPoll-clause-rests g c = λ more free. absurd (false≢true (ap is_free c.last_counter.ensures.shows.server ∙ free))
@@ -91,12 +104,15 @@ returns-then-len-eq1-clause-ends g c =
     let d = g.V.DraftService.standing in
     let files = g.D.Disk.files n.store.disk in
     let went = λ (failed : _). false≢true (ap is_err failed) in
+    let told = answers_of {E = StoreFault} d (image_in files) c.args.now c.args.call.now (Ok c.in_ok-made.made) c.in_ok-made.ensures.made in
     let reads = c.in_ok-made.ensures.disk in
-    let image = (d.database.call st.image c.args.now c.args.call.now).image in
-    let judged = λ (meant : IsMeantIn d files st.image). judged_here d (member_of st) st files c.args.now c.args.id c.args.call.now c.in_ok-made.made (verdict.Commit c.in-Commit.answer c.in-Commit.changes) (g.met.V.DraftService.never_shrinks st.image c.args.now c.args.call.now)
-    c.in-Commit.ensures.judged c.in_ok-made.ensures.made (c.requires.stored.image c.requires.not_halted) meant in
-    after_reads g.D.Disk (held n) c.evaluate.new.store (held c.commit.new.self) c.commit.result reads went
-    (known_so g.D.Disk c.commit.result (λ (meant : IsMeantIn d files st.image). ((told_still g.D.Disk reads went meant.0, (judged meant).0), (judged meant).1)) (c.commit.ensures.ends c.args.now c.args.call.now image))
+    let image = (outcome_told told.one d.database st.image c.args.now c.args.call.now).image in
+    let judged = λ (tells : IsSome files). judged_here d told.one (member_of st) st files c.args.now c.args.id c.args.call.now c.in_ok-made.made (verdict.Commit c.in-Commit.answer c.in-Commit.changes) (never_less d g.met.V.DraftService.never_shrinks told.one told.may st.image c.args.now c.args.call.now)
+    c.in-Commit.ensures.judged told.says (c.requires.stored.image c.requires.not_halted) tells in (
+      one_chosen d told.one told.may [],
+      after_reads g.D.Disk (held n) c.evaluate.new.store (held c.commit.new.self) c.commit.result reads went
+          (known_so g.D.Disk c.commit.result (λ (tells : IsSome files). ((told_still g.D.Disk reads went tells, (judged tells).0), (judged tells).1)) (c.commit.ensures.ends c.args.now c.args.call.now image)),
+    )
 
 pub returns-then-len-eq1-clause-rests : goal.returns-then-len-eq1-clause-rests
 returns-then-len-eq1-clause-rests g c = λ more. absurd (omega (arith, more, c.if-len-eq1.true))
@@ -108,12 +124,15 @@ returns-clause-ends g c =
     let d = g.V.DraftService.standing in
     let files = g.D.Disk.files n.store.disk in
     let went = λ (failed : _). false≢true (ap is_err failed) in
+    let told = answers_of {E = StoreFault} d (image_in files) c.args.now c.args.call.now (Ok c.in_ok-made.made) c.in_ok-made.ensures.made in
     let reads = c.in_ok-made.ensures.disk in
-    let image = (d.database.call st.image c.args.now c.args.call.now).image in
-    let judged = λ (meant : IsMeantIn d files st.image). judged_here d (member_of st) st files c.args.now c.args.id c.args.call.now c.in_ok-made.made (verdict.Commit c.in-Commit.answer c.in-Commit.changes) (g.met.V.DraftService.never_shrinks st.image c.args.now c.args.call.now)
-    c.in-Commit.ensures.judged c.in_ok-made.ensures.made (c.requires.stored.image c.requires.not_halted) meant in
-    after_reads g.D.Disk (held n) c.evaluate.new.store (held c.begin_write.new.self) c.begin_write.result reads went
-    (known_so g.D.Disk c.begin_write.result (λ (meant : IsMeantIn d files st.image). ((told_still g.D.Disk reads went meant.0, (judged meant).0), (judged meant).1)) (c.begin_write.ensures.ends image))
+    let image = (outcome_told told.one d.database st.image c.args.now c.args.call.now).image in
+    let judged = λ (tells : IsSome files). judged_here d told.one (member_of st) st files c.args.now c.args.id c.args.call.now c.in_ok-made.made (verdict.Commit c.in-Commit.answer c.in-Commit.changes) (never_less d g.met.V.DraftService.never_shrinks told.one told.may st.image c.args.now c.args.call.now)
+    c.in-Commit.ensures.judged told.says (c.requires.stored.image c.requires.not_halted) tells in (
+      one_chosen d told.one told.may [],
+      after_reads g.D.Disk (held n) c.evaluate.new.store (held c.begin_write.new.self) c.begin_write.result reads went
+          (known_so g.D.Disk c.begin_write.result (λ (tells : IsSome files). ((told_still g.D.Disk reads went tells, (judged tells).0), (judged tells).1)) (c.begin_write.ensures.ends image)),
+    )
 
 pub returns-clause-rests : goal.returns-clause-rests
 returns-clause-rests g c = λ more.

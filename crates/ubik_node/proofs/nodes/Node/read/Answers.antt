@@ -9,6 +9,7 @@ use Rattle.ubik_write.specs.Undo as undo
 use Rattle.ubik_node.specs.Node.{held, up_server}
 use Rattle.ubik_node.specs.Serving.{ReadsFrom}
 use Rattle.server_state.specs.Writing.{own_of}
+use Rattle.ubik_node.proofs.Evaluated.{answers_of}
 use Rattle.ubik_node.proofs.Reading.{made_from, read_ended, replied_as}
 use Rattle.ubik_node.proofs.nodes.Node.read.Goals as goal
 
@@ -33,10 +34,13 @@ returns-clause-ends g c =
     let image = announced_image (up_server n) in
     let before : undo.image_before flight.undo flight.old_len n.state.image ≡ image =
     ap (λ (f : FlightRecord). undo.image_before f.undo f.old_len n.state.image) c.flight.ensures.flight ∙ sym undone.bytes ∙ sym (ap (announced n.state.image) own) in
-    read_ended g.D.Disk d (held n) c.evaluate_before-made.new.store c.requires.stored c.requires.not_halted c.evaluate_before-made.ensures.sound image c.args.now c.args.id c.args.call.now c.args.out.now c.answer_read.new.out c.evaluate_before-made.result c.answer_read.result
+    let read = option_map (undo.image_before flight.undo flight.old_len) (image_in files) in
+    let told = answers_of d read c.args.now c.args.call.now c.evaluate_before-made.result c.evaluate_before-made.ensures.made in
+    read_ended g.D.Disk d (held n) c.evaluate_before-made.new.store c.requires.stored c.requires.not_halted c.evaluate_before-made.ensures.sound image c.args.now c.args.id c.args.call.now c.args.out.now c.answer_read.new.out told.one told.may
+    c.evaluate_before-made.result c.answer_read.result
     c.evaluate_before-made.ensures.same c.evaluate_before-made.ensures.failed c.evaluate_before-made.ensures.disk
-    (λ meant. replied_as d image c.args.now c.args.call.now (option_map (undo.image_before flight.undo flight.old_len) (image_in files)) c.evaluate_before-made.result
-    (λ e made. made_from d files (undo.image_before flight.undo flight.old_len) n.state.image image c.args.now c.args.call.now e meant (c.requires.stored.image c.requires.not_halted) before made) c.evaluate_before-made.ensures.made)
+    (λ tells. replied_as d told.one image c.args.now c.args.call.now read c.evaluate_before-made.result
+    (λ e made. made_from d told.one files (undo.image_before flight.undo flight.old_len) n.state.image image c.args.now c.args.call.now e tells (c.requires.stored.image c.requires.not_halted) before made) told.says)
     c.answer_read.ensures.fault c.answer_read.ensures.memory c.answer_read.ensures.replied
 
 pub evaluate_before-made-requires-clause-fits : goal.evaluate_before-made-requires-clause-fits

@@ -1,5 +1,6 @@
 use Rattle.ubik_store.specs.Store.{image_in}
 use Rattle.ubik_node.specs.Node.{held}
+use Rattle.ubik_node.proofs.Evaluated.{answers_of}
 use Rattle.ubik_node.proofs.Made.{made_here}
 use Rattle.ubik_node.proofs.Reading.{read_ended, replied_as}
 use Rattle.ubik_node.proofs.nodes.Node.read_own.Goals as goal
@@ -9,8 +10,10 @@ returns-clause-ends g c =
     let n = c.args.self.now in
     let d = g.V.DraftService.standing in
     let files = g.D.Disk.files n.store.disk in
-    read_ended g.D.Disk d (held n) c.evaluate-made.new.store c.requires.stored c.requires.not_halted c.evaluate-made.ensures.sound n.state.image c.args.now c.args.id c.args.call.now c.args.out.now c.answer_read.new.out c.evaluate-made.result c.answer_read.result
+    let told = answers_of d (image_in files) c.args.now c.args.call.now c.evaluate-made.result c.evaluate-made.ensures.made in
+    read_ended g.D.Disk d (held n) c.evaluate-made.new.store c.requires.stored c.requires.not_halted c.evaluate-made.ensures.sound n.state.image c.args.now c.args.id c.args.call.now c.args.out.now c.answer_read.new.out told.one told.may
+    c.evaluate-made.result c.answer_read.result
     c.evaluate-made.ensures.same c.evaluate-made.ensures.failed c.evaluate-made.ensures.disk
-    (λ meant. replied_as d n.state.image c.args.now c.args.call.now (image_in files) c.evaluate-made.result
-    (λ e made. made_here d files n.state.image c.args.now c.args.call.now e meant (c.requires.stored.image c.requires.not_halted) made) c.evaluate-made.ensures.made)
+    (λ tells. replied_as d told.one n.state.image c.args.now c.args.call.now (image_in files) c.evaluate-made.result
+    (λ e made. made_here d told.one files n.state.image c.args.now c.args.call.now e tells (c.requires.stored.image c.requires.not_halted) made) told.says)
     c.answer_read.ensures.fault c.answer_read.ensures.memory c.answer_read.ensures.replied

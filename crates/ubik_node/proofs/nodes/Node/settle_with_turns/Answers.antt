@@ -7,9 +7,10 @@ use Rattle.cell_model.specs.Durable.{durable}
 use Rattle.cell_model.specs.Node.{Server, halted_from}
 use Rattle.cell_model.specs.Step.{Member}
 use Rattle.cell_model.specs.Writes.{next_turns, settled}
-use Rattle.ubik_node.specs.Node.{durable_in, held, IsMeantIn}
+use Rattle.ubik_node.specs.Choices.{dbs_of}
+use Rattle.ubik_node.specs.Node.{durable_in, held}
 use Rattle.server_state.specs.State.{announced, member_of, server_of}
-use Rattle.ubik_node.proofs.Endings.{behind_ends, known_ends, same_ends}
+use Rattle.ubik_node.proofs.Endings.{behind_ends, same_ends}
 use Rattle.server_state.proofs.Polled.{ready_phase}
 use Rattle.ubik_node.proofs.Turns.{replies, settled_comes, settled_halts, settled_line, went_on}
 use Rattle.ubik_node.proofs.nodes.Node.settle_with_turns.Goals as goal
@@ -21,8 +22,6 @@ returns-clause-ends g c =
     let mid = c.settle.new.self in
     let m = member_of st in
     let s = server_of st in
-    let d = g.V.DraftService.standing in
-    let files = g.D.Disk.files n.store.disk in
     let shows = c.settle.ensures.shows in
     let kept = c.settle.ensures.kept in
     let turns = c.take_turns.ensures.ends in
@@ -32,9 +31,8 @@ returns-clause-ends g c =
     settled_halts m s (server_of mid) shows.server (λ rests.
     let waiting = ap (λ (x : Server). x.waiting) (sym shows.server) ∙ settled_line m s ∙ st.line (λ serves. false≢true (sym rests ∙ ready_phase (announced st) st.recovery serves)) in
     absurd (false≢true (sym (ap is_ok failed) ∙ c.take_turns.ensures.nobody waiting))) in (
-      replicate (replies (settled m s).shown) false ++ turns.0,
-      same_ends g.D.Disk (settled_comes d.database m s (server_of mid) c.args.now turns.0 shows.server shows.calls) (behind_ends g.D.Disk (settled m s).shown r shows.outputs
+      record turns.0 { short = replicate (replies (settled m s).shown) false ++ turns.0.short },
+      same_ends g.D.Disk (settled_comes (dbs_of turns.0) m s (server_of mid) c.args.now turns.0.short shows.server shows.calls) (behind_ends g.D.Disk (settled m s).shown r shows.outputs
           (went_on g.D.Disk (held n) (server_of mid) (member_of mid) (held c.take_turns.new.self) r same keeps kept.member c.take_turns.ensures.memory
-          (known_ends g.D.Disk (λ (meant : IsMeantIn d files st.image). subst (λ (image : List ℕ). IsMeantIn d files image) (sym kept.image) meant)
-          (same_ends g.D.Disk (ap (λ (k : Member). next_turns d.database k c.args.now (server_of mid).waiting (server_of mid) turns.0) (sym kept.member)) turns.1)))),
+          (same_ends g.D.Disk (ap (λ (k : Member). next_turns (dbs_of turns.0) k c.args.now (server_of mid).waiting (server_of mid) turns.0.short) (sym kept.member)) turns.1))),
     )

@@ -2,18 +2,20 @@ use Rattle.std.proofs.Common.{◌≡◌, ◌∙◌, ◌++◌, [], List, refl, sy
 use Rattle.cell_model.specs.Durable.{durable}
 use Rattle.ubik_types.specs.declared.versions.Version.{Version}
 use Rattle.cell_model.specs.declared.events.Output.{Output}
+use Rattle.cell_model.specs.Evaluating.{KeepsStates}
 use Rattle.cell_model.specs.Lapse.{lapsed}
 use Rattle.cell_model.specs.Node as model
 use Rattle.cell_model.specs.NodeRule.{handled}
 use Rattle.cell_model.specs.Step.{Member, Stepped, outputs_of}
 use Rattle.server_state.specs.Lapsing.{returned}
-use Rattle.ubik_node.specs.Node.{Needs, durable_in, held}
+use Rattle.ubik_node.specs.Choices.{dbs_of}
+use Rattle.ubik_node.specs.Node.{Needs, StepsFreely, durable_in, held, node_of}
 use Rattle.server_state.specs.State.{member_of, server_of}
 use Rattle.ubik_node.proofs.Closing.{closed, closed_memory, closed_step, err_map}
 use Rattle.ubik_node.proofs.Endings.{behind_ends}
 use Rattle.ubik_node.proofs.Lapsed.{needs_lapsed}
 use Rattle.ubik_node.proofs.Rested.{back_keeps, back_same, short_behind, step_comes}
-use Rattle.ubik_node.proofs.Stepping.{steps_at, up_if}
+use Rattle.ubik_node.proofs.Stepping.{steps_at, steps_meant, up_if}
 use Rattle.ubik_node.proofs.nodes.Node.step_up.Goals as goal
 
 pub returns : goal.returns
@@ -21,33 +23,38 @@ returns g c =
     let n = c.args.self.now in
     let st = n.state in
     let d = g.V.DraftService.standing in
-    let db = d.database in
     let e = c.args.event.now in
     let now = c.args.now in
     let mid = c.lapse-given.new.self in
     let shows = c.lapse-given.ensures.shows in
     let kept = c.lapse-given.ensures.kept in
     let later = c.handle-end.new.self in
-    let short = c.handle-end.ensures.ends.0 in
+    let o = c.handle-end.ensures.ends.0 in
+    let dbs = dbs_of o in
     let shown = (lapsed (member_of st) (server_of st) now).shown in
-    let at : Member → Stepped = λ m. let u = handled db m (server_of mid) now e short in record { server = u.server; calls = u.calls; shown = shown ++ u.shown } in
+    let at : Member → Stepped = λ m. let u = handled dbs m (server_of mid) now e o.short in record { server = u.server; calls = u.calls; shown = shown ++ u.shown } in
     let first = record (held n) { server = server_of mid; member = member_of mid } in
     let up = up_if _ _ _ c.requires.not_halted in
     let empty : c.lapse-given.new.out ≡ [] ++ outputs_of shown = shows.outputs ∙ ap (λ (o : List Output). o ++ outputs_of shown) c.requires.empty in
     let ends = behind_ends g.D.Disk {before = []} shown c.handle-end.result empty c.handle-end.ensures.ends.1 in
-    let step = step_comes db (member_of st) (server_of st) (server_of mid) now e short shows.server shows.calls ∙ ap at (sym kept.member) in
+    let comes = step_comes dbs (member_of st) (server_of st) (server_of mid) now e o.short shows.server shows.calls ∙ ap at (sym kept.member) in
     let back = returned c.lapse-given.result later.state in
     let same : durable_in (server_of mid) ≡ durable_in (server_of st) = ap (λ (v : Version). durable v mid.image) kept.version ∙ ap (durable st.version) kept.image in
     let returns = err_map c.handle-end.result _ (back ≡ server_of st) ends.state (λ same. back_same c.lapse-given.result later.state mid same ∙ sym c.lapse-given.ensures.back) in
     let so = closed g.D.Disk e first (held later) (held c.end.new.self) c.handle-end.new.out c.end.new.out back c.end.result c.requires.not_halted c.handle-end.result ends
     (err_map c.handle-end.result _ (durable_in back ≡ durable_in (server_of mid)) returns (λ is. ap durable_in is ∙ sym same)) c.end.ensures in
+    let step : Needs d.database (member_of st) (node_of n) e now (g.D.Disk.files n.store.disk)
+    → StepsFreely g.D.Disk d (member_of st) c.end.result e now (node_of n) (node_of c.end.new.self) c.end.new.out n.store.disk c.end.new.self.store.disk = λ needs.
+    steps_at g.D.Disk d (member_of st) c.end.result e e (server_of st) now _ _ _ _ n.store.disk c.end.new.self.store.disk up refl refl
+    (closed_step g.D.Disk d (member_of st) (server_of st) e now (at (member_of mid)) first (held later) (held c.end.new.self) c.handle-end.new.out c.end.new.out back c.end.result
+    c.requires.not_halted (record o { short = short_behind shown o.short }) comes same c.handle-end.result ends
+    (needs_lapsed d.database (member_of st) (member_of mid) (server_of st) (server_of mid) e now (g.D.Disk.files n.store.disk) shows.server kept.member (subst (λ (x : model.Node). Needs d.database (member_of st) x e now (g.D.Disk.files n.store.disk)) up needs)) returns
+    (λ failed. back_keeps c.lapse-given.result later.state mid (ends.keeps failed) ∙ sym (ap model.halted_from c.lapse-given.ensures.back)) c.end.ensures) in
+    let keeps : KeepsStates d = λ image s now call stands.
+    ((d.meaning.call s now call).state, (g.met.V.DraftService.is_meant image s now call stands).stands) in
     record {
-      step = λ needs.
-          steps_at g.D.Disk db (member_of st) c.end.result e e (server_of st) now _ _ _ _ n.store.disk c.end.new.self.store.disk up refl refl
-          (closed_step g.D.Disk db (member_of st) (server_of st) e now (at (member_of mid)) first (held later) (held c.end.new.self) c.handle-end.new.out c.end.new.out back c.end.result
-          c.requires.not_halted (short_behind shown short) step same c.handle-end.result ends
-          (needs_lapsed d (member_of st) (member_of mid) (server_of st) (server_of mid) now e (g.D.Disk.files n.store.disk) shows.server kept.image kept.member (subst (λ (x : model.Node). Needs d (member_of st) x e (g.D.Disk.files n.store.disk)) up needs)) returns
-          (λ failed. back_keeps c.lapse-given.result later.state mid (ends.keeps failed) ∙ sym (ap model.halted_from c.lapse-given.ensures.back)) c.end.ensures);
+      step = step;
+      meant = λ needs holds. steps_meant g.D.Disk d keeps (member_of st) c.end.result e now (node_of n) (node_of c.end.new.self) c.end.new.out n.store.disk c.end.new.self.store.disk holds (step needs);
       member = so.member ∙ kept.member;
       stored = so.stored;
       memory = λ none. closed_memory e (held later) (held c.end.new.self) c.handle-end.new.out c.end.new.out back c.end.result c.handle-end.result (c.handle-end.ensures.memory none) c.end.ensures;

@@ -1,13 +1,15 @@
-use Rattle.std.proofs.Common.{◌≡◌, ◌∙◌, ◌∷◌, ◌<◌, inr, ℕ, true, Option, Some, List, [], length, drop, Err, Ok, refl, sym, ap, subst, arith}
+use Rattle.std.proofs.Common.{◌≡◌, ◌∙◌, ◌∷◌, ◌<◌, inr, ℕ, true, Option, Some, IsSome, List, [], length, drop, Err, Ok, refl, sym, ap, subst, arith}
 use Rattle.std.proofs.lemmas.List.{append-nil}
 use Rattle.disk_base.specs.Files.{Files}
 use Rattle.cell_model.specs.Node.{Server, Waiting}
 use Rattle.cell_model.specs.Step.{Member, is_short}
 use Rattle.cell_model.specs.Writes.{is_free, write_turn}
-use Rattle.ubik_node.specs.Node.{held, IsMeantIn}
+use Rattle.ubik_node.specs.Choices.{dbs_of, none_chosen}
+use Rattle.ubik_node.specs.Node.{held}
 use Rattle.server_state.specs.State.{member_of, server_of}
 use Rattle.server_state.specs.Writing.{waiting_of}
-use Rattle.ubik_node.proofs.Endings.{handed_ends, known_ends, ok_not, rests_ends, same_ends, shown_ends}
+use Rattle.ubik_node.proofs.Evaluated.{chosen_first}
+use Rattle.ubik_node.proofs.Endings.{handed_ends, ok_not, rests_ends, same_ends, shown_ends}
 use Rattle.ubik_node.proofs.Turns.{handed_fine, handed_not, line_first, line_none, named_as, nobody_left, several, turn_goes, turn_over, turns_rest}
 use Rattle.ubik_node.proofs.nodes.Node.take_turns.Goals as goal
 
@@ -22,8 +24,8 @@ loop-self-init g c =
       nobody = λ none. none;
       goes = λ free after new r fine ends. ends;
       over = λ busy. (
-        [],
-        same_ends g.D.Disk (turns_rest g.V.DraftService.standing.database (member_of st) c.args.now (waiting_of st.writes) (server_of st) [] busy)
+        none_chosen g.V.DraftService.standing,
+        same_ends g.D.Disk (turns_rest (dbs_of (none_chosen g.V.DraftService.standing)) (member_of st) c.args.now (waiting_of st.writes) (server_of st) [] busy)
             (rests_ends g.D.Disk (held n) c.requires.stored c.requires.not_halted (record { server = refl; calls = refl; outputs = sym (append-nil c.args.out.now) })),
       );
     }
@@ -41,14 +43,13 @@ loop-self-preserved g c =
     let line : waiting_of st.writes ≡ w ∷ rest = line_first (waiting_of st.writes) w (ap Some c.asked.view_is ∙ sym c.in-Some.is ∙ c.next_asked.ensures.first) in
     let others : 1 < length st.cell = several (length st.cell) st.me w (waiting_of st.writes) rest st.place st.written.alone line in
     let turn = c.write_turn.ensures.ends in
-    let b = is_short turn.0 in
+    let b = is_short turn.0.short in
     let files = g.D.Disk.files n.store.disk in
     let kept = c.next_asked.ensures.kept in
-    let known = λ (meant : IsMeantIn d files st.image). subst (λ (image : List ℕ). IsMeantIn d files image) (sym kept.image) meant in
     let made = c.in_ok-write_turn.ensures in
     let last = c.write_turn.new.self in
     let out = c.write_turn.new.out in
-    let ends = known_ends g.D.Disk known (same_ends g.D.Disk (ap (λ (call : List ℕ). write_turn d.database (member_of now) (server_of now) c.args.now w.id call b) (sym c.as_slice.ensures)) (named_as g.D.Disk c.write_turn.result (Ok c.in_ok-write_turn.field-0) c.in_ok-write_turn.was turn.1)) in
+    let ends = same_ends g.D.Disk (ap (λ (call : List ℕ). write_turn (dbs_of turn.0 0) (member_of now) (server_of now) c.args.now w.id call b) (sym c.as_slice.ensures)) (named_as g.D.Disk c.write_turn.result (Ok c.in_ok-write_turn.field-0) c.in_ok-write_turn.was turn.1) in
     let several_now : 1 < length now.cell = omega (arith, others, ap (λ (k : Member). length k.hosts) kept.member) in
     record {
       not_halted = ends.halted ∙ inv.not_halted;
@@ -59,14 +60,14 @@ loop-self-preserved g c =
       nobody = λ none. let nobody : waiting_of st.writes ≡ [] = inv.nobody none in absurd cc;
       goes = λ ready after new r fine later.
           let replied = made.rests several_now ready in
+          let o = chosen_first d turn.0 later.0 in
           inv.goes free after new r fine (
-            b ∷ later.0,
-            turn_goes g.D.Disk d.database c.args.now w rest b c.loop-self.out after (held n) free others line (server_of now) (member_of now) c.next_asked.ensures.after kept.member (held last) new out later.0 r fine ready
-                (λ (meant : IsMeantIn d files st.image).
-                subst (λ (those : Option Files). IsMeantIn d those last.state.image) (sym (replied.reads.files (λ none. none))) (subst (λ (image : List ℕ). IsMeantIn d files image) (sym (ap (λ (s : Server). s.image) replied.server ∙ kept.image)) meant))
+            o,
+            turn_goes g.D.Disk (dbs_of o) c.args.now w rest b c.loop-self.out after (held n) free others line (server_of now) (member_of now) c.next_asked.ensures.after kept.member (held last) new out later.0.short r fine ready
+                (λ (tells : IsSome files). subst (λ (those : Option Files). IsSome those) (sym (replied.reads.files (λ none. none))) tells)
                 ends replied later.1,
           );
-      over = λ busy. inv.goes free out (held last) (Ok tt) (inr refl) (b ∷ [], turn_over g.D.Disk d.database c.args.now w rest b c.loop-self.out out (held n) free others line (server_of now) (member_of now) c.next_asked.ensures.after kept.member (held last) (Ok tt) (inr refl) (λ ok. busy) ends);
+      over = λ busy. inv.goes free out (held last) (Ok tt) (inr refl) (chosen_first d turn.0 (none_chosen d), turn_over g.D.Disk (dbs_of (chosen_first d turn.0 (none_chosen d))) c.args.now w rest b c.loop-self.out out (held n) free others line (server_of now) (member_of now) c.next_asked.ensures.after kept.member (held last) (Ok tt) (inr refl) (λ ok. busy) ends);
     }
 
 pub loop-self-smaller : goal.loop-self-smaller
@@ -89,18 +90,17 @@ returns-in_err-write_turn-clause-ends g c =
     let line : waiting_of st.writes ≡ w ∷ rest = line_first (waiting_of st.writes) w (ap Some c.asked.view_is ∙ sym c.in-Some.is ∙ c.next_asked.ensures.first) in
     let others : 1 < length st.cell = several (length st.cell) st.me w (waiting_of st.writes) rest st.place st.written.alone line in
     let turn = c.write_turn.ensures.ends in
-    let b = is_short turn.0 in
+    let b = is_short turn.0.short in
     let files = g.D.Disk.files n.store.disk in
     let kept = c.next_asked.ensures.kept in
-    let known = λ (meant : IsMeantIn d files st.image). subst (λ (image : List ℕ). IsMeantIn d files image) (sym kept.image) meant in
     let e = c.in_err-write_turn.field-0.0 in
     let r = c.from_residual.result in
     let is = c.from_residual.ensures.1 in
     let last = c.write_turn.new.self in
     let out = c.write_turn.new.out in
-    let ends = handed_ends g.D.Disk r e is (known_ends g.D.Disk known (same_ends g.D.Disk (ap (λ (call : List ℕ). write_turn d.database (member_of now) (server_of now) c.args.now w.id call b) (sym c.as_slice.ensures)) (named_as g.D.Disk c.write_turn.result (Err e) c.in_err-write_turn.was turn.1))) in
+    let ends = handed_ends g.D.Disk r e is (same_ends g.D.Disk (ap (λ (call : List ℕ). write_turn (dbs_of turn.0 0) (member_of now) (server_of now) c.args.now w.id call b) (sym c.as_slice.ensures)) (named_as g.D.Disk c.write_turn.result (Err e) c.in_err-write_turn.was turn.1)) in
     let fine = handed_fine r e is c.in_err-write_turn.ensures.memory in
-    inv.goes free out (held last) r fine (b ∷ [], turn_over g.D.Disk d.database c.args.now w rest b c.loop-self.out out (held n) free others line (server_of now) (member_of now) c.next_asked.ensures.after kept.member (held last) r fine (λ ok. handed_not r e is ok) ends)
+    inv.goes free out (held last) r fine (chosen_first d turn.0 (none_chosen d), turn_over g.D.Disk (dbs_of (chosen_first d turn.0 (none_chosen d))) c.args.now w rest b c.loop-self.out out (held n) free others line (server_of now) (member_of now) c.next_asked.ensures.after kept.member (held last) r fine (λ ok. handed_not r e is ok) ends)
 
 pub returns-in_err-write_turn-clause-nobody : goal.returns-in_err-write_turn-clause-nobody
 returns-in_err-write_turn-clause-nobody g c = λ none.
@@ -120,9 +120,9 @@ returns-in_default-clause-ends g c =
     let kept = c.next_asked.ensures.kept in
     let none = line_none (waiting_of st.writes) (sym c.in_default.is ∙ c.next_asked.ensures.first) in
     inv.goes free c.loop-self.out (held (record n { state = now })) (Ok tt) (inr refl) (
-      [],
+      none_chosen g.V.DraftService.standing,
       shown_ends g.D.Disk (held n) st now inv.stored inv.not_halted refl refl kept
-          (nobody_left g.V.DraftService.standing.database (member_of st) c.args.now (server_of st) (server_of now) [] c.loop-self.out none c.next_asked.ensures.after),
+          (nobody_left (dbs_of (none_chosen g.V.DraftService.standing)) (member_of st) c.args.now (server_of st) (server_of now) [] c.loop-self.out none c.next_asked.ensures.after),
     )
 
 pub returns-clause-ends : goal.returns-clause-ends
