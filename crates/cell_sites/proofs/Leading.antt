@@ -24,7 +24,7 @@ use Rattle.write_laws.specs.Lines.{unanswered}
 use Rattle.write_laws.specs.Spreads.{IsWriteStep, WritesSpread}
 use Rattle.ubik_node.specs.declared.nodes.Node.{Node}
 use Rattle.ubik_node.specs.Built.{IsBuilt, IsBuiltBody}
-use Rattle.ubik_node.specs.Node.{Needs, NeedsFiles, IsMeantIn, node_of, up_server}
+use Rattle.ubik_node.specs.Node.{HoldsStates, Needs, NeedsFiles, node_of, up_server}
 use Rattle.cell_sites.specs.declared.cells.OpenCell.{OpenCell}
 use Rattle.cell_sites.specs.Calls.{AllStandUnder}
 use Rattle.cell_sites.specs.Sound.{IsSoundDisk, Keeps}
@@ -57,41 +57,46 @@ brought_built m event.BeaconTurn brought = tt
 brought_built m event.RecoverTurn brought = tt
 brought_built m (event.Ask id call) brought = tt
 
--- a disk that tells its files, over an image that stands for a state, serves each packet
-needs_told : (b : Body) (tells meant : Type 0) → tells → meant → NeedsFiles b tells meant
-needs_told (body.Beacon start claim ready version) tells meant told stands = tt
-needs_told (body.Vote start granted) tells meant told stands = tt
-needs_told (body.GetVersion poll) tells meant told stands = tt
-needs_told (body.SetVersion poll old new) tells meant told stands = tt
-needs_told (body.VersionKept version) tells meant told stands = stands
-needs_told (body.VersionIs poll version) tells meant told stands = stands
-needs_told (body.Begin old new pieces len) tells meant told stands = tt
-needs_told (body.PutPiece new number bytes) tells meant told stands = tt
-needs_told (body.Abort new) tells meant told stands = tt
-needs_told (body.GetPiece poll version offset) tells meant told stands = told
-needs_told (body.Piece poll version total offset bytes) tells meant told stands = told
-needs_told (body.SendPiece poll version total offset bytes) tells meant told stands = told
-needs_told (body.PieceKept poll version next) tells meant told stands = told
-needs_told (body.Commit old new) tells meant told stands = told
+-- a disk that tells its files serves each packet
+needs_told : (b : Body) (tells : Type 0) → tells → NeedsFiles b tells
+needs_told (body.Beacon start claim ready version) tells told = tt
+needs_told (body.Vote start granted) tells told = tt
+needs_told (body.GetVersion poll) tells told = tt
+needs_told (body.SetVersion poll old new) tells told = tt
+needs_told (body.VersionKept version) tells told = told
+needs_told (body.VersionIs poll version) tells told = told
+needs_told (body.Begin old new pieces len) tells told = tt
+needs_told (body.PutPiece new number bytes) tells told = tt
+needs_told (body.Abort new) tells told = tt
+needs_told (body.GetPiece poll version offset) tells told = told
+needs_told (body.Piece poll version total offset bytes) tells told = told
+needs_told (body.SendPiece poll version total offset bytes) tells told = told
+needs_told (body.PieceKept poll version next) tells told = told
+needs_told (body.Commit old new) tells told = told
 
--- what a step needs, where the images of the server stand for states of the database
-pub needs_met : {D V : Type 0} (g : Ghosts D) (standing : Standing) (m : Member) (node : Node D V) (disk : IsSoundDisk g node.store.disk)
-    → ((s : model.Server) → node_of node ≡ model.Up s → IsMeantImage standing s.image × IsMeantImage standing (announced_image s)) → (e : NodeEvent)
-    → Needs standing m (node_of node) e (g.files node.store.disk)
-needs_met g standing m node disk meant e = by (node_of node) e refl
+-- what a step needs
+pub needs_met : {D V : Type 0} (g : Ghosts D) (db : Database) (m : Member) (node : Node D V) (disk : IsSoundDisk g node.store.disk) (e : NodeEvent) (now : ℕ)
+    → Needs db m (node_of node) e now (g.files node.store.disk)
+needs_met g db m node disk e now = by (node_of node) e
   where
-    by : (x : model.Node) (e : NodeEvent) → node_of node ≡ x → Needs standing m x e (g.files node.store.disk)
-    by model.Down e is = tt
-    by (model.Halted h) e is = tt
-    by (model.Up s) (event.Packet p) is =
-        let its = (meant s is).0 in
-        needs_told p.body (IsSome (g.files node.store.disk)) (IsMeantIn standing (g.files node.store.disk) s.image) disk.told (disk.told, its.0, its.1)
-    by (model.Up s) event.BeaconTurn is = tt
-    by (model.Up s) event.RecoverTurn is = λ larger. disk.told
-    by (model.Up s) (event.Ask id call) is =
-        let its = (meant s is).0 in
-        let before = (meant s is).1 in
-        ((disk.told, its.0, its.1), (disk.told, before.0, before.1))
+    by : (x : model.Node) (e : NodeEvent) → Needs db m x e now (g.files node.store.disk)
+    by model.Down e = tt
+    by (model.Halted h) e = tt
+    by (model.Up s) (event.Packet p) = needs_told p.body (IsSome (g.files node.store.disk)) disk.told
+    by (model.Up s) event.BeaconTurn = tt
+    by (model.Up s) event.RecoverTurn = λ larger. disk.told
+    by (model.Up s) (event.Ask id call) = λ evaluated. disk.told
+
+-- where the images of the server stand for states of the database, so do those of the node
+pub holds_met : {D V : Type 0} (standing : Standing) (node : Node D V)
+    → ((s : model.Server) → node_of node ≡ model.Up s → IsMeantImage standing s.image × IsMeantImage standing (announced_image s))
+    → HoldsStates standing (node_of node)
+holds_met standing node meant = by (node_of node) refl
+  where
+    by : (x : model.Node) → node_of node ≡ x → HoldsStates standing x
+    by model.Down is = tt
+    by (model.Halted h) is = tt
+    by (model.Up s) is = meant s is
 
 -- ---- a step
 

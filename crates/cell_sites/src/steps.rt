@@ -20,7 +20,7 @@ ghost use Rattle.cell_sites.specs.Stepped.{NodeStepped, SiteStepped, UpStepped, 
 ghost use Rattle.cell_sites.specs.Taken.{CutsNone};
 ghost use Rattle.cell_sites.specs.Told.{CellTold, IsRefused, IsShort};
 ghost use Rattle.ubik_node.specs.Built.{IsBuilt};
-ghost use Rattle.ubik_node.specs.Node.{Needs, node_of, own_member};
+ghost use Rattle.ubik_node.specs.Node.{HoldsStates, Needs, node_of, own_member};
 ghost use Rattle.write_laws.specs.Keeping.{IsBrought};
 ghost use Rattle.ubik_types.specs.Moment.{IsMoment};
 
@@ -301,7 +301,8 @@ fn step_node<D: StopDisk, V: DraftWords>(
     requires sound { IsSoundNode D.Disk (own_member node.old) clock node.old }
     requires built { IsBuilt event }
     requires cuts { CutsNone V.standing.database (own_member node.old) event clock (node_of node.old) }
-    requires needs { Needs V.standing (own_member node.old) (node_of node.old) event (D.files node.old.store.disk) }
+    requires needs { Needs V.standing.database (own_member node.old) (node_of node.old) event clock (D.files node.old.store.disk) }
+    requires holds { HoldsStates V.standing (node_of node.old) }
     requires disk { IsSoundDisk D.Disk node.old.store.disk }
     requires empty { out.old ≡ [] }
     ensures { NodeStepped D.Disk V.standing.database (own_member node.old) clock event result node.old node.new out.new }

@@ -4,7 +4,7 @@ use Rattle.cell_sites.specs.Sound.{IsSoundNode}
 use Rattle.cell_sites.specs.Stepped.{NodeStepped, member_at}
 use Rattle.ubik_node.specs.Node.{own_member}
 use Rattle.cell_sites.proofs.Behind.{up_cuts, up_meant}
-use Rattle.cell_sites.proofs.Leading.{brought_built, needs_met}
+use Rattle.cell_sites.proofs.Leading.{brought_built, holds_met, needs_met}
 use Rattle.cell_sites.proofs.Soundly.{found_up, here}
 use Rattle.cell_sites.proofs.cells.OpenCell.step_up.Goals as goal
 
@@ -44,10 +44,16 @@ step_node-requires-clause-needs g c =
     let site = c.index_mut-site.result.now in
     let there = found_up c.args.self.now c.args.k site c.in-Up.node c.requires.up c.index_mut-site.ensures.value c.in-Up.is in
     let at = here g.D.Disk c.requires.sound.0.clock c.args.self.now c.args.k site.clock c.in-Up.node c.requires.sound.1.steady there in
-    needs_met g.D.Disk g.V.DraftService.standing (own_member c.in-Up.node) c.in-Up.node at.disk
+    needs_met g.D.Disk g.V.DraftService.standing.database (own_member c.in-Up.node) c.in-Up.node at.disk c.args.event site.clock
+
+pub step_node-requires-clause-holds : goal.step_node-requires-clause-holds
+step_node-requires-clause-holds g c =
+    let site = c.index_mut-site.result.now in
+    let there = found_up c.args.self.now c.args.k site c.in-Up.node c.requires.up c.index_mut-site.ensures.value c.in-Up.is in
+    holds_met g.V.DraftService.standing c.in-Up.node
     (up_meant g.D.Disk g.V.DraftService.standing c.requires.sound.0.asks c.args.self.now c.args.k site.clock c.in-Up.node
     (c.law_images_stand.ensures.service c.requires.sound.1.blocks) c.requires.sound.1.run there c.law_images_stand.ensures.stand
-    c.law_writes_stand.ensures) c.args.event
+    c.law_writes_stand.ensures)
 
 pub step_node-requires-clause-disk : goal.step_node-requires-clause-disk
 step_node-requires-clause-disk g c =
