@@ -8,7 +8,7 @@ use Rattle.ubik_node.specs.declared.nodes.Node.{Node}
 use Rattle.ubik_node.specs.declared.nodes.StepEnd.{StepEnd}
 use Rattle.ubik_node.specs.declared.nodes.StepEnd.TheVariants as step
 use Rattle.ubik_node.specs.Built.{TakesNoMemory}
-use Rattle.ubik_node.specs.Node.{Calls, Needs, Steps, last_after, node_of, own_member}
+use Rattle.ubik_node.specs.Node.{Calls, HoldsStates, Needs, Steps, StepsFreely, last_after, node_of, own_member}
 use Rattle.server_journal.specs.declared.counts.Full.{Full}
 use Rattle.server_journal.specs.declared.counts.Full.TheVariants as full
 use Rattle.server_journal.specs.declared.counts.Limits.{Limits}
@@ -25,7 +25,9 @@ refused_by full.NoMemory = NoMemory
 
 -- A step of the node at a moment that ended so: what the node's own contract says of it, word for word.
 pub record IsStep {D V : Type 0} (g : Ghosts D) (d : Standing) (end : StepEnd) (event : NodeEvent) (now : ℕ) (before after : Node D V) (outputs : List Output) : Type 0 where
-  pub steps : Needs d (own_member before) (node_of before) event (g.files before.store.disk)
+  pub steps : Needs d.database (own_member before) (node_of before) event now (g.files before.store.disk)
+      → StepsFreely g d (own_member before) end event now (node_of before) (node_of after) outputs before.store.disk after.store.disk
+  pub meant : Needs d.database (own_member before) (node_of before) event now (g.files before.store.disk) → HoldsStates d (node_of before)
       → Steps g d.database (own_member before) end event now (node_of before) (node_of after) outputs before.store.disk after.store.disk
   pub member : own_member after ≡ own_member before
   pub memory : TakesNoMemory event → end ≢ step.NoMemory
