@@ -7,6 +7,7 @@ ghost use Rattle.ubik_node.specs.Built.{IsBuilt, IsBuiltBody};
 ghost use Rattle.ubik_node.specs.Node.{IsStored, own_member};
 
 use crate::appending::Appending;
+use db_image::DraftService;
 use disk_base::{Disk, DiskEnd, FileNo, Refused, RoomEnd, StopDisk};
 use std::alloc::Global;
 use std::process::Abort;
@@ -47,11 +48,22 @@ pub fn filled<D: Disk + Drop>(
     disk: D,
     image: &[u8],
 ) -> Result<D, Fail> {
+    laid(rt, alloc, disk, LAID, image)
+}
+
+/// Lays a database on an empty disk: an image under a version.
+pub fn laid<D: Disk + Drop>(
+    rt: &impl Abort,
+    alloc: Global,
+    disk: D,
+    version: Version,
+    image: &[u8],
+) -> Result<D, Fail> {
     let mut disk = disk;
     let mut file = Vec::new(alloc);
-    file.extend_from_slice(&[
-        0, 0x35, 0x45, 0x45, 0, 0, 0, 0x40, 0, 0, 7, 0xd0, 0, 0, 0, 1,
-    ])?;
+    file.extend_from_slice(&[0, 0x35, 0x45, 0x45, 0, 0, 0, 0x40])?;
+    file.extend_from_slice(&version.epoch.to_be_bytes())?;
+    file.extend_from_slice(&version.counter.to_be_bytes())?;
     file.extend_from_slice(&[0; 48])?;
     file.extend_from_slice(image)?;
     write_database(rt, &mut disk, &file);
@@ -93,10 +105,10 @@ pub fn opened<D: Disk + Drop>(
 }
 
 /// One step, which ends so, and what it put out.
-pub fn step<D: Disk>(
+pub fn step<D: Disk, V: DraftService>(
     rt: &impl Abort,
     alloc: Global,
-    node: &mut Server<D>,
+    node: &mut Node<D, V>,
     now: u32,
     event: NodeEvent,
     wanted: StepEnd,
@@ -130,10 +142,10 @@ fn is_built(body: &Body) -> bool
 }
 
 /// A packet comes from one host to another, and what the step puts out.
-pub fn comes<D: Disk>(
+pub fn comes<D: Disk, V: DraftService>(
     rt: &impl Abort,
     alloc: Global,
-    node: &mut Server<D>,
+    node: &mut Node<D, V>,
     way: (u32, Host, Host),
     body: Body,
 ) -> Result<Outputs, Fail>
@@ -154,10 +166,10 @@ pub fn comes<D: Disk>(
 }
 
 /// Asks, in a step that ends so.
-pub fn ask<D: Disk>(
+pub fn ask<D: Disk, V: DraftService>(
     rt: &impl Abort,
     alloc: Global,
-    node: &mut Server<D>,
+    node: &mut Node<D, V>,
     asked: (u32, u32, &[u8]),
     wanted: StepEnd,
 ) -> Result<Outputs, Fail>
