@@ -1,0 +1,141 @@
+-- Schedules: the items of the servers of a cell in one order, with what happened between them, and when such an order fits together
+-- (own). Each server may run by itself; that their journals stand in one fitting schedule is what is asked of clocks, disks and packets.
+use Rattle.std.specs.Prelude.{ℕ, ◌≡◌, ◌==◌, Bool, true, false, if◌then◌else◌, Option, Some, None, IsSomeAnd, filter_map, List, [], ◌∷◌, ◌++◌, length}
+use Rattle.db_image.specs.Database.{Database}
+use Rattle.cell_model.specs.declared.events.NodeEvent.{NodeEvent}
+use Rattle.cell_model.specs.declared.events.Output.{Output}
+use Rattle.cell_model.specs.declared.events.Output.TheVariants as output
+use Rattle.cell_model.specs.Durable.{Durable, no_database}
+use Rattle.cell_model.specs.Node.{Node, Down, Halted, Up, Server, opened_server}
+use Rattle.cell_model.specs.Step.{Member}
+use Rattle.cell_model.specs.World.{Site, World, Trigger, Event, Happening, Sent, Announced, Replied, IsEvent, is_down, is_new_ask, occasion, member, site_of, world_after, seen_of}
+use Rattle.cell_model.specs.World as world
+use Rattle.journal_model.specs.Items.{JournalItem, choices_of}
+use Rattle.journal_model.specs.Replay.{IsItemOf, Replayed, replayed}
+
+-- How far a step came that did not end: which of its calls found no memory until then, and how many of its durable calls were made.
+pub record Progress : Type 0 where
+  pub short : List Bool
+  pub made : ℕ
+
+pub data ScheduleEntry : Type 0 where
+  -- one clock goes forward by so many seconds, or all do
+  Tick : (server seconds : ℕ) → ScheduleEntry
+  Tick_all : (seconds : ℕ) → ScheduleEntry
+  -- a server goes down, if it was up, and is opened at a moment on a durable state that it found on its disk
+  Open : (server now : ℕ) → (found : Durable) → ScheduleEntry
+  -- A step that the journal of a server has, by what brought it. How far it came counts only where the server is halted in it.
+  Item : (server : ℕ) → (trigger : Trigger) → (item : JournalItem) → (progress : Progress) → ScheduleEntry
+  -- a step in which a server goes down; no journal has it
+  Stop : (server : ℕ) → (trigger : Trigger) → (progress : Progress) → ScheduleEntry
+
+-- ---- a schedule as events of the world
+
+-- A step of a server: where it is halted in it, and was not before, its disk failed.
+abbrev pub item_event : Node → Trigger → JournalItem → Progress → Event
+item_event (Up s) trigger item progress =
+    if item.halted then world.Fault trigger progress.short progress.made else world.Step trigger (choices_of item)
+item_event node trigger item progress = world.Step trigger (choices_of item)
+
+-- a server of the world; none is down
+abbrev pub node_in : Option Site → Node
+node_in None = Down
+node_in (Some site) = site.node
+
+abbrev pub events_of : World → ScheduleEntry → List Event
+events_of w (Tick server seconds) = world.Tick server seconds ∷ []
+events_of w (Tick_all seconds) = world.Tick_all seconds ∷ []
+events_of w (Open server now found) = world.Crash server ∷ world.Restart server false ∷ []
+events_of w (Item server trigger item progress) = item_event (node_in (site_of w server)) trigger item progress ∷ []
+events_of w (Stop server trigger progress) = world.Stop trigger progress.short progress.made ∷ []
+
+-- the world after an entry, and after a schedule
+abbrev pub entered : Database → World → ScheduleEntry → World
+entered db w entry = world_after db w (events_of w entry)
+
+abbrev pub scheduled : Database → World → List ScheduleEntry → World
+scheduled db w [] = w
+scheduled db w (entry ∷ schedule) = scheduled db (entered db w entry) schedule
+
+-- all events of a schedule, in their order
+abbrev pub all_events : Database → World → List ScheduleEntry → List Event
+all_events db w [] = []
+all_events db w (entry ∷ schedule) = events_of w entry ++ all_events db (entered db w entry) schedule
+
+-- ---- what fits
+
+-- An opening at the server's clock, which finds the durable state that the server has.
+pub record OpeningFits (now : ℕ) (found : Durable) (site : Site) : Type 0 where
+  pub moment : now ≡ site.clock
+  pub disk : found ≡ site.durable
+
+-- A step of a server that is up, of an ask whose id is new since the opening.
+pub record StepFits (event : NodeEvent) (site : Site) : Type 0 where
+  pub up : is_down site.node ≡ false
+  pub new : is_new_ask site.asked event ≡ true
+
+-- Such a step at the server's clock, whose item is one that may come behind those before it.
+pub record ItemFits (db : Database) (m : Member) (item : JournalItem) (site : Site) : Type 0 where
+  pub step : StepFits item.event site
+  pub moment : item.now ≡ site.clock
+  pub item_of : IsItemOf db m site.node item
+
+-- What an entry may be, in the world that those before it left. What brings a step brings it to this server: a packet is one that was sent
+-- before, for this server.
+abbrev pub EntryFits : Database → World → ScheduleEntry → Type 0
+EntryFits db w (Tick server seconds) = IsEvent w (world.Tick server seconds)
+EntryFits db w (Tick_all seconds) = IsEvent w (world.Tick_all seconds)
+EntryFits db w (Open server now found) = IsSomeAnd (site_of w server) (OpeningFits now found)
+EntryFits db w (Item server trigger item progress) =
+    (occasion w trigger ≡ Some (server, item.event)) × IsSomeAnd (site_of w server) (ItemFits db (member w server) item)
+EntryFits db w (Stop server trigger progress) =
+    (event : NodeEvent) × (occasion w trigger ≡ Some (server, event)) × IsSomeAnd (site_of w server) (StepFits event)
+
+-- a schedule, each entry of which fits in the world that those before it left
+abbrev pub Fits : Database → World → List ScheduleEntry → Type 0
+Fits db w [] = Unit {0}
+Fits db w (entry ∷ schedule) = EntryFits db w entry × Fits db (entered db w entry) schedule
+
+-- ---- the journals of a schedule
+
+-- A server since it was last opened: what it was then, its items, and what the world saw of it in their steps.
+pub record Life : Type 0 where
+  pub opened : Node
+  pub items : List JournalItem
+  pub outputs : List Output
+
+-- a server of a cell of n, opened at a moment on a durable state
+abbrev pub life_from : ℕ → Durable → ℕ → Life
+life_from n found now = record { opened = Up (opened_server n found now); items = []; outputs = [] }
+
+-- what was put out, of what was seen
+abbrev pub output_in : Happening → Option Output
+output_in (Sent number packet) = Some (output.Send packet)
+output_in (Announced server version) = Some (output.Announce version)
+output_in (Replied server id r evaluation) = Some (output.Reply id r)
+output_in _ = None
+
+abbrev pub life_with : Life → JournalItem → List Happening → Life
+life_with life item seen =
+    record life { items = life.items ++ item ∷ []; outputs = life.outputs ++ filter_map output_in seen }
+
+-- server k of a cell of n after an entry of which this was seen
+abbrev pub life_after : (n k : ℕ) → Life → ScheduleEntry → List Happening → Life
+life_after n k life (Open server now found) seen = if server == k then life_from n found now else life
+life_after n k life (Item server trigger item progress) seen = if server == k then life_with life item seen else life
+life_after n k life entry seen = life
+
+-- the same after a schedule
+abbrev pub life_in : Database → World → ℕ → Life → List ScheduleEntry → Life
+life_in db w k life [] = life
+life_in db w k life (entry ∷ schedule) =
+    life_in db (entered db w entry) k (life_after (length w.hosts) k life entry (seen_of db w (events_of w entry))) schedule
+
+-- A server that is not down is the replay of its items, and what was seen of it is what that puts out.
+abbrev pub IsReplay : Database → Member → Life → Node → Type 0
+IsReplay db m life Down = Unit {0}
+IsReplay db m life node = replayed db m life.opened life.items ≡ record { node = node; outputs = life.outputs }
+
+-- so of the server of a site
+abbrev pub IsReplayAt : Database → World → ℕ → Life → Site → Type 0
+IsReplayAt db w k life site = IsReplay db (member w k) life site.node
