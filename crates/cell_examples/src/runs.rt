@@ -1,6 +1,7 @@
 //! Runs that are written out: each is the clause of a call that does nothing.
 ghost use Rattle.cell_examples.specs.Changed.{HalfIsTooFew, VersionsMustAgree};
 ghost use Rattle.cell_examples.specs.Late.{LateCommitIsUndone, PollsOfOneSecond};
+ghost use Rattle.cell_examples.specs.Running.{CheatsDoNotFit, ServersRun};
 ghost use Rattle.cell_examples.specs.Unknown.{UnknownIsLeftOut, UnknownIsOrdered};
 
 /// A write is answered Unknown, and a later order has it.
@@ -31,4 +32,15 @@ pub fn half_is_too_few()
 /// Where a fresh ready beacon allows reads whichever version it names, a later reply is older than an earlier one.
 pub fn versions_must_agree()
     ensures { VersionsMustAgree }
+{}
+
+/// A server that runs, is halted and is opened again has a schedule that fits.
+pub fn servers_run()
+    ensures { ServersRun }
+{}
+
+/// A schedule does not fit that has a packet which nobody sent, a disk with another image, another moment than the clock's, an id twice,
+/// memory that ran out for no reply, or a halted server that goes on.
+pub fn cheats_do_not_fit()
+    ensures { CheatsDoNotFit }
 {}

@@ -1,0 +1,90 @@
+-- A schedule of a server that runs, and what does not fit into it (own).
+use Rattle.std.specs.Prelude.{◌≡◌, ℕ, Bool, true, false, List, [], ◌∷◌, ◌++◌}
+use Rattle.ubik_calls.specs.declared.packets.Packet.{Packet}
+use Rattle.ubik_calls.specs.declared.replies.Reply.TheVariants as reply
+use Rattle.cell_model.specs.declared.events.NodeEvent.{NodeEvent}
+use Rattle.cell_model.specs.declared.events.NodeEvent.TheVariants as event
+use Rattle.cell_model.specs.declared.events.Output.TheVariants as output
+use Rattle.cell_model.specs.Durable.{Durable, durable, no_database}
+use Rattle.cell_model.specs.World.{World, Trigger, Beacon_turn, Recover_turn, Asking, first_world}
+use Rattle.journal_model.specs.Items.{JournalItem}
+use Rattle.journal_model.specs.Schedules.{ScheduleEntry, Tick_all, Open, Item, Progress, Fits, Life, life_from, life_in}
+use Rattle.cell_examples.specs.Register.{register}
+use Rattle.cell_examples.specs.Showing.{host, version}
+
+-- a cell of one that is opened at 100
+abbrev pub one : World
+one = first_world (host 1 ∷ []) 100 (false ∷ [])
+
+-- an item of which some replies are for want of memory, and of one of which none is
+abbrev pub item_short : ℕ → ℕ → NodeEvent → JournalItem
+item_short short now e = record { now = now; event = e; short = short; halted = false; evaluations = [] }
+
+abbrev pub item : ℕ → NodeEvent → JournalItem
+item now e = item_short 0 now e
+
+abbrev pub halting : ℕ → NodeEvent → JournalItem
+halting now e = record { now = now; event = e; short = 0; halted = true; evaluations = [] }
+
+-- so many of the step's durable calls were made
+abbrev pub after_calls : ℕ → Progress
+after_calls made = record { short = []; made = made }
+
+abbrev pub turns_beacon : ℕ → ScheduleEntry
+turns_beacon now = Item 0 (Beacon_turn 0) (item now event.BeaconTurn) (after_calls 0)
+
+abbrev pub turns_recover : ℕ → ScheduleEntry
+turns_recover now = Item 0 (Recover_turn 0) (item now event.RecoverTurn) (after_calls 0)
+
+abbrev pub asked_short : ℕ → ℕ → ℕ → List ℕ → ScheduleEntry
+asked_short short now id call = Item 0 (Asking 0 id call) (item_short short now (event.Ask id call)) (after_calls 0)
+
+abbrev pub asked : ℕ → ℕ → List ℕ → ScheduleEntry
+asked now id call = asked_short 0 now id call
+
+-- It leads, is asked to write and to read, finds no memory for a call, and its disk fails behind the durable call of another write.
+abbrev pub serves : List ScheduleEntry
+serves =
+    Tick_all 76 ∷ turns_beacon 176 ∷ turns_recover 176 ∷ asked 176 1 (7 ∷ []) ∷ asked 176 2 [] ∷ asked_short 1 176 3 []
+    ∷ Item 0 (Asking 0 4 (9 ∷ [])) (halting 176 (event.Ask 4 (9 ∷ []))) (after_calls 1) ∷ []
+
+-- It is opened again, and has that write.
+abbrev pub serves_again : List ScheduleEntry
+serves_again =
+    serves
+    ++ Tick_all 76 ∷ Open 0 252 (durable (version 176 3) (9 ∷ [])) ∷ Tick_all 76 ∷ turns_beacon 328 ∷ turns_recover 328 ∷ asked 328 1 [] ∷ []
+
+-- the server after a schedule
+abbrev pub life_of_one : List ScheduleEntry → Life
+life_of_one schedule = life_in register one 0 (life_from 1 no_database 100) schedule
+
+-- a schedule does not fit
+abbrev pub Cheats : List ScheduleEntry → Type 0
+Cheats schedule = Fits register one schedule → ⊥
+
+-- A server that runs, is halted and is opened again has a schedule that fits, and puts this out since it was last opened.
+pub record ServersRun : Type 0 where
+  pub fits : Fits register one serves_again
+  pub halted :
+      (life_of_one serves).outputs
+      ≡ output.Announce (version 176 1) ∷ output.Announce (version 176 2) ∷ output.Reply 1 (reply.Ok [])
+      ∷ output.Reply 2 (reply.Ok (7 ∷ [])) ∷ output.Reply 3 reply.NoMemory ∷ output.Reply 4 reply.DiskFault ∷ []
+  pub again : (life_of_one serves_again).outputs ≡ output.Announce (version 328 1) ∷ output.Reply 1 (reply.Ok (9 ∷ [])) ∷ []
+
+-- What does not fit.
+pub record CheatsDoNotFit : Type 0 where
+  -- a packet that nobody sent, whatever is said to bring it
+  pub packet : (trigger : Trigger) (p : Packet) (progress : Progress) → Cheats (Item 0 trigger (item 100 (event.Packet p)) progress ∷ [])
+  -- an opening that finds another image than the disk has, or takes place at another moment than the clock shows
+  pub disk : Cheats (serves ++ Open 0 176 (durable (version 176 3) (8 ∷ [])) ∷ [])
+  pub moment : Cheats (serves ++ Open 0 177 (durable (version 176 3) (9 ∷ [])) ∷ [])
+  -- a step at another moment
+  pub clock : Cheats (turns_beacon 101 ∷ [])
+  -- an id that was asked before
+  pub id : Cheats (asked 100 1 [] ∷ asked 100 1 [] ∷ [])
+  -- memory that is said to have run out for a reply that the step does not have
+  pub short : Cheats (asked_short 2 100 1 [] ∷ [])
+  -- a halted server that goes on
+  pub halted : Cheats (serves ++ turns_beacon 176 ∷ [])
+  -- clocks that go on by nothing
+  pub tick : Cheats (Tick_all 0 ∷ [])

@@ -1,0 +1,4 @@
+mod Events
+mod Lives
+mod Runs
+mod Sites
