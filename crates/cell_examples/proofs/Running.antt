@@ -8,7 +8,7 @@ use Rattle.ubik_calls.specs.declared.packets.Packet.{Packet}
 use Rattle.cell_model.specs.declared.events.NodeEvent.{NodeEvent}
 use Rattle.cell_model.specs.declared.events.NodeEvent.TheVariants as event
 use Rattle.cell_model.specs.Durable.{Durable, durable}
-use Rattle.cell_model.specs.NodeRule.{step_of}
+use Rattle.cell_model.specs.NodeRule.{step_by}
 use Rattle.cell_model.specs.World.{World, Trigger, Delivery, Beacon_turn, Recover_turn, Asking, occasion}
 use Rattle.journal_model.specs.Schedules.{ScheduleEntry, Open, Fits, entered, scheduled}
 use Rattle.cell_examples.specs.Register.{register}
@@ -16,7 +16,7 @@ use Rattle.cell_examples.specs.Running.{CheatsDoNotFit, ServersRun, one, serves,
 use Rattle.cell_examples.specs.Showing.{version}
 
 pub servers_run : ServersRun
-unfolding step_of opaque_at count_at
+unfolding step_by opaque_at count_at
 servers_run = record {
   fits = (refl, ((refl, record { step = record { up = refl; new = refl }; moment = refl; item_of = record { halted = tt; short = refl; meant = refl } }), ((refl, record { step = record { up = refl; new = refl }; moment = refl; item_of = record { halted = tt; short = refl; meant = refl } }), ((refl, record { step = record { up = refl; new = refl }; moment = refl; item_of = record { halted = tt; short = refl; meant = refl } }), ((refl, record { step = record { up = refl; new = refl }; moment = refl; item_of = record { halted = tt; short = refl; meant = refl } }), ((refl, record { step = record { up = refl; new = refl }; moment = refl; item_of = record { halted = tt; short = refl; meant = refl } }), ((refl, record { step = record { up = refl; new = refl }; moment = refl; item_of = record { halted = tt; short = refl; meant = refl } }), (refl, (record { moment = refl; disk = refl }, (refl, ((refl, record { step = record { up = refl; new = refl }; moment = refl; item_of = record { halted = tt; short = refl; meant = refl } }), ((refl, record { step = record { up = refl; new = refl }; moment = refl; item_of = record { halted = tt; short = refl; meant = refl } }), ((refl, record { step = record { up = refl; new = refl }; moment = refl; item_of = record { halted = tt; short = refl; meant = refl } }), tt)))))))))))));
   halted = refl;
@@ -50,7 +50,7 @@ two_more : (n : ℕ) → suc (suc n) ≡ n → ⊥
 two_more n is = omega (arith, is)
 
 pub cheats_do_not_fit : CheatsDoNotFit
-unfolding step_of opaque_at count_at
+unfolding step_by opaque_at count_at
 cheats_do_not_fit = record {
   packet = λ trigger p progress fits. unsent trigger p fits.0.0;
   disk = λ fits. other_image (version 176 3) (behind register one serves (Open 0 176 (durable (version 176 3) (8 ∷ [])) ∷ []) fits).0.disk;

@@ -3,18 +3,11 @@ use Rattle.std.specs.Prelude.{ℕ, zero, suc, ◌+◌, ◌*◌, ◌/◌, ◌%◌
 use Rattle.ubik_calls.specs.declared.replies.Reply.{Reply}
 use Rattle.ubik_calls.specs.declared.replies.Reply.TheVariants as reply
 use Rattle.ubik_calls.specs.Length.{packet_length}
-use Rattle.db_image.specs.Database.{Outcome}
 use Rattle.cell_model.specs.declared.events.NodeEvent.{NodeEvent}
 use Rattle.cell_model.specs.declared.events.NodeEvent.TheVariants as event
 use Rattle.cell_model.specs.declared.events.Output.{Output}
 use Rattle.cell_model.specs.declared.events.Output.TheVariants as output
-
--- a call that was evaluated over an image, at a moment, and what came of it
-pub record Evaluated : Type 0 where
-  pub image : List ℕ
-  pub moment : ℕ
-  pub call : List ℕ
-  pub outcome : Outcome
+use Rattle.cell_model.specs.Evaluating.{Told}
 
 -- One step of a server: when it was made, and of what event; which of its replies are for want of memory, bit i of a number standing for
 -- the i-th of them from 0 on; and whether the server is halted behind it. Of a server whose image holds no state of its database, where a
@@ -24,7 +17,7 @@ pub record JournalItem : Type 0 where
   pub event : NodeEvent
   pub short : ℕ
   pub halted : Bool
-  pub evaluations : List Evaluated
+  pub evaluations : Told
 
 -- how many bytes of a journal an item with this event counts for: 32, and those of the packet's frame or of the call
 abbrev pub weight : NodeEvent → ℕ

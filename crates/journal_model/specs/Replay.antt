@@ -1,9 +1,10 @@
 -- The replay of a journal: what a server is after the steps of these items, and what it put out in them (own).
-use Rattle.std.specs.Prelude.{ℕ, ◌≡◌, Bool, true, if◌then◌else◌, List, [], ◌∷◌, ◌++◌}
+use Rattle.std.specs.Prelude.{◌≡◌, true, if◌then◌else◌, List, [], ◌∷◌, ◌++◌}
 use Rattle.db_image.specs.Database.{Database}
 use Rattle.cell_model.specs.declared.events.Output.{Output}
+use Rattle.cell_model.specs.Evaluating.{told_by}
 use Rattle.cell_model.specs.Node.{Node, Down, Halted, Up, Server, halted_from}
-use Rattle.cell_model.specs.NodeRule.{step_of, refusals}
+use Rattle.cell_model.specs.NodeRule.{step_by, refusals}
 use Rattle.cell_model.specs.Step.{Member, Stepped, outputs_of}
 use Rattle.journal_model.specs.Items.{JournalItem, bits, choices_of, shorts_of}
 
@@ -20,9 +21,9 @@ made t = record { node = Up t.server; outputs = outputs_of t.shown }
 abbrev pub refused : Node → JournalItem → Replayed
 refused node item = record { node = node; outputs = outputs_of (refusals item.event) }
 
--- the step that an item is of: that of its event at its moment, with its choices
+-- the step that an item is of: that of its event at its moment, with its choices, and with its evaluations
 abbrev pub step_in : Database → Member → Server → JournalItem → Stepped
-step_in db m s item = step_of db m s item.now item.event (choices_of item)
+step_in db m s item = step_by (told_by db item.evaluations) m s item.now item.event (choices_of item)
 
 -- A server after one item more, and what it puts out in its step. One that is down makes none.
 abbrev pub item_replayed : Database → Member → Node → JournalItem → Replayed

@@ -5,13 +5,13 @@ use Rattle.db_image.specs.Database.{Database}
 use Rattle.cell_model.specs.declared.events.NodeEvent.{NodeEvent}
 use Rattle.cell_model.specs.declared.events.Output.{Output}
 use Rattle.cell_model.specs.declared.events.Output.TheVariants as output
-use Rattle.cell_model.specs.Durable.{Durable, no_database}
-use Rattle.cell_model.specs.Node.{Node, Down, Halted, Up, Server, opened_server}
+use Rattle.cell_model.specs.Durable.{Durable}
+use Rattle.cell_model.specs.Node.{Node, Down, Up, opened_server}
 use Rattle.cell_model.specs.Step.{Member}
 use Rattle.cell_model.specs.World.{Site, World, Trigger, Event, Happening, Sent, Announced, Replied, IsEvent, is_down, is_new_ask, occasion, member, site_of, world_after, seen_of}
 use Rattle.cell_model.specs.World as world
 use Rattle.journal_model.specs.Items.{JournalItem, choices_of}
-use Rattle.journal_model.specs.Replay.{IsItemOf, Replayed, replayed}
+use Rattle.journal_model.specs.Replay.{IsItemOf, replayed}
 
 -- How far a step came that did not end: which of its calls found no memory until then, and how many of its durable calls were made.
 pub record Progress : Type 0 where

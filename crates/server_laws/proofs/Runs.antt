@@ -92,7 +92,7 @@ item_goes_on : (db : Database) (w : World) (k : ℕ) (trigger : Trigger) (item :
 item_goes_on db w k trigger item progress site there brought fits =
     let at : site.node ≡ node_in (site_of w k) = sym (ap node_in there) in
     let is : IsBrought w trigger k item.event site = record { brought = brought; there = there; fits = fits.step } in
-    by (node_in (site_of w k)) at (item_comes db w trigger k item progress site is fits.moment (node_in (site_of w k)) at)
+    by (node_in (site_of w k)) at (item_comes db w trigger k item progress site is fits.moment fits.item_of.meant (node_in (site_of w k)) at)
   where
     by : (node : Node) → site.node ≡ node
         → Comes db w k (item_event (node_in (site_of w k)) trigger item progress) (item_replayed db (member w k) node item)
