@@ -1,4 +1,4 @@
-mod Events
-mod Lives
-mod Runs
-mod Sites
+pub mod Events
+pub mod Lives
+pub mod Runs
+pub mod Sites

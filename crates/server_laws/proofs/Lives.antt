@@ -45,7 +45,7 @@ replay_of db m life Down is = tt
 replay_of db m life (Halted h) is = is
 replay_of db m life (Up s) is = is
 
-replay_is : (db : Database) (m : Member) (life : Life) (node : Node) → is_down node ≡ false → IsReplay db m life node
+pub replay_is : (db : Database) (m : Member) (life : Life) (node : Node) → is_down node ≡ false → IsReplay db m life node
     → replayed db m life.opened life.items ≡ record { node = node; outputs = life.outputs }
 replay_is db m life Down up is = absurd (true≢false up)
 replay_is db m life (Halted h) up is = is

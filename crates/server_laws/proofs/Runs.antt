@@ -19,12 +19,12 @@ use Rattle.server_laws.proofs.Sites.{SameNodes, set_same, some_site, ticked_each
 
 -- ---- runs
 
-run-append : (db : Database) (w : World) (front back : List Event) → IsRun db w front → IsRun db (world_after db w front) back
+pub run-append : (db : Database) (w : World) (front back : List Event) → IsRun db w front → IsRun db (world_after db w front) back
     → IsRun db w (front ++ back)
 run-append db w [] back first second = second
 run-append db w (e ∷ front) back first second = (first.0, run-append db (happens db w e).world front back first.1 second)
 
-world-append : (db : Database) (w : World) (front back : List Event)
+pub world-append : (db : Database) (w : World) (front back : List Event)
     → world_after db w (front ++ back) ≡ world_after db (world_after db w front) back
 world-append db w [] back = refl
 world-append db w (e ∷ front) back = world-append db (happens db w e).world front back
@@ -60,7 +60,7 @@ module _ (db : Database) (w : World) (k : ℕ) (site : Site) (there : site_of w 
 -- ---- an entry
 
 -- what an entry that fits comes to
-record Goes (db : Database) (w : World) (entry : ScheduleEntry) : Type 0 where
+pub record Goes (db : Database) (w : World) (entry : ScheduleEntry) : Type 0 where
   pub run : IsRun db w (events_of w entry)
   pub replays : (lives : ℕ → Life) → AllReplays db w lives
       → AllReplays db (entered db w entry) (λ k. life_after (length w.hosts) k (lives k) entry (seen_of db w (events_of w entry)))
@@ -120,7 +120,7 @@ stop_goes db w k trigger progress event site there brought fits =
           (stopped db w trigger k event site is progress.short progress.made site.node fits.up));
     }
 
-goes : (db : Database) (w : World) (entry : ScheduleEntry) → EntryFits db w entry → Goes db w entry
+pub goes : (db : Database) (w : World) (entry : ScheduleEntry) → EntryFits db w entry → Goes db w entry
 goes db w (Tick k seconds) fits = record {
   run = (fits, tt);
   replays = λ lives all. tick_goes db w (tick_at w.sites k seconds) lives (ticked_one w.sites k seconds) all;
