@@ -1,7 +1,7 @@
 -- A server is the replay of its items, entry by entry.
 use Rattle.std.proofs.Common.{Bool, true, false, true≢false, cond, ◌==◌, ◌≡◌, ◌⊎◌, inl, inr, ℕ, ◌+◌, List, [], ◌∷◌, ◌++◌, length, slice_get, refl, sym, ap, subst, ◌∙◌, arith}
 use Rattle.std.proofs.lemmas.Bool.Decides.{nat_tests}
-use Rattle.std.proofs.lemmas.List.{append_assoc, append-nil}
+use Rattle.std.proofs.lemmas.List.{append-nil}
 use Rattle.std.specs.Prelude.{Some, filter_map}
 use Rattle.db_image.specs.Database.{Database}
 use Rattle.cell_model.specs.declared.events.Output.{Output}
@@ -9,33 +9,11 @@ use Rattle.cell_model.specs.Node.{Node, Down, Halted, Up}
 use Rattle.cell_model.specs.Step.{Member}
 use Rattle.cell_model.specs.World.{World, Site, Event, SiteHappened, Happened, happened_at, happens, member, site_of, is_down, seen_of}
 use Rattle.journal_model.specs.Items.{JournalItem}
-use Rattle.journal_model.specs.Replay.{Replayed, item_replayed, replayed, then_replayed}
+use Rattle.journal_model.specs.Replay.{item_replayed, replayed}
+use Rattle.journal_model.proofs.Replaying.{one_more}
 use Rattle.journal_model.specs.Schedules.{IsReplay, Life, life_with, output_in}
 use Rattle.server_laws.proofs.Events.{Comes, outputs_seen}
 use Rattle.server_laws.proofs.Sites.{site_either}
-
--- ---- one item more
-
-pub replayed-append : (db : Database) (m : Member) (node : Node) (items more : List JournalItem)
-    → replayed db m node (items ++ more) ≡ then_replayed (replayed db m node items) (replayed db m (replayed db m node items).node more)
-replayed-append db m node [] more = refl
-replayed-append db m node (item ∷ items) more =
-    let first = item_replayed db m node item in
-    let middle = replayed db m first.node items in
-    let last = replayed db m middle.node more in
-    ap (then_replayed first) (replayed-append db m first.node items more)
-    ∙ ap (λ (outputs : List Output). record { node = last.node; outputs = outputs })
-    (sym (append_assoc first.outputs middle.outputs last.outputs))
-
-pub one_more : (db : Database) (m : Member) (opened node : Node) (items : List JournalItem) (outputs : List Output) (item : JournalItem)
-    → replayed db m opened items ≡ record { node = node; outputs = outputs }
-    → replayed db m opened (items ++ item ∷ [])
-    ≡ record { node = (item_replayed db m node item).node; outputs = outputs ++ (item_replayed db m node item).outputs }
-one_more db m opened node items outputs item is =
-    replayed-append db m opened items (item ∷ [])
-    ∙ ap (λ (r : Replayed). then_replayed r (replayed db m r.node (item ∷ []))) is
-    ∙ ap (λ (later : List Output). record { node = (item_replayed db m node item).node; outputs = outputs ++ later })
-    (append-nil (item_replayed db m node item).outputs)
 
 -- ---- a server and its life
 

@@ -80,7 +80,7 @@ module _ (given : RepliesAreGiven) (db : Database) (hosts : List Host) (clock : 
         let at : site.0.node ≡ node_in (site_of r.world server) = sym (ap node_in site.1) in
         let is : IsBrought r.world trigger server item.event site.0 = record { brought = fits.0; there = site.1; fits = site.2.step } in
         let c : Comes db r.world server event_of_item (item_replayed db (member r.world server) (node_in (site_of r.world server)) item) =
-        item_comes db r.world trigger server item progress site.0 is site.2.moment (node_in (site_of r.world server)) at in
+        item_comes db r.world trigger server item progress site.0 is site.2.moment site.2.item_of.meant (node_in (site_of r.world server)) at in
         subst (λ (h : Happened). AllAt server h.seen) (sym c.is)
         (all_at server (length r.world.packets + 1) c.happened.shown c.happened.marks c.silent)
 
