@@ -1,6 +1,7 @@
 -- The rounds of a worker (own). A round begins with what is given to it, then one turn is made, then what the turn left is handed over.
 use Rattle.std.specs.Prelude.{◌≡◌, ◌≢◌, ℕ, ◌<◌, ◌-◌, Option, None, Some, List, [], ◌∷◌, ◌++◌, length}
 use Rattle.ubik_types.specs.Moment.{IsMoment}
+use Rattle.server_rounds.specs.Clock.{IsOfClock}
 use Rattle.server_rounds.specs.declared.posts.Next.{Next}
 use Rattle.server_rounds.specs.declared.posts.Next.TheVariants as next
 use Rattle.server_rounds.specs.declared.records.Made.{Made}
@@ -81,6 +82,12 @@ abbrev pub IsTimely : Next → Type 0
 IsTimely (next.Turn now turn) = IsMoment now
 IsTimely next.Ended = Unit {0}
 IsTimely next.NoMemory = Unit {0}
+
+-- and at one of a clock
+abbrev pub IsClocked : (ℕ → Type 0) → Next → Type 0
+IsClocked gave (next.Turn now turn) = IsOfClock gave now
+IsClocked gave next.Ended = Unit {0}
+IsClocked gave next.NoMemory = Unit {0}
 
 -- The turn given was made, at the moment given. It ended so, and what it left was handed over, all of it and in its order.
 abbrev pub whole_round : ℕ → Turn → TurnEnd → List Sending → Round

@@ -135,12 +135,15 @@ impl Post for MemPost {
     ghost use Rattle.std.specs.Prelude.{IfSome, option_map};
     ghost use Rattle.server_rounds.specs.MemPost.{given_by, given_of, IsGiven, later_than, next_of, rounds_left, told_by};
     ghost use Rattle.ubik_types.specs.Moment.{IsMoment};
-    ghost use Rattle.server_rounds.specs.Round.{AwaitsTurn, HasMore, IsTimely};
+    ghost use Rattle.server_rounds.specs.Round.{AwaitsTurn, HasMore, IsClocked, IsTimely};
 
     ghost record_of = { λ post. Some (told_by post) };
 
+    ghost gave = { λ moment. Unit {0} };
+
     fn next(&mut self) -> Next
         ensures timely { IsTimely result }
+        ensures clocked { IsClocked (λ moment. Unit {0}) result }
         ensures told { Some (told_by self.new) ≡ option_map (after_next result) (Some (told_by self.old)) }
         ensures given { result ≡ next_of (rounds_left self.old) }
         ensures left { rounds_left self.new ≡ later_than (rounds_left self.old) }
