@@ -25,16 +25,16 @@ impl<'a, N, C, P, G> Drop for Outside<'a, N, C, P, G> {
 }
 
 /// What all workers of a server have.
-pub(crate) struct Crew<'a, B: Bench, N, C, G, R> {
+pub(crate) struct Crew<'a, B: Bench, N, T, G, R> {
     pub(crate) rt: &'a R,
     pub(crate) alloc: Global,
     pub(crate) desk: &'a Mutex<Desk<B>>,
     pub(crate) net: &'a N,
-    pub(crate) clock: &'a C,
+    pub(crate) clock: T,
     pub(crate) gate: &'a G,
 }
 
-impl<'a, B: Bench, N, C, G, R> Drop for Crew<'a, B, N, C, G, R> {
+impl<'a, B: Bench, N, T: Drop, G, R> Drop for Crew<'a, B, N, T, G, R> {
     fn drop(self) {
         let Self {
             rt: _,

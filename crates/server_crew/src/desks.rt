@@ -1,6 +1,7 @@
 //! What lies under the lock that all workers share.
 ghost use Rattle.std.specs.Prelude.{◌≡◌, ◌≢◌, Bool, Some, None, true, []};
 ghost use Rattle.ubik_types.specs.Moment.{IsMoment};
+ghost use Rattle.server_rounds.specs.Clock.{IsOfClock};
 ghost use Rattle.server_rounds.specs.declared.turns.TurnEnd.{TurnEnd};
 ghost use Rattle.server_crew.specs.Causes.{cause_of, is_noted};
 
@@ -48,6 +49,7 @@ impl<B: Bench> Desk<B> {
         out: &mut Sendings,
     ) -> TurnEnd
         requires moment { IsMoment now }
+        requires clocked { IsOfClock B.gave now }
         requires empty { out.old ≡ [] }
     {
         let Desk { bench, first } = self;

@@ -3,6 +3,7 @@
 #![tactic(auto)]
 
 mod benches;
+mod clocks;
 mod crews;
 mod desks;
 mod running;

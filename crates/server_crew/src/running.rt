@@ -1,14 +1,17 @@
 //! The threads of a server, from their start to the end of the last one.
-ghost use Rattle.std.specs.Prelude.{◌≡◌, ◌≢◌, Bool, true};
+ghost use Rattle.std.specs.Prelude.{◌≡◌, ◌≢◌, ℕ, Bool, true};
 ghost use Rattle.server_rounds.specs.declared.turns.TurnEnd.{TurnEnd};
+ghost use Rattle.server_rounds.specs.Clock.{IsOfClock};
 ghost use Rattle.server_crew.specs.Causes.{is_caused, is_noted};
 
+use crate::clocks::{BenchClock, Times};
 use crate::crews::{Crew, Outside};
 use crate::desks::{Cause, Desk};
 use crate::workers::{Duty, Worker};
 use crate::{Bench, Seats};
 use io_base::{Clock, Gate, Net, Paused, Spawner, Started};
 use std::alloc::Global;
+use std::marker::PhantomData;
 use std::sync::{Mutex, Wait};
 use std::thread::{self, Scope, Threads};
 use ubik_types::POLLTIME;
@@ -30,6 +33,7 @@ pub enum CrewEnd {
 
 /// Has six workers work at a bench, each in a thread and from a seat of its own, until the net closes, or until one of them cannot go on and
 /// closes the net: the first such cause is why they ended. All threads have ended then, and each worker that ran has given its seat back.
+/// Each turn is made at a moment that the clock gave.
 pub fn run_crew<
     B: Bench<Seat: Send> + Send,
     N: Net,
@@ -44,6 +48,7 @@ pub fn run_crew<
     seats: Seats<B::Seat>,
     outside: &Outside<N, C, P, G>,
 ) -> (B, CrewEnd)
+    requires timed { (moment : ℕ) → C.gave outside.now.clock.now moment → IsOfClock B.gave moment }
     ensures caused { is_caused (B.caused result.0) result.1 ≡ true }
     ensures closed { result.1 ≡ CrewEnd.Closed → N.may_close outside.now.net.now }
     ensures refused { result.1 ≡ CrewEnd.NoThread → P.may_refuse outside.now.spawner.now }
@@ -74,6 +79,7 @@ fn in_threads<
     outside: &Outside<N, C, P, G>,
     seats: Seats<B::Seat>,
 ) -> bool
+    requires timed { (moment : ℕ) → C.gave outside.now.clock.now moment → IsOfClock B.gave moment }
     ensures { result ≡ true → P.may_refuse outside.now.spawner.now }
 {
     let crew = Crew {
@@ -81,7 +87,10 @@ fn in_threads<
         alloc,
         desk,
         net: outside.net,
-        clock: outside.clock,
+        clock: BenchClock {
+            clock: outside.clock,
+            of: PhantomData,
+        },
         gate: outside.gate,
     };
     let crew = &crew;
@@ -102,14 +111,14 @@ fn start_all<
     E: 's,
     B: Bench<Seat: Send> + Send,
     N: Net,
-    C: Clock,
+    T: Times<B>,
     P: Spawner,
     G: Gate,
     R: Wait + Sync,
 >(
     scope: &'s Scope<'s, E>,
     spawner: &P,
-    crew: &'a Crew<'a, B, N, C, G, R>,
+    crew: &'a Crew<'a, B, N, T, G, R>,
     seats: Seats<B::Seat>,
 ) -> bool
     ensures { result ≡ true → P.may_refuse spawner.now }
@@ -143,14 +152,14 @@ fn start<
     E: 's,
     B: Bench<Seat: Send> + Send,
     N: Net,
-    C: Clock,
+    T: Times<B>,
     P: Spawner,
     G: Gate,
     R: Wait + Sync,
 >(
     scope: &'s Scope<'s, E>,
     spawner: &P,
-    crew: &'a Crew<'a, B, N, C, G, R>,
+    crew: &'a Crew<'a, B, N, T, G, R>,
     number: u32,
     duty: Duty,
     seat: B::Seat,

@@ -2,9 +2,10 @@
 ghost use Rattle.std.specs.Prelude.{None};
 
 use crate::Bench;
+use crate::clocks::Times;
 use crate::crews::Crew;
 use crate::desks::{Cause, take_back};
-use io_base::{Clock, Gate, Job, Net, NetGot, NetPut, Paused};
+use io_base::{Gate, Job, Net, NetGot, NetPut, Paused};
 use server_rounds::{Next, Post, RoundEnd, Sending, Sendings, Turn, TurnEnd, work_round};
 use std::alloc::Global;
 use std::sync::Wait;
@@ -22,8 +23,8 @@ pub(crate) enum Duty {
 }
 
 /// A worker of a server, with the seat from which it makes its turns.
-pub(crate) struct Worker<'a, B: Bench, N, C, G, R> {
-    pub(crate) crew: &'a Crew<'a, B, N, C, G, R>,
+pub(crate) struct Worker<'a, B: Bench, N, T, G, R> {
+    pub(crate) crew: &'a Crew<'a, B, N, T, G, R>,
     pub(crate) number: u32,
     pub(crate) duty: Duty,
     pub(crate) turns: u64,
@@ -32,7 +33,7 @@ pub(crate) struct Worker<'a, B: Bench, N, C, G, R> {
     pub(crate) seat: B::Seat,
 }
 
-impl<'a, B: Bench, N, C, G, R> Drop for Worker<'a, B, N, C, G, R> {
+impl<'a, B: Bench, N, T, G, R> Drop for Worker<'a, B, N, T, G, R> {
     fn drop(self) {
         let Self {
             crew: _,
@@ -45,7 +46,7 @@ impl<'a, B: Bench, N, C, G, R> Drop for Worker<'a, B, N, C, G, R> {
     }
 }
 
-impl<'a, B: Bench, N, C, G, R> Worker<'a, B, N, C, G, R> {
+impl<'a, B: Bench, N, T, G, R> Worker<'a, B, N, T, G, R> {
     /// The peer that the net does not have back yet, and the seat.
     fn into_parts(self) -> (Option<u64>, B::Seat) {
         let Self {
@@ -70,8 +71,10 @@ fn is_passed_over(got: NetGot) -> bool {
 
 // Its bodies call what their bounds have, and nothing that has these bounds itself: such a call in a method of a trait gets no proof, since
 // the bounds share their values among threads.
-impl<'a, B: Bench, N: Net, C: Clock, G: Gate, R: Wait> Post for Worker<'a, B, N, C, G, R> {
+impl<'a, B: Bench, N: Net, T: Times<B>, G: Gate, R: Wait> Post for Worker<'a, B, N, T, G, R> {
     ghost record_of = { λ _. None };
+
+    ghost gave = { B.gave };
 
     /// Pauses, but before the first turn, or waits for a frame; then passes the gate, and reads the clock.
     fn next(&mut self) -> Next {
@@ -145,8 +148,8 @@ fn go_round<P: Post, R: Wait>(rt: &R, alloc: Global, post: &mut P) -> Option<Cau
     unreachable!()
 }
 
-impl<'a, B: Bench<Seat: Send> + Send, N: Net, C: Clock, G: Gate, R: Wait + Sync> Job
-    for Worker<'a, B, N, C, G, R> {
+impl<'a, B: Bench<Seat: Send> + Send, N: Net, T: Times<B>, G: Gate, R: Wait + Sync> Job
+    for Worker<'a, B, N, T, G, R> {
     /// Goes round, then gives the seat back and notes why it ends; where there is a cause it closes the net, which ends the others.
     fn run(self) {
         let mut worker = self;
