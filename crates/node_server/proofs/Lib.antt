@@ -4,4 +4,5 @@ pub mod Filling
 pub mod InMemory
 pub mod Seeing
 pub mod Showing
+pub mod Timing
 pub mod Wording

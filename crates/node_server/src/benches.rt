@@ -1,6 +1,8 @@
 //! A station as the bench of a crew.
-ghost use Rattle.std.specs.Prelude.{◌≡◌, ◌+◌, ◌<◌, ◌≤◌, true, []};
+ghost use Rattle.std.specs.Prelude.{◌≡◌, ◌+◌, ◌<◌, ◌≤◌, length, slice_index, true, []};
+ghost use Rattle.std.proofs.Props.{props};
 ghost use Rattle.ubik_types.specs.Moment.{IsMoment};
+ghost use Rattle.node_server.specs.Moments.{AreTimed, moments_of};
 
 use db_image::DraftService;
 use disk_base::Disk;
@@ -19,12 +21,22 @@ pub(crate) trait Running: Opening {
 
     /// How often its disk had failed before.
     ghost failed_before: { ℕ };
+
+    /// The moment of its opening.
+    ghost opened: { ℕ };
+
+    /// Its clock gave this moment.
+    ghost gave: { ℕ → Type 0 };
 }
 
 impl Running for Brand {
     ghost limits = { record { entries = 0; bytes = 0 } };
 
     ghost failed_before = { 0 };
+
+    ghost opened = { 0 };
+
+    ghost gave = { λ moment. Unit {0} };
 }
 
 /// Shows that the ledger of an opening has as many parts as the opening says.
@@ -54,6 +66,8 @@ pub(crate) struct StationBench<D: Disk, V: DraftService, L: Running, J: Keeper> 
     ghost limits: { J.limits station.recorded.journal ≡ L.limits },
     ghost failed: { L.failed_before ≤ D.faults station.recorded.node.store.disk },
     ghost halted: { station.recorded.node.halted ≡ true → L.failed_before < D.faults station.recorded.node.store.disk },
+    ghost timed: { AreTimed L.gave (moments_of L.opened (J.items station.recorded.journal)) } by { Prim.hlevel props },
+    ghost last: { slice_index (moments_of L.opened (J.items station.recorded.journal)) (length (J.items station.recorded.journal)) ≡ station.recorded.node.last },
 }
 
 impl<D: Disk + Send, V: DraftService + Send, L: Running + Send, J: Keeper + Send> Bench
@@ -61,6 +75,8 @@ impl<D: Disk + Send, V: DraftService + Send, L: Running + Send, J: Keeper + Send
     ghost use Rattle.node_server.specs.Causes.{is_seen};
 
     ghost caused = { λ b. is_seen L.limits (J.items b.station.recorded.journal) L.failed_before (D.faults b.station.recorded.node.store.disk) };
+
+    ghost gave = { L.gave };
 
     type Seat = Seat<L>;
 
