@@ -5,7 +5,7 @@ use Rattle.ubik_types.specs.declared.hosts.Host.{Host}
 use Rattle.tcp_net.specs.declared.addresses.Addresses.{Addresses}
 use Rattle.tcp_net.specs.declared.connections.Connection.{Connection}
 use Rattle.tcp_net.specs.declared.connections.Origin.{Origin}
-use Rattle.tcp_net.specs.declared.connections.Origin.TheVariants.{Cell, Client}
+use Rattle.tcp_net.specs.declared.connections.Origin.TheVariants.{Own, Cell, Client}
 use Rattle.tcp_net.specs.declared.connections.Served.{Served}
 use Rattle.tcp_net.specs.declared.connections.Served.TheVariants as served
 use Rattle.tcp_net.specs.Frames.{is_packet}
@@ -18,6 +18,12 @@ is_of_cell addresses host =
 
 abbrev pub origin_of : Addresses → Host → Origin
 origin_of addresses host = if is_of_cell addresses host then Cell host else Client host
+
+-- where the peer of a connection is, if it was not made here
+abbrev pub host_at : Origin → Option Host
+host_at Own = None
+host_at (Cell host) = Some host
+host_at (Client host) = Some host
 
 -- A whole frame is given out, but for a packet from elsewhere than the cell.
 abbrev pub handed : Origin → List ℕ → Served

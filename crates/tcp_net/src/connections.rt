@@ -1,6 +1,6 @@
 //! One connection, over a socket that never waits.
 ghost use Rattle.std.specs.Prelude.{◌≡◌, ◌≢◌, ◌≤◌, [], length};
-ghost use Rattle.tcp_net.specs.Origins.{handed};
+ghost use Rattle.tcp_net.specs.Origins.{handed, host_at};
 ghost use Rattle.tcp_net.specs.Queues.{HasRoom};
 
 use crate::frames::{is_packet, is_whole};
@@ -138,6 +138,16 @@ impl Connection {
     /// The frame that was handed out is dealt with.
     pub(crate) fn release(&mut self) {
         self.is_out = false;
+    }
+
+    /// Where its peer is; none of one that was made here.
+    pub(crate) fn host(&self) -> Option<Host>
+        ensures { result ≡ host_at self.now.origin }
+    {
+        match self.origin {
+            Origin::Own => None,
+            Origin::Cell(host) | Origin::Client(host) => Some(host),
+        }
     }
 
     /// When a whole frame last came or went.

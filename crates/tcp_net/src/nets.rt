@@ -158,6 +158,11 @@ impl<R: net::Net + Wait + Clock + Drop> TcpNet<R> {
         self.notes.lock(&self.rt).take()
     }
 
+    /// The address from which a peer came, if its connection stands.
+    pub fn host_of(&self, peer: u64) -> Option<Host> {
+        self.place_of(peer)?.lock(&self.rt).host_of(peer)
+    }
+
     /// Milliseconds since the net was opened.
     fn now(&self) -> u64 {
         let since = self.began.elapsed(&self.rt).unwrap_or(Duration::ZERO);

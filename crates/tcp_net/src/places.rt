@@ -6,6 +6,7 @@ ghost use Rattle.tcp_net.specs.Origins.{IsGivenOut};
 
 use crate::connections::{Connection, Handed, Served, Standing};
 use mio::{Registry, Token};
+use ubik_types::Host;
 
 /// How many places there are. The number of a connection is that of its place, and as often this as the place had
 /// connections, this one counted.
@@ -52,6 +53,16 @@ impl Place {
     /// When a whole frame last came or went over its connection, if it has one.
     pub(crate) fn used(&self) -> Option<u64> {
         self.connection.as_ref().map(|connection| connection.used())
+    }
+
+    /// Where the peer of this number is, if it has not gone.
+    pub(crate) fn host_of(&self, peer: u64) -> Option<Host>
+        ensures { self.now.peer ≢ peer → result ≡ None }
+    {
+        if self.peer != peer {
+            return None;
+        }
+        self.connection.as_ref()?.host()
     }
 
     /// Gives the place a connection, under a number that none had before. Where there is no such number any more, or
