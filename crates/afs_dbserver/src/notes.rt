@@ -1,12 +1,7 @@
 //! What the program says on standard error while it runs. One thread alone writes it, so that each line stays whole.
-ghost use Rattle.std.specs.Prelude.{◌≡◌, ◌<◌, length, None};
-ghost use Rattle.disk_base.specs.Count.{HasCause};
-ghost use Rattle.disk_base.specs.Sink.{Appends};
-
 use cell_script::write_whole;
 use crossbeam_channel::{Receiver, RecvTimeoutError, Sender};
-use disk_base::{Sink, Wrote};
-use ghost_values::Tally;
+use disk_base::Sink;
 use std::alloc::Global;
 use std::net::Net;
 use std::sync::Wait;
@@ -19,56 +14,32 @@ pub const WAITING_TEXTS: usize = 16;
 /// Seconds between two looks at what the net has seen.
 const BETWEEN_LOOKS: u64 = 1;
 
-/// A sink that hands what is written to the thread that writes it, and waits where that is behind. A write fails where memory runs out, or
-/// where that thread has ended.
+/// How long one who says something waits for room, in seconds.
+const WAITS_WITHIN: u64 = 1;
+
+/// Hands what a thread has to say to the one that writes it. Where that is behind for long, it is not said.
 #[derive(Drop)]
-pub struct NoteSink<R: Wait + Drop> {
-    rt: R,
+pub struct Sayer<'a, R: Wait + Clock> {
+    rt: &'a R,
     alloc: Global,
     texts: Sender<Vec<u8>>,
-    faults: Tally,
 }
 
-impl<R: Wait + Drop> NoteSink<R> {
-    pub fn new(rt: R, alloc: Global, texts: Sender<Vec<u8>>) -> NoteSink<R> {
-        NoteSink {
-            rt,
-            alloc,
-            texts,
-            faults: Tally::new(),
-        }
+impl<'a, R: Wait + Clock> Sayer<'a, R> {
+    pub fn new(rt: &'a R, alloc: Global, texts: Sender<Vec<u8>>) -> Sayer<'a, R> {
+        Sayer { rt, alloc, texts }
     }
 
-    /// Hands a text over whole; whether it was.
-    fn hand_over(&self, text: &[u8]) -> bool {
-        match Vec::from_slice(self.alloc, text) {
-            Ok(text) => self.texts.send(&self.rt, text).is_ok(),
-            Err(_) => false,
+    /// Says a text of whole lines. For want of memory it does not.
+    pub fn say(&self, text: &str) {
+        if let Ok(text) = Vec::from_slice(self.alloc, text.as_bytes()) {
+            let within = Duration::from_secs(WAITS_WITHIN);
+            let _ = self.texts.send_timeout(self.rt, text, within);
         }
     }
 }
 
-impl<R: Wait + Drop> Sink for NoteSink<R> {
-    ghost written = { λ _. None };
-
-    ghost faults = { λ sink. sink.faults };
-
-    fn write(&mut self, bytes: &[u8]) -> Wrote
-        requires { 0 < length bytes.now }
-        ensures appended { Appends result None None bytes.now }
-        ensures cause { HasCause self.old.faults self.new.faults (result ≡ Wrote.Failed) }
-    {
-        if self.hand_over(bytes) {
-            Wrote::Bytes(bytes.len())
-        } else {
-            self.faults = self.faults.next();
-            Wrote::Failed
-        }
-    }
-}
-
-/// Writes each text that comes, and once a second what the net has seen, until all that could send one has ended. A text comes behind
-/// what the net saw before it, so the last text is the last line.
+/// Writes each text that comes, and once a second what the net has seen, until all that could send one has ended.
 pub fn write_notes<R: Net + Wait + Clock + Drop, E: Sink>(
     rt: &R,
     alloc: Global,

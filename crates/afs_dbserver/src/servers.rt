@@ -6,10 +6,10 @@ ghost use Rattle.disk_base.specs.Mirrored.{mirrored_files, mirrored_may_leave};
 use crate::texts::{BAD_FILES, CANNOT_OPEN, NO_MEMORY, asked_text};
 use cell_script::write_whole;
 use disk_base::{FileDisk, MirrorFault, Mirrored, MostBytes, OpenFault, Refused, Sink};
-use node_server::{Database, ServerKind, ServerWords, read_words};
+use node_server::{Database, ServerKind, ServerWords, read_words, say_end};
 use page_file::MAX_DATABASE_LEN;
 use std::alloc::Global;
-use std::env::Args;
+use std::env::{Args, Env};
 use std::fs::{File, Files};
 use std::io::{self, ErrorKind};
 use std::net::Net;
@@ -20,6 +20,9 @@ use ubik_types::{Cell, Host, NoMemory};
 
 /// The most bytes of the log that are read: far more than those of the greatest transaction.
 const MAX_LOG_LEN: u64 = 268_435_456;
+
+/// The most bytes of a word that the system hands over.
+const MAX_WORD: usize = 131_072;
 
 /// The status where the folder or the port cannot be opened.
 const NOT_OPENED: u8 = 11;
@@ -69,18 +72,20 @@ pub enum Asked<R: Wait + Clock + Net + Drop> {
     Served(Ready<R>),
 }
 
-/// A server that is to run: its words, its files, its net, and its place in the cell.
+/// A server that is to run: its words, its files, its net, its database, its own address, and its place in the cell.
 #[derive(Drop)]
 pub struct Ready<R: Wait + Clock + Net + Drop> {
     pub words: Vec<String>,
     pub disk: Mirrored<FileDisk>,
     pub net: TcpNet<R>,
+    pub database: Database,
+    pub host: Host,
     pub place: u64,
     ghost settled: { Only (mirrored_files disk) (mirrored_may_leave disk) },
 }
 
 /// What the program is to do that is given these words, its name before them. A word that is not UTF-8 does not fit.
-pub fn read_given<R: Wait + Clock + Net + Files<File = File> + Drop + Copy, O: Sink, E: Sink>(
+pub fn read_given<R: Wait + Clock + Net + Files<File = File> + Env + Drop + Copy, O: Sink, E: Sink>(
     rt: &R,
     alloc: Global,
     given: io::Result<Args>,
@@ -89,7 +94,9 @@ pub fn read_given<R: Wait + Clock + Net + Files<File = File> + Drop + Copy, O: S
 ) -> Asked<R> {
     let args = match given {
         Ok(args) => args,
-        Err(error) if error.kind() == ErrorKind::InvalidData => return Asked::Answered(10),
+        Err(error) if error.kind() == ErrorKind::InvalidData => {
+            return Asked::Answered(say_no_text(rt, alloc, err));
+        }
         Err(_) => return no_memory(err),
     };
     let Ok(words) = behind_name(alloc, args) else {
@@ -107,6 +114,31 @@ pub fn read_given<R: Wait + Clock + Net + Files<File = File> + Drop + Copy, O: S
 /// Says that memory ran out; the status.
 pub fn say_no_memory<E: Sink>(err: &mut E) -> u8 {
     say(err, NO_MEMORY, ServerKind::NoMemory.status())
+}
+
+/// Says which word is no text; the status.
+fn say_no_text<R: Env, E: Sink>(rt: &R, alloc: Global, err: &mut E) -> u8 {
+    let Ok(place) = place_of_no_text(rt, alloc) else {
+        return say_no_memory(err);
+    };
+    let kind = ServerKind::Words { place };
+    say_end(&kind, err);
+    kind.status()
+}
+
+/// The place of the first word that is not UTF-8, counted from 1.
+fn place_of_no_text<R: Env>(rt: &R, alloc: Global) -> Result<u32, NoMemory> {
+    let mut word = Vec::new(alloc);
+    word.resize(MAX_WORD, 0)?;
+    for place in 1..u32::MAX {
+        let Ok(len) = rt.arg(place as usize, &mut word) else {
+            return Ok(place);
+        };
+        if str::from_utf8(&word[..len]).is_err() {
+            return Ok(place);
+        }
+    }
+    Ok(u32::MAX)
 }
 
 fn no_memory<R: Wait + Clock + Net + Drop, E: Sink>(err: &mut E) -> Asked<R> {
@@ -172,6 +204,8 @@ fn open_server<R: Wait + Clock + Net + Files<File = File> + Drop + Copy>(
         words,
         disk,
         net,
+        database: *database,
+        host,
         place,
     })
 }

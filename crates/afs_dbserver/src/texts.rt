@@ -13,6 +13,11 @@ the same for each of its servers; ME is this server's. It takes packets from
 these addresses alone, and calls from anyone who reaches the port.
 One word alone: --help prints this, --version the version.
 
+Lines on standard error say when it becomes the sync site, loses its lease,
+hears another sync site, has another epoch, or gives no answer to itself. Where
+the environment has CAVYGOLD_AUDIT=FILE, FILE gets a line for each call that may
+change the database and was answered: moment, address, call, answer.
+
 It runs until something ends it, as a line on standard error says. To end it,
 kill it: what it answered stays. Exit statuses:
   0  its socket has closed
