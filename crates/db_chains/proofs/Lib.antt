@@ -1,0 +1,14 @@
+pub mod Apart
+pub mod Bytes
+pub mod Changed
+pub mod Clauses
+pub mod Counted
+pub mod Ended
+pub mod First
+pub mod Listed
+pub mod Others
+pub mod Paths
+pub mod Results
+pub mod Stops
+pub mod Walked
+pub mod Words

@@ -1,0 +1,6 @@
+pub mod Chains
+pub mod Changes
+pub mod Ends
+pub mod Links
+pub mod Others
+pub mod Walks
