@@ -79,6 +79,13 @@ impl<D: Disk> Store<D> {
         self.len
     }
 
+    /// Whether a call has found the disk failed since the opening.
+    pub fn failed(&self) -> bool
+        ensures { result ≡ self.now.failed }
+    {
+        self.failed
+    }
+
     /// Reads bytes of the committed image from a position on, which lie within it.
     pub fn read(&mut self, at: u32, buf: &mut [u8]) -> Result<(), StoreFault>
         requires sound { IsSound D.Disk self.old }
