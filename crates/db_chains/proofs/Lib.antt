@@ -5,6 +5,11 @@ pub mod Clauses
 pub mod Counted
 pub mod Ended
 pub mod First
+pub mod Framed
+pub mod Free
+pub mod FreeClauses
+pub mod Freed
+pub mod Kept
 pub mod Listed
 pub mod Others
 pub mod Paths

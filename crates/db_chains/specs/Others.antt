@@ -1,8 +1,10 @@
 -- Chains beside one that changes (own).
 use Rattle.std.specs.Prelude.{ℕ, ◌≡◌, ◌≢◌, ◌+◌, ◌*◌, ◌≤◌, ◌⊎◌, List}
 use Rattle.std.specs.List.{AllByRecursion}
+use Rattle.db_blocks.specs.Blocks.{block_in}
 use Rattle.db_chains.specs.declared.links.Links.{Links}
 use Rattle.db_chains.specs.Changes.{IsHeadPlace}
+use Rattle.db_chains.specs.Links.{block_of}
 
 -- two words of an image have no byte in common
 abbrev pub AreApart : (p q : ℕ) → Type 0
@@ -20,3 +22,7 @@ pub record AreOtherSorts (l m : Links) (here there : ℕ) : Type 0 where
 -- two lists have no word in common
 abbrev pub HaveNoneOf : (ws vs : List ℕ) → Type 0
 HaveNoneOf ws vs = AllByRecursion (λ w. AllByRecursion (λ v. v ≢ w) vs) ws
+
+-- the blocks that these words name are the same in both images
+abbrev pub NamesSame : Links → (old new : List ℕ) → List ℕ → Type 0
+NamesSame l old new ws = AllByRecursion (λ w. block_in l.head new (block_of l w) ≡ block_in l.head old (block_of l w)) ws
