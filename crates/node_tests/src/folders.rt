@@ -2,7 +2,6 @@
 ghost use Rattle.std.specs.Prelude.{IfOk};
 ghost use Rattle.disk_base.specs.Crash.{IsSettled, Only};
 ghost use Rattle.disk_base.specs.Mirrored.{mirrored_files, mirrored_may_leave};
-ghost use Rattle.ubik_node.specs.Node.{IsStored};
 
 use crate::servers::{Server, ask, is_announcement, is_answer, opened, step, version};
 use disk_base::{Disk, FileDisk, Mirrored, MostBytes, Refused};
@@ -47,7 +46,6 @@ fn mirrored(rt: &HostRuntime, folder: &str) -> Result<Mirrored<FileDisk>, Fail>
 /// The server of a disk once it leads its cell at a moment: it was opened 76 seconds before, and so may vote.
 fn led<D: Disk + Drop>(rt: &impl Abort, alloc: Global, disk: D, now: u32) -> Result<Server<D>, Fail>
     requires settled { IsSettled (D.files disk) (D.may_leave disk) }
-    ensures stored { IfOk result (IsStored D.Disk) }
 {
     assert!(rt; 1000 <= now && now < 10_000);
     let mut node = opened(rt, alloc, (&ALONE, 0), disk, now - 76)?;

@@ -1,7 +1,5 @@
 //! Images that go over in pieces: those that a sync site fetches and sends, and those that another server takes. A piece gets lost, one
 //! comes twice, and one comes late.
-ghost use Rattle.std.specs.Prelude.{IfOk};
-ghost use Rattle.ubik_node.specs.Node.{IsStored};
 
 use crate::servers::{
     LAID, Said, Server, ask, bytes, comes, filled, is_announcement, is_answer, meaning, only,
@@ -115,9 +113,7 @@ fn polled<D: StopDisk + Drop>(
     alloc: Global,
     disk: D,
     told: Version,
-) -> Result<(Server<D>, Body), Fail>
-    ensures stored { IfOk result (λ polled. IsStored D.Disk polled.0) }
-{
+) -> Result<(Server<D>, Body), Fail> {
     let mut node = opened(rt, alloc, (&TWO, 0), revived(disk), 1950)?;
     let _ = step(
         rt,
@@ -150,10 +146,7 @@ fn serves<D: Disk>(
     alloc: Global,
     node: &mut Server<D>,
     image: &[u8],
-) -> Result<(), Fail>
-    requires stored { IsStored D.Disk node.old }
-    ensures stored { IsStored D.Disk node.new }
-{
+) -> Result<(), Fail> {
     assert_eq!(rt; node.phase(), Phase::Send);
     let kept = Body::VersionKept { version: FIRST };
     let mut out = comes(rt, alloc, node, BACK, kept)?;
@@ -261,10 +254,7 @@ fn takes_piece<D: Disk>(
     image: &[u8],
     len: u32,
     offset: u32,
-) -> Result<(), Fail>
-    requires stored { IsStored D.Disk node.old }
-    ensures stored { IsStored D.Disk node.new }
-{
+) -> Result<(), Fail> {
     let way = (2026, Host(1), Host(2));
     let version = FIRST;
     let piece = sent_piece(rt, alloc, image, len, offset)?;

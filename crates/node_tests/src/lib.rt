@@ -8,6 +8,8 @@ mod folders;
 #[cfg(test)]
 mod images;
 #[cfg(test)]
+mod records;
+#[cfg(test)]
 mod servers;
 #[cfg(test)]
 mod steps;

@@ -1,10 +1,10 @@
 //! Servers under test, their steps, and what these put out.
-ghost use Rattle.std.specs.Prelude.{◌≡◌, IfOk, IsTrue};
+ghost use Rattle.std.specs.Prelude.{◌≡◌, IsTrue};
 ghost use Rattle.disk_base.specs.Crash.{IsSettled};
 ghost use Rattle.cell_model.specs.Step.{cell_size};
 ghost use Rattle.ubik_types.specs.Version.{IsVersion};
 ghost use Rattle.ubik_node.specs.Built.{IsBuilt, IsBuiltBody};
-ghost use Rattle.ubik_node.specs.Node.{IsStored, own_member};
+ghost use Rattle.ubik_node.specs.Node.{own_member};
 
 use crate::appending::Appending;
 use db_image::DraftService;
@@ -79,7 +79,6 @@ pub fn open<D: Disk + Drop>(
     now: u32,
 ) -> Result<Result<Server<D>, Refused<D, StoreFault>>, Fail>
     requires settled { IsSettled (D.files disk) (D.may_leave disk) }
-    ensures stored { IfOk result (λ opened. IfOk opened (IsStored D.Disk)) }
 {
     let (hosts, me) = place;
     let cell = Cell::new(alloc, hosts)?;
@@ -96,7 +95,6 @@ pub fn opened<D: Disk + Drop>(
     now: u32,
 ) -> Result<Server<D>, Fail>
     requires settled { IsSettled (D.files disk) (D.may_leave disk) }
-    ensures stored { IfOk result (IsStored D.Disk) }
 {
     match open(rt, alloc, place, disk, now)? {
         Ok(node) => Ok(node),
@@ -114,8 +112,6 @@ pub fn step<D: Disk, V: DraftService>(
     wanted: StepEnd,
 ) -> Result<Outputs, Fail>
     requires built { IsBuilt event }
-    requires stored { IsStored D.Disk node.old }
-    ensures stored { IsStored D.Disk node.new }
 {
     let mut out = Outputs::make(alloc)?;
     assert!(rt; node.last() <= now && 0 < now && now < 1 << 31);
@@ -148,10 +144,7 @@ pub fn comes<D: Disk, V: DraftService>(
     node: &mut Node<D, V>,
     way: (u32, Host, Host),
     body: Body,
-) -> Result<Outputs, Fail>
-    requires stored { IsStored D.Disk node.old }
-    ensures stored { IsStored D.Disk node.new }
-{
+) -> Result<Outputs, Fail> {
     let (now, from, to) = way;
     assert!(rt; is_built(&body));
     let packet = Packet { from, to, body };
@@ -172,10 +165,7 @@ pub fn ask<D: Disk, V: DraftService>(
     node: &mut Node<D, V>,
     asked: (u32, u32, &[u8]),
     wanted: StepEnd,
-) -> Result<Outputs, Fail>
-    requires stored { IsStored D.Disk node.old }
-    ensures stored { IsStored D.Disk node.new }
-{
+) -> Result<Outputs, Fail> {
     let (now, id, bytes) = asked;
     let call = bytes_of(alloc, bytes)?;
     step(rt, alloc, node, now, NodeEvent::Ask { id, call }, wanted)

@@ -1,6 +1,4 @@
 //! Steps of one server: an epoch ahead of its clock, calls that are too large, odd votes, and a disk that is armed too late.
-ghost use Rattle.std.specs.Prelude.{IfOk};
-ghost use Rattle.ubik_node.specs.Node.{IsStored};
 
 use crate::servers::{
     LAID, Said, Server, ask, comes, filled, is_announcement, meaning, only, open, opened, revived,
@@ -39,10 +37,7 @@ fn turns<D: Disk>(
     alloc: Global,
     node: &mut Server<D>,
     now: u32,
-) -> Result<Option<Version>, Fail>
-    requires stored { IsStored D.Disk node.old }
-    ensures stored { IsStored D.Disk node.new }
-{
+) -> Result<Option<Version>, Fail> {
     let mut out = step(rt, alloc, node, now, NodeEvent::BeaconTurn, StepEnd::Done)?;
     assert!(rt; out.take().is_none());
     let mut out = step(rt, alloc, node, now, NodeEvent::RecoverTurn, StepEnd::Done)?;
@@ -68,10 +63,7 @@ fn an_epoch_ahead_of_the_clock_is_waited_for(rt: HostRuntime) -> Result<(), Fail
 }
 
 /// A call of 1,048,600 bytes is refused at 1077, since its changes would have so many bytes.
-fn is_too_large<D: Disk>(rt: &impl Abort, alloc: Global, node: &mut Server<D>) -> Result<(), Fail>
-    requires stored { IsStored D.Disk node.old }
-    ensures stored { IsStored D.Disk node.new }
-{
+fn is_too_large<D: Disk>(rt: &impl Abort, alloc: Global, node: &mut Server<D>) -> Result<(), Fail> {
     let before = (node.version(), node.len());
     let long = vec![in alloc; 7u8; 1_048_600]?;
     let mut out = ask(rt, alloc, node, (1077, 1, &long), StepEnd::Done)?;
@@ -156,10 +148,7 @@ fn changes_that_are_too_large_are_not_sent(rt: HostRuntime) -> Result<(), Fail> 
 }
 
 /// Votes that come to the first of three, which sent its beacon at 1076, and the end of the lease after each.
-fn hears_votes<D: Disk>(rt: &impl Abort, alloc: Global, node: &mut Server<D>) -> Result<(), Fail>
-    requires stored { IsStored D.Disk node.old }
-    ensures stored { IsStored D.Disk node.new }
-{
+fn hears_votes<D: Disk>(rt: &impl Abort, alloc: Global, node: &mut Server<D>) -> Result<(), Fail> {
     for row in [
         // A no, a yes for a start to come, and one of a host outside the cell give no lease.
         (1077, Host(3), 1076, false, 0),
@@ -216,10 +205,11 @@ fn a_first_lease_over_odd_votes(rt: HostRuntime) -> Result<(), Fail> {
 
 /// Whether a beacon that the second of three hears gets its vote, and what the server tells then: the host of the sync site that it
 /// heard, and its last yes.
-fn hears_beacons<D: Disk>(rt: &impl Abort, alloc: Global, node: &mut Server<D>) -> Result<(), Fail>
-    requires stored { IsStored D.Disk node.old }
-    ensures stored { IsStored D.Disk node.new }
-{
+fn hears_beacons<D: Disk>(
+    rt: &impl Abort,
+    alloc: Global,
+    node: &mut Server<D>,
+) -> Result<(), Fail> {
     for row in [
         (1075, Host(1), false, false, Host(0), (Host(0), 1000)),
         (1076, Host(1), false, true, Host(0), (Host(1), 1076)),
@@ -260,10 +250,7 @@ fn halts<D: Disk>(
     alloc: Global,
     node: &mut Server<D>,
     asked: (u32, u32, &[u8]),
-) -> Result<(), Fail>
-    requires stored { IsStored D.Disk node.old }
-    ensures stored { IsStored D.Disk node.new }
-{
+) -> Result<(), Fail> {
     let mut out = ask(rt, alloc, node, asked, StepEnd::Halted)?;
     let is_fault = matches!(
         out.take(),

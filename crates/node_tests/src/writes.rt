@@ -1,6 +1,4 @@
 //! The second of two servers, which keeps the writes that host 1 begins there.
-ghost use Rattle.std.specs.Prelude.{IfOk};
-ghost use Rattle.ubik_node.specs.Node.{IsStored};
 
 use crate::servers::{Server, ask, comes, filled, is_answer, opened, revived};
 use Sent::{Begin, BeginAt, BeginLonger, BeginMany, Commit, GiveUp, Piece, PieceAt, Set, Strange};
@@ -115,10 +113,7 @@ fn hears<D: Disk>(
     alloc: Global,
     node: &mut Server<D>,
     sent: Sent,
-) -> Result<Option<Version>, Fail>
-    requires stored { IsStored D.Disk node.old }
-    ensures stored { IsStored D.Disk node.new }
-{
+) -> Result<Option<Version>, Fail> {
     let body = body_of(rt, alloc, sent)?;
     let mut out = comes(rt, alloc, node, (2010, Host(1), Host(2)), body)?;
     let told = match out.take() {
@@ -137,9 +132,7 @@ fn hears<D: Disk>(
 }
 
 /// The second server, over an empty disk on which the image before the write is laid.
-fn second<D: StopDisk + Drop>(rt: &impl Abort, alloc: Global, disk: D) -> Result<Server<D>, Fail>
-    ensures stored { IfOk result (IsStored D.Disk) }
-{
+fn second<D: StopDisk + Drop>(rt: &impl Abort, alloc: Global, disk: D) -> Result<Server<D>, Fail> {
     let disk = filled(rt, alloc, disk, BEFORE)?;
     let hosts = [Host(1), Host(2)];
     opened(rt, alloc, (&hosts, 1), revived(disk), 1950)
@@ -151,10 +144,7 @@ fn hears_all<D: Disk>(
     alloc: Global,
     node: &mut Server<D>,
     sent: &[Sent],
-) -> Result<Option<Version>, Fail>
-    requires stored { IsStored D.Disk node.old }
-    ensures stored { IsStored D.Disk node.new }
-{
+) -> Result<Option<Version>, Fail> {
     let mut told = None;
     for one in sent {
         told = hears(rt, alloc, node, *one)?;
@@ -168,10 +158,7 @@ pub fn reads<D: Disk>(
     alloc: Global,
     node: &mut Server<D>,
     wanted: (Version, &[u8]),
-) -> Result<(), Fail>
-    requires stored { IsStored D.Disk node.old }
-    ensures stored { IsStored D.Disk node.new }
-{
+) -> Result<(), Fail> {
     let (version, image) = wanted;
     let beacon = Body::Beacon {
         start: 2040,

@@ -1,9 +1,9 @@
 //! Asks a server that is alone in its cell calls of the protection database, over a disk in memory.
-ghost use Rattle.std.specs.Prelude.{◌≡◌, ◌≤◌, IfOk, IfSome, IsTrue, Some, length};
+ghost use Rattle.std.specs.Prelude.{◌≡◌, ◌≤◌, IfOk, IfSome, Some, length};
 ghost use Rattle.disk_base.specs.Crash.{IsSettled};
 ghost use Rattle.disk_base.specs.Files.{no_files};
 ghost use Rattle.ubik_node.specs.Built.{IsBuilt};
-ghost use Rattle.ubik_node.specs.Node.{IsStored, own_member};
+ghost use Rattle.ubik_node.specs.Node.{own_member};
 ghost use Rattle.page_file.specs.declared.label.TheConstants.{MAX_DATABASE_LEN};
 ghost use Rattle.server_bench.specs.Answers.{is_answer, answers};
 
@@ -55,9 +55,7 @@ pub fn step<D: Disk>(
     event: NodeEvent,
 ) -> Result<Option<Outputs>, NoMemory>
     requires built { IsBuilt event }
-    requires stored { IsStored D.Disk node.old }
     ensures member { own_member node.new ≡ own_member node.old }
-    ensures stored { IsStored D.Disk node.new }
 {
     let mut out = Outputs::make(alloc)?;
     if node.last() > MOMENT {
@@ -70,7 +68,6 @@ pub fn step<D: Disk>(
 /// A server alone in its cell over a disk, after a beacon turn and a recovery turn; none where one of them was not made.
 fn started<D: Disk + Drop>(alloc: Global, disk: D) -> Result<Option<Server<D>>, NoMemory>
     requires settled { IsSettled (D.files disk) (D.may_leave disk) }
-    ensures stored { IfOk result (λ started. IfSome started (IsStored D.Disk)) }
 {
     let Ok(cell) = Cell::new(alloc, &[Host(1)]) else {
         return Ok(None);
@@ -121,10 +118,7 @@ fn ask<D: Disk>(
     node: &mut Server<D>,
     id: u32,
     call: Bytes,
-) -> Result<Option<Outputs>, NoMemory>
-    requires stored { IsStored D.Disk node.old }
-    ensures stored { IsStored D.Disk node.new }
-{
+) -> Result<Option<Outputs>, NoMemory> {
     step(alloc, node, NodeEvent::Ask { id, call })
 }
 
@@ -135,7 +129,6 @@ fn asked_often<D: Disk>(
     asked: Asked,
     times: u16,
 ) -> Result<u16, NoMemory>
-    requires stored { IsStored D.Disk node.old }
     ensures few { IfOk result (λ done. done ≤ times) }
 {
     let mut done = 0;

@@ -1,9 +1,8 @@
 //! Two servers over disks in memory: the first is elected and sends its database to the second.
-ghost use Rattle.std.specs.Prelude.{◌≡◌, ◌≤◌, IfOk, IfSome, IsTrue, length};
+ghost use Rattle.std.specs.Prelude.{◌≤◌, IsTrue, length};
 ghost use Rattle.disk_base.specs.Crash.{IsSettled};
 ghost use Rattle.page_file.specs.declared.label.TheConstants.{MAX_DATABASE_LEN};
 ghost use Rattle.ubik_node.specs.Built.{IsBuilt, IsBuiltBody};
-ghost use Rattle.ubik_node.specs.Node.{IsStored};
 ghost use Rattle.ubik_types.specs.Version.{IsVersion};
 
 use crate::node_calls::{OPENED, Server, filled, step};
@@ -31,7 +30,6 @@ fn one_of_two<D: Disk + Drop>(
     me: usize,
 ) -> Result<Option<Server<D>>, NoMemory>
     requires settled { IsSettled (D.files disk) (D.may_leave disk) }
-    ensures stored { IfOk result (λ opened. IfSome opened (IsStored D.Disk)) }
 {
     let Ok(cell) = Cell::new(alloc, &[Host(1), Host(2)]) else {
         return Ok(None);
@@ -73,10 +71,6 @@ fn send(way: &mut VecDeque<Packet>, out: Outputs) -> Result<(), NoMemory> {
 /// A turn of the first server; whether it was made.
 fn turn<D: Disk>(alloc: Global, pair: &mut Pair<D>, event: NodeEvent) -> Result<bool, NoMemory>
     requires built { IsBuilt event }
-    requires first { IsStored D.Disk pair.old.first }
-    requires second { IsStored D.Disk pair.old.second }
-    ensures first { IsStored D.Disk pair.new.first }
-    ensures second { IsStored D.Disk pair.new.second }
 {
     let Some(out) = step(alloc, &mut pair.first, event)? else {
         return Ok(false);
@@ -90,12 +84,7 @@ fn heard<D: Disk>(
     alloc: Global,
     pair: &mut Pair<D>,
     packet: Packet,
-) -> Result<Option<Outputs>, NoMemory>
-    requires first { IsStored D.Disk pair.old.first }
-    requires second { IsStored D.Disk pair.old.second }
-    ensures first { IsStored D.Disk pair.new.first }
-    ensures second { IsStored D.Disk pair.new.second }
-{
+) -> Result<Option<Outputs>, NoMemory> {
     if !may_come(&packet.body) {
         return Ok(None);
     }
@@ -107,12 +96,7 @@ fn heard<D: Disk>(
 }
 
 /// A packet comes to its host, and what that sends is on the way. Whether it was taken.
-fn arrives<D: Disk>(alloc: Global, pair: &mut Pair<D>, packet: Packet) -> Result<bool, NoMemory>
-    requires first { IsStored D.Disk pair.old.first }
-    requires second { IsStored D.Disk pair.old.second }
-    ensures first { IsStored D.Disk pair.new.first }
-    ensures second { IsStored D.Disk pair.new.second }
-{
+fn arrives<D: Disk>(alloc: Global, pair: &mut Pair<D>, packet: Packet) -> Result<bool, NoMemory> {
     let Some(out) = heard(alloc, pair, packet)? else {
         return Ok(false);
     };
@@ -121,12 +105,7 @@ fn arrives<D: Disk>(alloc: Global, pair: &mut Pair<D>, packet: Packet) -> Result
 }
 
 /// All packets come, each before those that it brings about; whether each was taken.
-fn all_come<D: Disk>(alloc: Global, pair: &mut Pair<D>) -> Result<bool, NoMemory>
-    requires first { IsStored D.Disk pair.old.first }
-    requires second { IsStored D.Disk pair.old.second }
-    ensures first { IsStored D.Disk pair.new.first }
-    ensures second { IsStored D.Disk pair.new.second }
-{
+fn all_come<D: Disk>(alloc: Global, pair: &mut Pair<D>) -> Result<bool, NoMemory> {
     for _turn in 0..MOST_PACKETS {
         let Some(packet) = pair.way.pop_front() else {
             return Ok(true);

@@ -5,7 +5,7 @@ use Rattle.disk_base.specs.declared.disks.Disk.{Ghosts}
 use Rattle.ubik_types.specs.declared.versions.Version.{Version}
 use Rattle.ubik_types.specs.Version.{version_lt}
 use Rattle.ubik_store.specs.declared.faults.StoreFault.{StoreFault}
-use Rattle.ubik_store.specs.declared.faults.StoreFault.TheVariants.{BadLabel, DiskFault, NoMemory, NotNewer, TooLarge}
+use Rattle.ubik_store.specs.declared.faults.StoreFault.TheVariants.{DiskFault, NoMemory}
 use Rattle.ubik_store.specs.declared.stores.Store.{Store}
 use Rattle.ubik_store.specs.DurableCall.{EndsAs, HasFailed, IsNeverLong, Refuses}
 use Rattle.cell_model.specs.declared.events.Output.{Output}
@@ -27,7 +27,5 @@ quiet_ends g {knows} {t} {n} {m} {r} out ends =
 pub commit_ended : {D : Type 0} (g : Ghosts D) (v : Version) (old new : Store D) (e : StoreFault) → version_lt old.version v ≡ true → (e ≡ DiskFault) ⊎ (e ≡ NoMemory)
     → (e ≡ DiskFault → HasFailed old new) → (e ≢ DiskFault → Refuses g old new) → EndsAs g IsNeverLong v old new e
 commit_ended g v old new DiskFault newer cause failed refused = failed refl
-commit_ended g v old new (BadLabel len head) newer cause failed refused = ⊎_elim (λ is. absurd cc) (λ is. absurd cc) cause
-commit_ended g v old new (TooLarge bytes) newer cause failed refused = ⊎_elim (λ is. absurd cc) (λ is. absurd cc) cause
-commit_ended g v old new (NotNewer own given) newer cause failed refused = ⊎_elim (λ is. absurd cc) (λ is. absurd cc) cause
 commit_ended g v old new NoMemory newer cause failed refused = (newer, refused (λ is. absurd cc))
+commit_ended g v old new other newer cause failed refused = ⊎_elim (λ is. absurd cc) (λ is. absurd cc) cause

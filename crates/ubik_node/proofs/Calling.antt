@@ -15,10 +15,9 @@ use Rattle.disk_base.proofs.Runs.{reads_change_none, reads_joined}
 use Rattle.ubik_store.specs.declared.faults.StoreFault.{StoreFault}
 use Rattle.ubik_store.specs.declared.faults.StoreFault.TheVariants.{DiskFault, BadLabel, TooLarge, NotNewer, NoMemory}
 use Rattle.ubik_store.specs.declared.stores.Store.{Store}
-use Rattle.ubik_store.specs.declared.transactions.Transaction.{Transaction}
 use Rattle.ubik_store.specs.DurableCall.{Commits, EndsAs, HasFailed, IsDurable, Refuses}
 use Rattle.ubik_store.specs.Gaps.{CutsNoPut}
-use Rattle.ubik_store.specs.Store.{IsSound, StaysAsItWas, changes_begun, image_in}
+use Rattle.ubik_store.specs.Store.{StaysAsItWas, image_in}
 use Rattle.ubik_store.proofs.Applied.{calls_as, calls_joined, calls_of}
 use Rattle.ubik_store.proofs.Telling.{ok_map}
 use Rattle.cell_model.specs.declared.events.Output.{Output}
@@ -26,26 +25,15 @@ use Rattle.cell_model.specs.Node.{Server}
 use Rattle.cell_model.specs.Durable.{Made, change_count, durable, durable_after}
 use Rattle.cell_model.specs.Step.{Member, Stepped, outputs_of}
 use Rattle.ubik_node.specs.Disk.{FailsIn, Serves, TakenCutsNoPut}
-use Rattle.ubik_node.specs.Node.{Ends, Held, IsKept, IsMade, durable_in}
+use Rattle.ubik_node.specs.Node.{CallsSo, Ends, Held, IsKept, IsMade, LeavesStore, durable_in}
+use Rattle.ubik_node.specs.Stored.{IsStoredAs}
 use Rattle.ubik_node.proofs.AfterReads.{fails_after, serves_after}
-use Rattle.ubik_node.proofs.Durables.{IsThere, fails_one, serves_one}
+use Rattle.ubik_node.proofs.Durables.{fails_one, serves_one}
 use Rattle.ubik_node.proofs.Endings.{ends_as, failed_ends, made_ends, not_short, told_still}
-
-begun_none : (begun : Option Transaction) → changes_begun begun ≡ None → begun ≡ None
-begun_none None is = refl
-begun_none (Some t) is = absurd cc
 
 -- a rule that ended with an error
 abbrev pub ended : StoreFault → Result (Unit {0}) StoreFault
 ended e = Err e
-
-pub stays_then : {D : Type 0} (a b c : Store D) → StaysAsItWas a b → StaysAsItWas b c → StaysAsItWas a c
-stays_then a b c first second = record {
-  version = second.version ∙ first.version;
-  len = second.len ∙ first.len;
-  begun = second.begun ∙ first.begun;
-  failed = second.failed ∙ first.failed;
-}
 
 pub told_by : (change : List ℕ → List ℕ) (before after : Option Files) → image_in after ≡ option_map change (image_in before) → IsSome before → IsSome after
 told_by change None after is told = absurd (false≢true told)
@@ -61,35 +49,27 @@ pub record IsOneCall (old : Server) (changes : List Change) (v : Version) (image
   pub calls : t.calls ≡ made ∷ []
 
 module _ {D : Type 0} (g : Ghosts D) where
-  -- a store that was read is that of the node
-  pub stored_read : (n : Held D) (s : Store D) {F : Type 0} → IsKept g n → n.halted ≡ false → IsSound g s → StaysAsItWas n.store s → OnlyReads g n.store.disk s.disk F → ¬ F → IsKept g (record n { store = s })
-  stored_read n s was up sound stays reads went = record {
-    sound = sound;
-    version = λ _. stays.version ∙ was.version up;
-    len = λ _. stays.len ∙ was.len up;
-    none_begun = λ _. begun_none s.begun (stays.begun ∙ ap changes_begun (was.none_begun up));
-    failed = stays.failed ∙ was.failed;
-    image = λ _. subst (λ (files : Option Files). IsThere n.server.image (image_in files)) (sym (reads.files went)) (was.image up);
-  }
+  -- what a disk left that failed
+  pub failed_leaves : {old : D} (new : Store D) → new.failed ≡ true → CallsSo g old new.disk (IsErrOf (ended DiskFault) DiskFault) → LeavesStore g old new (Err DiskFault)
+  failed_leaves new halts calls = record { short = λ other. absurd (other refl); halts = λ _. halts; runs = λ fine. absurd (fine refl); told = λ fine. absurd (fine refl); calls = calls }
 
   -- reads that failed, or that found no memory
-  pub unread_ends : {A : Type 0} {knows : Type 0} {t : Stepped} {before after : List Output} (n : Held D) (s : Store D) (r : Result A StoreFault) (e : StoreFault) → r ≡ Err e → IfErr r (λ f. (f ≡ DiskFault) ⊎ (f ≡ NoMemory)) → IsKept g n → n.halted ≡ false → IsSound g s
+  pub unread_ends : {A : Type 0} {knows : Type 0} {t : Stepped} {before after : List Output} (n : Held D) (s : Store D) (r : Result A StoreFault) (e : StoreFault) → r ≡ Err e → IfErr r (λ f. (f ≡ DiskFault) ⊎ (f ≡ NoMemory)) → IsKept g n → n.store.failed ≡ false
       → (¬ IsErrOf r DiskFault → StaysAsItWas n.store s) → (IsErrOf r DiskFault → HasFailed n.store s) → OnlyReads g n.store.disk s.disk (IsErrOf r DiskFault) → Ends g knows t before after n (record n { store = s }) (Err e)
-  unread_ends {A} n s r e is cause was up sound stays failed reads =
+  unread_ends {A} n s r e is cause was up stays failed reads =
       let of_disk : e ≡ DiskFault → IsErrOf r DiskFault = λ same. is ∙ ap Err same in
       let to_disk : IsErrOf r DiskFault → e ≡ DiskFault = λ of. same_fault A e (sym is ∙ of) in
-      failed_ends g n (record n { store = s }) refl refl refl e (subst (λ (x : Result A StoreFault). IfErr x (λ f. (f ≡ DiskFault) ⊎ (f ≡ NoMemory))) is cause) was up reads to_disk of_disk
-      (λ other. stored_read n s was up sound (stays (λ of. other (to_disk of))) reads (λ of. other (to_disk of)))
-      (λ same. record { sound = sound; failed = (failed (of_disk same)).failed }) refl
+      failed_ends g n (record n { store = s }) refl refl e (subst (λ (x : Result A StoreFault). IfErr x (λ f. (f ≡ DiskFault) ⊎ (f ≡ NoMemory))) is cause) was up reads to_disk of_disk
+      (λ other. (stays (λ of. other (to_disk of))).failed ∙ up) (λ same. (failed (of_disk same)).failed) refl
     where
       same_fault : (A : Type 0) (e : StoreFault) → ◌≡◌ {A = Result A StoreFault} (Err e) (Err DiskFault) → e ≡ DiskFault
       same_fault A e same = cc
 
   -- want of memory after reads that went well
-  pub short_ends_read : {knows : Type 0} {t : Stepped} {before after : List Output} (n : Held D) (s : Store D) {F : Type 0} → IsKept g n → n.halted ≡ false → IsSound g s → StaysAsItWas n.store s → OnlyReads g n.store.disk s.disk F → ¬ F
+  pub short_ends_read : {knows : Type 0} {t : Stepped} {before after : List Output} (n : Held D) (s : Store D) {F : Type 0} → IsKept g n → n.store.failed ≡ false → StaysAsItWas n.store s → OnlyReads g n.store.disk s.disk F → ¬ F
       → Ends g knows t before after n (record n { store = s }) (Err NoMemory)
-  short_ends_read n s was up sound stays reads went =
-      failed_ends g n (record n { store = s }) refl refl refl NoMemory (inr refl) was up reads (λ failed. absurd (went failed)) (λ is. absurd (not_short is)) (λ _. stored_read n s was up sound stays reads went) (λ is. absurd (not_short is)) refl
+  short_ends_read n s was up stays reads went =
+      failed_ends g n (record n { store = s }) refl refl NoMemory (inr refl) was up reads (λ failed. absurd (went failed)) (λ is. absurd (not_short is)) (λ _. stays.failed ∙ up) (λ is. absurd (not_short is)) refl
 
   -- a durable call that is refused without a fault of the disk: only memory can lack
   pub refused : (long : ℕ → Type 0) (v : Version) (s later : Store D) (e : StoreFault) → EndsAs g long v s later e → e ≢ DiskFault → version_lt s.version v ≡ true → ((bytes : ℕ) → long bytes → ⊥) → (e ≡ NoMemory) × Refuses g s later
@@ -99,22 +79,14 @@ module _ {D : Type 0} (g : Ghosts D) where
   refused long v s later (NotNewer own given) ends other newer fits = absurd (false≢true (sym ends.0.not_newer ∙ newer))
   refused long v s later NoMemory ends other newer fits = (refl, ends.1)
 
-  module _ {knows : Type 0} {t : Stepped} {before after : List Output} (n : Held D) (was : IsKept g n) (up : n.halted ≡ false) (s : Store D) {F : Type 0} (reads : OnlyReads g n.store.disk s.disk F) (went : ¬ F) (sound : IsSound g s)
-      (stays : StaysAsItWas n.store s) (later : Store D) (sound_later : IsSound g later) (changes : List Change) (v : Version) (image : List ℕ) (made : Made) (one : knows → IsOneCall n.server changes v image made t) where
-    pub known_call_made : {G : Type 0} (server : Server) (place : Member) → place ≡ n.member → Commits g changes v s later → IsDurable g changes v s later G → ¬ G → server.version ≡ v → length server.image ≡ later.len
-        → IsThere server.image (image_in (g.files later.disk)) → (knows → (t.server ≡ server) × (after ≡ before ++ outputs_of t.shown))
+  module _ {knows : Type 0} {t : Stepped} {before after : List Output} (n : Held D) (was : IsKept g n) (up : n.store.failed ≡ false) (s : Store D) {F : Type 0} (reads : OnlyReads g n.store.disk s.disk F) (went : ¬ F)
+      (still : IsStoredAs g s n.server.version n.server.image) (runs : s.failed ≡ false) (later : Store D) (changes : List Change) (v : Version) (image : List ℕ) (made : Made) (one : knows → IsOneCall n.server changes v image made t) where
+    pub known_call_made : {G : Type 0} (server : Server) (place : Member) → place ≡ n.member → Commits g changes v s later → IsDurable g changes v s later G → ¬ G → (knows → (t.server ≡ server) × (after ≡ before ++ outputs_of t.shown))
         → Ends g knows t before after n (record n { store = later; server = server; member = place }) (Ok tt)
-    known_call_made server place member done durably fine version len there shows =
-        made_ends g n (record n { store = later; server = server; member = place }) refl refl member
+    known_call_made server place member done durably fine shows =
+        made_ends g n (record n { store = later; server = server; member = place }) refl member
         (0 + (14 + length changes), calls_as (omega arith) (λ failed. fine failed) (λ none. absurd none) (calls_joined (calls_of (reads_change_none {f = Database} reads)) went durably.calls))
-        (record {
-          sound = sound_later;
-          version = λ _. done.version ∙ sym version;
-          len = λ _. sym len;
-          none_begun = λ _. done.begun;
-          failed = done.failed ∙ sym up;
-          image = λ _. there;
-        })
+        done.failed
         (λ told. told_by (λ bytes. effect bytes changes) (g.files s.disk) (g.files later.disk) done.image (told_still g reads went told))
         (λ known.
         let shown = shows known in
@@ -125,7 +97,7 @@ module _ {D : Type 0} (g : Ghosts D) where
           disk =
               subst (λ (made : List Made). Serves g (durable_in n.server) n.store.disk later.disk made) (sym is.calls)
               (serves_after g n.store.disk s.disk later.disk reads went (durable_in n.server) (made ∷ [])
-              (serves_one g s later (durable_in n.server) changes v image made ((stored_read n s was up sound stays reads went).image up) ((stored_read n s was up sound stays reads went).version up) is.leads is.same is.cuts is.count done.steps durably));
+              (serves_one g s later (durable_in n.server) changes v image made (still.image runs) (still.version runs) is.leads is.same is.cuts is.count done.steps durably));
         })
 
     pub known_call_failed : (long : ℕ → Type 0) (e : StoreFault) → EndsAs g long v s later e → version_lt s.version v ≡ true → ((bytes : ℕ) → long bytes → ⊥) → IsDurable g changes v s later (IsErrOf (ended e) DiskFault)
@@ -136,8 +108,7 @@ module _ {D : Type 0} (g : Ghosts D) where
         by_refusal e other ends =
             let no = refused long v s later e ends other newer fits in
             let all = reads_joined reads went no.1.disk in
-            failed_ends g n (record n { store = later }) refl refl refl e (inr no.0) was up all (λ none. absurd none) (λ is. other is)
-            (λ _. stored_read n later was up sound_later (stays_then n.store s later stays no.1.store) all (λ none. none)) (λ is. absurd (other is)) refl
+            failed_ends g n (record n { store = later }) refl refl e (inr no.0) was up all (λ none. absurd none) (λ is. other is) (λ _. no.1.store.failed ∙ runs) (λ is. absurd (other is)) refl
 
         by : (e : StoreFault) → EndsAs g long v s later e → IsDurable g changes v s later (IsErrOf (ended e) DiskFault) → Ends g knows t before after n (record n { store = later }) (Err e)
         by DiskFault ends durably = record {
@@ -146,35 +117,26 @@ module _ {D : Type 0} (g : Ghosts D) where
               let is = one known in
               subst (λ (made : List Made). FailsIn g (durable_in n.server) n.store.disk later.disk made) (sym is.calls)
               (fails_after g n.store.disk s.disk later.disk reads went (durable_in n.server) (made ∷ [])
-              (fails_one g s later (durable_in n.server) changes v image made (sound.ready (stays.failed ∙ was.failed ∙ up)) ((stored_read n s was up sound stays reads went).image up) ((stored_read n s was up sound stays reads went).version up) is.leads is.same is.cuts is.count durably));
-          short = λ other. absurd (other refl);
+              (fails_one g s later (durable_in n.server) changes v image made (still.sound.ready runs) (still.image runs) (still.version runs) is.leads is.same is.cuts is.count durably));
+          leaves = failed_leaves later ends.failed (0 + (14 + length changes), calls_as (omega arith) (λ failed. failed) (λ failed. failed) (calls_joined (calls_of (reads_change_none {f = Database} reads)) went durably.calls));
           state = λ other. refl;
           keeps = λ failed. refl;
-          stored = λ fine. absurd (fine refl);
-          halts = λ _. record { sound = sound_later; failed = ends.failed };
-          told = λ fine. absurd (fine refl);
-          calls = (0 + (14 + length changes), calls_as (omega arith) (λ failed. failed) (λ failed. failed) (calls_joined (calls_of (reads_change_none {f = Database} reads)) went durably.calls));
-          halted = refl;
           last = refl;
           member = refl;
         }
-        by (BadLabel len head) ends durably = by_refusal (BadLabel len head) (λ is. absurd cc) ends
-        by (TooLarge bytes) ends durably = by_refusal (TooLarge bytes) (λ is. absurd cc) ends
-        by (NotNewer own given) ends durably = by_refusal (NotNewer own given) (λ is. absurd cc) ends
-        by NoMemory ends durably = by_refusal NoMemory (λ is. absurd cc) ends
+        by other ends durably = by_refusal other (λ is. absurd cc) ends
 
   -- the same where that is so whatever the disk tells
-  module _ {knows : Type 0} {t : Stepped} {before after : List Output} (n : Held D) (was : IsKept g n) (up : n.halted ≡ false) (s : Store D) {F : Type 0} (reads : OnlyReads g n.store.disk s.disk F) (went : ¬ F) (sound : IsSound g s)
-      (stays : StaysAsItWas n.store s) (later : Store D) (sound_later : IsSound g later) (changes : List Change) (v : Version) (image : List ℕ) (made : Made) (leads : effect n.server.image changes ≡ image)
+  module _ {knows : Type 0} {t : Stepped} {before after : List Output} (n : Held D) (was : IsKept g n) (up : n.store.failed ≡ false) (s : Store D) {F : Type 0} (reads : OnlyReads g n.store.disk s.disk F) (went : ¬ F)
+      (still : IsStoredAs g s n.server.version n.server.image) (runs : s.failed ≡ false) (later : Store D) (changes : List Change) (v : Version) (image : List ℕ) (made : Made) (leads : effect n.server.image changes ≡ image)
       (same : durable_after (durable_in n.server) made.call ≡ durable v image) (cuts : TakenCutsNoPut made.reason made.call → CutsNoPut changes) (count : change_count made.call ≡ length changes) (calls : t.calls ≡ made ∷ []) where
-    pub call_made : {G : Type 0} (server : Server) (place : Member) → place ≡ n.member → Commits g changes v s later → IsDurable g changes v s later G → ¬ G → server.version ≡ v → length server.image ≡ later.len
-        → IsThere server.image (image_in (g.files later.disk)) → (knows → (t.server ≡ server) × (after ≡ before ++ outputs_of t.shown))
+    pub call_made : {G : Type 0} (server : Server) (place : Member) → place ≡ n.member → Commits g changes v s later → IsDurable g changes v s later G → ¬ G → (knows → (t.server ≡ server) × (after ≡ before ++ outputs_of t.shown))
         → Ends g knows t before after n (record n { store = later; server = server; member = place }) (Ok tt)
-    call_made = known_call_made n was up s reads went sound stays later sound_later changes v image made (λ _. record { leads = leads; same = same; cuts = cuts; count = count; calls = calls })
+    call_made = known_call_made n was up s reads went still runs later changes v image made (λ _. record { leads = leads; same = same; cuts = cuts; count = count; calls = calls })
 
     pub call_failed : (long : ℕ → Type 0) (e : StoreFault) → EndsAs g long v s later e → version_lt s.version v ≡ true → ((bytes : ℕ) → long bytes → ⊥) → IsDurable g changes v s later (IsErrOf (ended e) DiskFault)
         → Ends g knows t before after n (record n { store = later }) (Err e)
-    call_failed = known_call_failed n was up s reads went sound stays later sound_later changes v image made (λ _. record { leads = leads; same = same; cuts = cuts; count = count; calls = calls })
+    call_failed = known_call_failed n was up s reads went still runs later changes v image made (λ _. record { leads = leads; same = same; cuts = cuts; count = count; calls = calls })
 
   -- a rule after reads
   pub after_reads : {knows : Type 0} {t : Stepped} {before after : List Output} (n : Held D) (s : Store D) (m : Held D) (r : Result (Unit {0}) StoreFault) {F : Type 0} → OnlyReads g n.store.disk s.disk F → ¬ F
@@ -184,14 +146,15 @@ module _ {D : Type 0} (g : Ghosts D) where
         ok_map r (IsMade g t before after (record n { store = s }) m) (IsMade g t before after n m) (ends.made known)
         (λ made. record { server = made.server; outputs = made.outputs; disk = serves_after g n.store.disk s.disk m.store.disk reads went (durable_in n.server) t.calls made.disk });
     failed = λ known failed. fails_after g n.store.disk s.disk m.store.disk reads went (durable_in n.server) t.calls (ends.failed known failed);
-    short = err_joined r (λ e short. (short.0, reads_joined reads went short.1)) ends.short;
+    leaves = record {
+      short = err_joined r (λ e short. (short.0, reads_joined reads went short.1)) ends.leaves.short;
+      halts = ends.leaves.halts;
+      runs = ends.leaves.runs;
+      told = λ fine there. ends.leaves.told fine (told_still g reads went there);
+      calls = (0 + ends.leaves.calls.0, calls_joined (calls_of (reads_change_none {f = Database} reads)) went ends.leaves.calls.1);
+    };
     state = ends.state;
     keeps = ends.keeps;
-    stored = ends.stored;
-    halts = ends.halts;
-    told = λ fine there. ends.told fine (told_still g reads went there);
-    calls = (0 + ends.calls.0, calls_joined (calls_of (reads_change_none {f = Database} reads)) went ends.calls.1);
-    halted = ends.halted;
     last = ends.last;
     member = ends.member;
   }

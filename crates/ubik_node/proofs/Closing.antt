@@ -1,5 +1,5 @@
 -- A step, from the end of its rule.
-use Rattle.std.proofs.Common.{◌≡◌, ◌≢◌, ◌↔◌, ◌⊎◌, inl, inr, ⊎_elim, ℕ, Bool, true, false, cond, List, [], IsSome}
+use Rattle.std.proofs.Common.{◌≡◌, ◌≢◌, ◌↔◌, ◌⊎◌, ⊎_elim, ℕ, true, false, cond, List, [], IsSome}
 use Rattle.std.proofs.Common.{Result, Ok, Err, IfErr, IsErrOf, IsOk, refl, sym, ap, subst, ◌∙◌, arith}
 use Rattle.std.proofs.lemmas.Bool.{false≢true}
 use Rattle.disk_base.specs.declared.disks.Disk.{Ghosts}
@@ -17,25 +17,17 @@ use Rattle.ubik_node.specs.declared.nodes.StepEnd.{StepEnd}
 use Rattle.ubik_node.specs.declared.nodes.StepEnd.TheVariants.{Done, Halted, NoMemory}
 use Rattle.ubik_node.specs.Choices.{Choices, dbs_of}
 use Rattle.ubik_node.specs.Disk.{FailsIn, Serves}
-use Rattle.ubik_node.proofs.Endings.{fault_is}
-use Rattle.ubik_node.proofs.Stepping.{up_if}
-use Rattle.ubik_node.specs.Node.{CallsSo, Closes, Ends, Held, IsHalting, IsKept, IsStoredAs, Makes, StepsFreely, durable_in}
+use Rattle.ubik_node.proofs.Endings.{disk_or, fault_is}
+use Rattle.ubik_node.proofs.Stepping.{halted_if, up_if}
+use Rattle.ubik_node.specs.Node.{CallsSo, Closes, Ends, Held, Makes, StepsFreely, durable_in}
 
 -- the abstract server
 abbrev pub node_at : {D : Type 0} → Held D → model.Node
-node_at h = cond h.halted (model.Halted (model.halted_from h.server)) (model.Up h.server)
-
--- a fault is one of the disk, or another one
-pub disk_or : (why : StoreFault) → (why ≡ fault.DiskFault) ⊎ (why ≢ fault.DiskFault)
-disk_or fault.DiskFault = inl refl
-disk_or fault.NoMemory = inr (λ is. cc)
-disk_or (fault.BadLabel len head) = inr (λ is. cc)
-disk_or (fault.TooLarge bytes) = inr (λ is. cc)
-disk_or (fault.NotNewer own given) = inr (λ is. cc)
+node_at h = cond h.store.failed (model.Halted (model.halted_from h.server)) (model.Up h.server)
 
 module _ {D : Type 0} (g : Ghosts D) (d : Standing) (m : Member) (s : model.Server) (e : NodeEvent) (now : ℕ) (t : Stepped)
     (first mid last : Held D) (before after : List Output) (back : model.Server) (end : StepEnd)
-    (up : first.halted ≡ false) (choices : Choices d) (step : step_by (dbs_of choices) m s now e choices.short ≡ t)
+    (up : first.store.failed ≡ false) (choices : Choices d) (step : step_by (dbs_of choices) m s now e choices.short ≡ t)
     (kept : durable_in first.server ≡ durable_in s) where
   abbrev pub StepsSo : StepEnd → Held D → List Output → Type 0
   StepsSo x h out = StepsFreely g d m x e now (model.Up s) (node_at h) out first.store.disk h.store.disk
@@ -51,7 +43,7 @@ module _ {D : Type 0} (g : Ghosts D) (d : Standing) (m : Member) (s : model.Serv
   closed_step (Ok x) ends known returns keeps closed =
       let made = ends.made known in
       let made_for : Makes t (node_at mid) before (Serves g (durable_in s) first.store.disk mid.store.disk) = record {
-        server = up_if mid.halted (model.halted_from mid.server) mid.server (ends.halted ∙ up) ∙ ap model.Up (sym made.server);
+        server = up_if mid.store.failed (model.halted_from mid.server) mid.server (ends.leaves.runs (λ is. cc)) ∙ ap model.Up (sym made.server);
         outputs = made.outputs;
         disk = subst (λ (b : Durable). Serves g b first.store.disk mid.store.disk t.calls) kept made.disk;
       } in
@@ -60,8 +52,8 @@ module _ {D : Type 0} (g : Ghosts D) (d : Standing) (m : Member) (s : model.Serv
   closed_step (Err why) ends known returns keeps closed =
       ⊎_elim (λ is.
       let halts = closed.0 is in
-      steps_so Halted (record mid { server = halts.1.0; halted = true }) (outputs_of (refusals e)) halts.0 halts.1.1 halts.2 (
-        ap model.Halted (halts.1.2 ∙ keeps (ap Err is)),
+      steps_so Halted (record mid { server = halts.1.0 }) (outputs_of (refusals e)) halts.0 halts.1.1 halts.2 (
+        halted_if mid.store.failed (model.halted_from halts.1.0) halts.1.0 (ends.leaves.halts (ap Err is)) ∙ ap model.Halted (halts.1.2 ∙ keeps (ap Err is)),
         refl,
         choices,
         subst (λ (u : Stepped). FailsIn g (durable_in s) first.store.disk mid.store.disk u.calls) (sym step)
@@ -70,62 +62,50 @@ module _ {D : Type 0} (g : Ghosts D) (d : Standing) (m : Member) (s : model.Serv
       (λ other.
       let rests = closed.1 other in
       steps_so NoMemory (record mid { server = back }) [] rests.0 rests.1 rests.2
-      (up_if mid.halted (model.halted_from back) back (ends.halted ∙ up) ∙ ap model.Up (returns other), refl, (ends.short other).1)) (disk_or why)
+      (up_if mid.store.failed (model.halted_from back) back (ends.leaves.runs (λ is. other (fault_is why is))) ∙ ap model.Up (returns other), refl, (ends.leaves.short other).1)) (disk_or why)
 
 -- what is so of a step, whatever its rule was
 pub record IsClosed {D : Type 0} (g : Ghosts D) (first then : Held D) (end : StepEnd) : Type 0 where
-  pub stored : IsKept g then
   pub told : end ≢ Halted → IsSome (g.files first.store.disk) → IsSome (g.files then.store.disk)
-  pub calls : CallsSo g first.store.disk then.store.disk ((end ≡ Halted) × (first.halted ≡ false))
-  pub halts : (end ≡ Halted) ↔ (then.halted ≡ true)
+  pub calls : CallsSo g first.store.disk then.store.disk ((end ≡ Halted) × (first.store.failed ≡ false))
+  pub halts : (end ≡ Halted) ↔ (then.store.failed ≡ true)
   pub member : then.member ≡ first.member
   pub last : then.last ≡ first.last
 
 module _ {D : Type 0} (g : Ghosts D) (e : NodeEvent) (first mid last : Held D)
-    (before after : List Output) (back : model.Server) (end : StepEnd) (up : first.halted ≡ false) where
+    (before after : List Output) (back : model.Server) (end : StepEnd) (up : first.store.failed ≡ false) where
   closed_so : (x : StepEnd) (h : Held D) → end ≡ x → last ≡ h → IsClosed g first h x → IsClosed g first last end
   closed_so x h ended same closed =
       subst (λ (y : StepEnd). IsClosed g first last y) (sym ended) (subst (λ (k : Held D). IsClosed g first k x) (sym same) closed)
 
   -- one that did not halt
-  goes_on : {t : Stepped} {knows : Type 0} {start : List Output} (r : Result (Unit {0}) StoreFault) (x : StepEnd) (server : model.Server) → x ≢ Halted → ¬ IsErrOf r fault.DiskFault → durable_in server ≡ durable_in mid.server
+  goes_on : {t : Stepped} {knows : Type 0} {start : List Output} (r : Result (Unit {0}) StoreFault) (x : StepEnd) (server : model.Server) → x ≢ Halted → ¬ IsErrOf r fault.DiskFault
       → Ends g knows t start before first mid r → IsClosed g first (record mid { server = server }) x
-  goes_on r x server went fine same ends = record {
-    stored = subst (λ (b : Durable). IsStoredAs g mid.store b.version b.image mid.halted) (sym same) (ends.stored fine);
-    told = λ _. ends.told fine;
-    calls = (ends.calls.0, calls_as (omega arith) (λ is. absurd (fine is)) (λ is. absurd (went is.0)) ends.calls.1);
-    halts = (λ is. absurd (went is), λ is. absurd (false≢true (sym (ends.halted ∙ up) ∙ is)));
+  goes_on r x server went fine ends = record {
+    told = λ _. ends.leaves.told fine;
+    calls = (ends.leaves.calls.0, calls_as (omega arith) (λ is. absurd (fine is)) (λ is. absurd (went is.0)) ends.leaves.calls.1);
+    halts = (λ is. absurd (went is), λ is. absurd (false≢true (sym (ends.leaves.runs fine) ∙ is)));
     member = ends.member;
     last = ends.last;
   }
 
   pub closed : {t : Stepped} {knows : Type 0} {start : List Output} (r : Result (Unit {0}) StoreFault) → Ends g knows t start before first mid r
-      → IfErr r (λ why. why ≢ fault.DiskFault → durable_in back ≡ durable_in first.server) → Closes r e back mid last before after end
-      → IsClosed g first last end
-  closed (Ok x) ends same closes = closed_so Done mid closes.0 closes.1 (goes_on (Ok x) Done mid.server (λ is. cc) (λ is. cc) refl ends)
-  closed (Err why) ends same closes =
+      → Closes r e back mid last before after end → IsClosed g first last end
+  closed (Ok x) ends closes = closed_so Done mid closes.0 closes.1 (goes_on (Ok x) Done mid.server (λ is. cc) (λ is. cc) ends)
+  closed (Err why) ends closes =
       ⊎_elim (λ is.
       let halts = closes.0 is in
-      let failed = ends.halts (ap Err is) in
-      closed_so Halted (record mid { server = halts.1.0; halted = true }) halts.0 halts.1.1 (record {
-        stored = record {
-          sound = failed.sound;
-          version = λ fine. absurd (false≢true (sym fine));
-          len = λ fine. absurd (false≢true (sym fine));
-          none_begun = λ fine. absurd (false≢true (sym fine));
-          failed = failed.failed;
-          image = λ fine. absurd (false≢true (sym fine));
-        };
+      closed_so Halted (record mid { server = halts.1.0 }) halts.0 halts.1.1 (record {
         told = λ went. absurd (went refl);
-        calls = (ends.calls.0, calls_as (omega arith) (λ _. (refl, up)) (λ _. ap Err is) ends.calls.1);
-        halts = (λ _. refl, λ _. refl);
+        calls = (ends.leaves.calls.0, calls_as (omega arith) (λ _. (refl, up)) (λ _. ap Err is) ends.leaves.calls.1);
+        halts = (λ _. ends.leaves.halts (ap Err is), λ _. refl);
         member = ends.member;
         last = ends.last;
       }))
       (λ other.
       let rests = closes.1 other in
       closed_so NoMemory (record mid { server = back }) rests.0 rests.1
-      (goes_on (Err why) NoMemory back (λ is. cc) (λ is. other (fault_is why is)) (same other ∙ ap durable_in (sym (ends.state other))) ends)) (disk_or why)
+      (goes_on (Err why) NoMemory back (λ is. cc) (λ is. other (fault_is why is)) ends)) (disk_or why)
 
 module _ {D : Type 0} (e : NodeEvent) (mid last : Held D) (before after : List Output) (back : model.Server) (end : StepEnd) where
   pub closed_memory : (r : Result (Unit {0}) StoreFault) → IsErrOf r fault.DiskFault ⊎ IsOk r → Closes r e back mid last before after end
@@ -137,18 +117,3 @@ pub err_map : {A : Type 0} (r : Result A StoreFault) (P Q : Type 0) → IfErr r 
     → IfErr r (λ why. why ≢ fault.DiskFault → Q)
 err_map (Ok x) P Q so also = tt
 err_map (Err e) P Q so also = λ other. also (so other)
-
-module _ {D : Type 0} (r : Result (Unit {0}) StoreFault) (e : NodeEvent) (back : model.Server) (old new : Held D)
-    (before after : List Output) where
-  pub closes_done : (x : Unit {0}) → r ≡ Ok x → new ≡ old → after ≡ before → Closes r e back old new before after Done
-  closes_done x is same out =
-      subst (λ (q : Result (Unit {0}) StoreFault). Closes q e back old new before after Done) (sym is) (refl, same, out)
-
-  pub closes_failed : (why : StoreFault) (end : StepEnd) → r ≡ Err why → why ≡ fault.DiskFault → IsHalting e back old new after end → Closes r e back old new before after end
-  closes_failed why end is of_disk halts =
-      subst (λ (q : Result (Unit {0}) StoreFault). Closes q e back old new before after end) (sym is) (λ _. halts, λ other. absurd (other of_disk))
-
-  pub closes_short : (why : StoreFault) → r ≡ Err why → why ≢ fault.DiskFault → new ≡ record old { server = back } → after ≡ []
-      → Closes r e back old new before after NoMemory
-  closes_short why is other same out =
-      subst (λ (q : Result (Unit {0}) StoreFault). Closes q e back old new before after NoMemory) (sym is) (λ of_disk. absurd (other of_disk), λ _. (refl, same, out))

@@ -94,11 +94,8 @@ next_is_newer own = grind (arith, nat_tests)
 
 -- nobody is in the set without marks
 none_marked : (n count k : ℕ) → is_marked (take n (replicate count false)) k ≡ false
-none_marked zero zero k = refl
-none_marked zero (suc count) k = refl
-none_marked (suc n) zero k = refl
-none_marked (suc n) (suc count) zero = refl
 none_marked (suc n) (suc count) (suc k) = none_marked n count k
+none_marked n count k = refl
 
 -- so the packets of a write go to each other server
 pub spread_to_each : (m : Member) (n count : ℕ) (set : List Bool) (a b new : Version) (s t : List ℕ) → set ≡ replicate count false → a ≡ b → s ≡ t
@@ -134,12 +131,8 @@ module _ (s : Server) (v : Version) (r : RecoveryRecord) (now id : ℕ) (call an
           → Leads (written_in (alone h) (recovering v (record r { phase = p }) s) now id call answer image changes (record_in p v r))
           (recovering (next_version s.version) (with_text (held_alone (record r { phase = p }) 0) None) (with_database (recovering v (record r { phase = p }) s) (next_version s.version) image))
           (output.Announce (next_version s.version) ∷ output.Reply id (reply.Ok answer) ∷ []) (own_commit (next_version s.version) changes image (record { moment = now; call = call }) ∷ [])
-      by phase.None is = absurd cc
-      by phase.Poll is = absurd cc
-      by phase.Fetch is = absurd cc
-      by phase.Relabel is = absurd cc
-      by phase.Send is = absurd cc
       by phase.Ready is = record { server = ap (λ (n : ℕ). after_commit s r image 0 n (next_version s.version) None) (sym one) ∙ ap (λ (f : Option Flight). after_commit s r image 0 r.servers (next_version s.version) f) (sym free); outputs = refl; calls = refl }
+      by other is = absurd cc
 
   pub written_alone : (m : Member) (only : (h : Host) × (m ≡ alone h)) (next : Version) → next ≡ next_version s.version → s.flight ≡ None → r.servers ≡ 1
       → Leads (written_in m (recovering v r s) now id call answer image changes (recovering v r s).phase) (recovering next (with_text (held_alone r 0) None) (with_database (recovering v r s) next image))
@@ -164,11 +157,6 @@ module _ (s : Server) (v : Version) (r : RecoveryRecord) (now id : ℕ) (call an
           → Leads (written_in m (recovering v (record r { phase = p }) s) now id call answer image changes (record_in p v r))
           (write_begun write (held_alone (record r { phase = p }) m.me) (with_database (recovering v (record r { phase = p }) s) (next_version s.version) image))
           (outputs_of (sends_to_each m (λ k. write_bodies s.version (next_version s.version) (text_of changes)))) (own_commit (next_version s.version) changes image (record { moment = now; call = call }) ∷ [])
-      by phase.None is = absurd cc
-      by phase.Poll is = absurd cc
-      by phase.Fetch is = absurd cc
-      by phase.Relabel is = absurd cc
-      by phase.Send is = absurd cc
       by phase.Ready is = rw few (record {
         server =
             ap (λ (n : ℕ). after_commit s r image m.me n s.version (Some (flight_of s now id call answer changes))) same
@@ -177,6 +165,7 @@ module _ (s : Server) (v : Version) (r : RecoveryRecord) (now id : ℕ) (call an
         outputs = ap outputs_of (append-nil (sends_to_each m (λ k. write_bodies s.version (next_version s.version) (text_of changes))));
         calls = refl;
       })
+      by other is = absurd cc
 
   pub written_begun : (m : Member) (write : OwnRecord) (next : Version) → next ≡ next_version s.version → cell_size m ≡ r.servers → 1 < cell_size m → write.kept.old_version ≡ s.version → write.flight ≡ flight_of s now id call answer changes
       → Leads (written_in m (recovering v r s) now id call answer image changes (recovering v r s).phase) (write_begun write (held_alone r m.me) (with_database (recovering v r s) next image))

@@ -6,7 +6,6 @@ use Rattle.ubik_calls.specs.declared.packets.Body.TheVariants as body
 use Rattle.ubik_store.specs.declared.faults.StoreFault.{StoreFault}
 use Rattle.ubik_store.specs.declared.faults.StoreFault.TheVariants.{DiskFault}
 use Rattle.disk_base.specs.Files.{Files}
-use Rattle.db_image.specs.Standing.{Standing}
 use Rattle.cell_model.specs.declared.events.Output.{Output}
 use Rattle.cell_model.specs.Durable.{Durable}
 use Rattle.cell_model.specs.Node.{Server, halted_from}
@@ -17,7 +16,6 @@ use Rattle.server_rules.specs.Acts.{HasRoom, MayEndShort, MayFail, act_need}
 use Rattle.server_rules.specs.Packets.{body_need}
 use Rattle.ubik_store.proofs.Telling.{ok_map}
 use Rattle.ubik_node.specs.Acts.{ActNeeds, needs_at}
-use Rattle.ubik_node.specs.Choices.{dbs_of}
 use Rattle.ubik_node.specs.Disk.{FailsIn, Serves}
 use Rattle.ubik_node.proofs.Endings.{never_short, ok_not}
 use Rattle.std.proofs.lemmas.Bool.{false≢true}
@@ -47,17 +45,11 @@ module _ (knows tells : Type 0) (less : tells → knows) where
   body_needs (body.Beacon start claim ready version) needs = tt
   body_needs (body.Vote start granted) needs = tt
   body_needs (body.GetVersion poll) needs = tt
-  body_needs (body.VersionIs poll version) needs = needs
-  body_needs (body.GetPiece poll version offset) needs = needs
-  body_needs (body.Piece poll version total offset bytes) needs = needs
-  body_needs (body.SendPiece poll version total offset bytes) needs = needs
-  body_needs (body.PieceKept poll version next) needs = needs
   body_needs (body.SetVersion poll old new) needs = tt
   body_needs (body.Begin old new pieces len) needs = tt
   body_needs (body.PutPiece new number bytes) needs = tt
-  body_needs (body.Commit old new) needs = needs
   body_needs (body.Abort new) needs = tt
-  body_needs (body.VersionKept version) needs = needs
+  body_needs other needs = needs
 
   pub act_needs : (b : Body) (a : Act) → act_need a ≤ body_need b → NeedsFiles b tells → ActNeeds a knows tells
   act_needs b a few needs = needs_less (act_need a) (body_need b) few (body_needs b needs)
@@ -85,14 +77,9 @@ decided_ends {D} g {knows} {less} {t} {u} {before} {after} n s place {m} r is so
       ok_map r (IsMade g u before after (record n { server = s; member = place }) m) (IsMade g u before after n m) (ends.made (so known)) (λ made.
       record { server = made.server; outputs = made.outputs; disk = subst (λ (d : Durable). Serves g d n.store.disk m.store.disk u.calls) same made.disk });
   failed = λ known failed. subst (λ (d : Durable). FailsIn g d n.store.disk m.store.disk u.calls) same (ends.failed (so known) failed);
-  short = ends.short;
+  leaves = ends.leaves;
   state = back r ends.state stays;
   keeps = λ failed. ends.keeps failed ∙ keeps failed;
-  stored = ends.stored;
-  halts = ends.halts;
-  told = ends.told;
-  calls = ends.calls;
-  halted = ends.halted;
   last = ends.last;
   member = ends.member ∙ here;
 })

@@ -1,5 +1,5 @@
 -- How rules end.
-use Rattle.std.proofs.Common.{◌≡◌, ◌≢◌, ◌++◌, ◌⊎◌, ⊎_elim, inr, ℕ, List, [], false, Option, IsSome, length, Result, Ok, Err, OnOk, IfErr, IsErrAnd, IsErrOf, IsOk, refl, sym, ap, subst, ◌∙◌, append_assoc, arith}
+use Rattle.std.proofs.Common.{◌≡◌, ◌≢◌, ◌++◌, ◌⊎◌, ⊎_elim, inl, inr, List, [], true, false, Option, IsSome, Result, Ok, Err, OnOk, IfErr, IsErrAnd, IsErrOf, IsOk, refl, sym, ap, subst, ◌∙◌, append_assoc, arith}
 use Rattle.std.proofs.lemmas.List.{map-append}
 use Rattle.disk_base.specs.declared.disks.Disk.{Ghosts}
 use Rattle.disk_base.specs.declared.disks.FileNo.TheVariants.{Database}
@@ -8,18 +8,17 @@ use Rattle.disk_base.specs.Runs.{OnlyReads}
 use Rattle.disk_base.proofs.Runs.{reads_change_none, reads_nothing, reads_as as said_as}
 use Rattle.ubik_store.specs.declared.faults.StoreFault.{StoreFault}
 use Rattle.ubik_store.specs.declared.faults.StoreFault.TheVariants.{DiskFault, NoMemory}
-use Rattle.ubik_store.specs.Store.{IsReady, image_in}
 use Rattle.ubik_store.proofs.Applied.{calls_as, calls_of}
 use Rattle.ubik_store.proofs.Telling.{ok_map}
 use Rattle.cell_model.specs.declared.events.Output.{Output}
 use Rattle.cell_model.specs.Durable.{Made}
-use Rattle.cell_model.specs.Node.{Server, halted_from}
+use Rattle.cell_model.specs.Node.{halted_from}
 use Rattle.cell_model.specs.Step.{Shown, Stepped, outputs_of}
 use Rattle.server_state.specs.declared.state.State.{State}
 use Rattle.ubik_node.specs.Disk.{FailsIn, Serves}
-use Rattle.ubik_node.specs.Node.{CallsSo, Ends, HasFailedStore, Held, IsKept, IsMade, durable_in}
+use Rattle.ubik_node.specs.Node.{CallsSo, Ends, Held, IsKept, IsMade, durable_in}
 use Rattle.server_state.specs.State.{Keeps, ShowsBehind, member_of, server_of}
-use Rattle.ubik_node.proofs.Durables.{IsThere, fails_reads, serves_reads}
+use Rattle.ubik_node.proofs.Durables.{fails_reads, serves_reads}
 
 no_fault : ◌≡◌ {A = Result (Unit {0}) StoreFault} (Ok tt) (Err DiskFault) → ⊥
 no_fault is = cc
@@ -34,6 +33,11 @@ ok_not x is = cc
 pub never_short : (r : Result (Unit {0}) StoreFault) (P : Type 0) → IsErrOf r DiskFault ⊎ IsOk r → IfErr r (λ why. why ≢ DiskFault → P)
 never_short (Ok x) P fine = tt
 never_short (Err e) P fine = λ other. absurd (⊎_elim (λ is. other (fault_is e is)) (λ is. absurd cc) fine)
+
+-- a fault is one of the disk, or another one
+pub disk_or : (why : StoreFault) → (why ≡ DiskFault) ⊎ (why ≢ DiskFault)
+disk_or DiskFault = inl refl
+disk_or other = inr (λ is. cc)
 
 pub not_short : NoMemory ≡ DiskFault → ⊥
 not_short is = cc
@@ -53,88 +57,73 @@ module _ {D : Type 0} (g : Ghosts D) where
   pub reads_so : {old new : D} {F G : Type 0} → OnlyReads g old new F → (F → G) → (G → F) → CallsSo g old new G
   reads_so reads to from = (0, calls_as (omega arith) to from (calls_of (reads_change_none {f = Database} reads)))
 
-  -- the store of a node that is not halted
-  pub ready_in : (n : Held D) → IsKept g n → n.halted ≡ false → IsReady g n.store
-  ready_in n stored up = stored.sound.ready (stored.failed ∙ up)
-
-  -- another server of the same database over the same store
-  pub kept_with : (n : Held D) (server : Server) → IsKept g n → server.version ≡ n.server.version → server.image ≡ n.server.image → IsKept g (record n { server = server })
-  kept_with n server stored version image = record {
-    sound = stored.sound;
-    version = λ up. stored.version up ∙ sym version;
-    len = λ up. stored.len up ∙ ap length (sym image);
-    none_begun = stored.none_begun;
-    failed = stored.failed;
-    image = λ up. subst (λ (bytes : List ℕ). IsThere bytes (image_in (g.files n.store.disk))) (sym image) (stored.image up);
-  }
-
-  module _ {knows : Type 0} {t : Stepped} {before after : List Output} (n m : Held D) (halted : m.halted ≡ n.halted) (last : m.last ≡ n.last) (member : m.member ≡ n.member) where
-    pub made_ends : CallsSo g n.store.disk m.store.disk ⊥ → IsKept g m → (IsSome (g.files n.store.disk) → IsSome (g.files m.store.disk)) → (knows → IsMade g t before after n m) → Ends g knows t before after n m (Ok tt)
-    made_ends run stored told made = record {
+  module _ {knows : Type 0} {t : Stepped} {before after : List Output} (n m : Held D) (last : m.last ≡ n.last) (member : m.member ≡ n.member) where
+    pub made_ends : CallsSo g n.store.disk m.store.disk ⊥ → m.store.failed ≡ false → (IsSome (g.files n.store.disk) → IsSome (g.files m.store.disk)) → (knows → IsMade g t before after n m) → Ends g knows t before after n m (Ok tt)
+    made_ends run runs told made = record {
       made = made;
       failed = λ known failed. absurd (no_fault failed);
-      short = tt;
+      leaves = record {
+        short = tt;
+        halts = λ failed. absurd (no_fault failed);
+        runs = λ _. runs;
+        told = λ _. told;
+        calls = (run.0, calls_as (omega arith) (λ none. absurd none) (λ failed. no_fault failed) run.1);
+      };
       state = tt;
       keeps = λ failed. absurd (no_fault failed);
-      stored = λ _. stored;
-      halts = λ failed. absurd (no_fault failed);
-      told = λ _. told;
-      calls = (run.0, calls_as (omega arith) (λ none. absurd none) (λ failed. no_fault failed) run.1);
-      halted = halted;
       last = last;
       member = member;
     }
 
     -- a rule without a durable call, after reads
-    pub known_read_ends : {F : Type 0} → IsKept g n → n.halted ≡ false → OnlyReads g n.store.disk m.store.disk F → ¬ F → IsKept g m
+    pub known_read_ends : {F : Type 0} → IsKept g n → n.store.failed ≡ false → OnlyReads g n.store.disk m.store.disk F → ¬ F → m.store.failed ≡ false
         → (knows → (t.calls ≡ []) × (t.server ≡ m.server) × (after ≡ before ++ outputs_of t.shown)) → Ends g knows t before after n m (Ok tt)
-    known_read_ends was up reads went stored shows =
-        made_ends (reads_so reads went (λ failed. absurd failed)) stored (told_still reads went) (λ known.
+    known_read_ends was up reads went runs shows =
+        made_ends (reads_so reads went (λ failed. absurd failed)) runs (told_still reads went) (λ known.
         let shown = shows known in
         record {
           server = shown.1;
           outputs = shown.2;
-          disk = subst (λ (calls : List Made). Serves g (durable_in n.server) n.store.disk m.store.disk calls) (sym shown.0) (serves_reads g n.store (durable_in n.server) (ready_in n was up) (was.image up) (was.version up) reads);
+          disk = subst (λ (calls : List Made). Serves g (durable_in n.server) n.store.disk m.store.disk calls) (sym shown.0) (serves_reads g n.store (durable_in n.server) (was.sound.ready up) (was.image up) (was.version up) reads);
         })
 
-    pub read_ends : {F : Type 0} → IsKept g n → n.halted ≡ false → OnlyReads g n.store.disk m.store.disk F → ¬ F → IsKept g m → t.calls ≡ []
+    pub read_ends : {F : Type 0} → IsKept g n → n.store.failed ≡ false → OnlyReads g n.store.disk m.store.disk F → ¬ F → m.store.failed ≡ false → t.calls ≡ []
         → (knows → (t.server ≡ m.server) × (after ≡ before ++ outputs_of t.shown)) → Ends g knows t before after n m (Ok tt)
-    read_ends was up reads went stored none shows = known_read_ends was up reads went stored (λ known. (none, (shows known).0, (shows known).1))
+    read_ends was up reads went runs none shows = known_read_ends was up reads went runs (λ known. (none, (shows known).0, (shows known).1))
 
     -- reads that failed, or want of memory
-    pub failed_ends : {F : Type 0} (e : StoreFault) → (e ≡ DiskFault) ⊎ (e ≡ NoMemory) → IsKept g n → n.halted ≡ false → OnlyReads g n.store.disk m.store.disk F → (F → e ≡ DiskFault) → (e ≡ DiskFault → F)
-        → (e ≢ DiskFault → IsKept g m) → (e ≡ DiskFault → HasFailedStore g m.store) → m.server ≡ n.server → Ends g knows t before after n m (Err e)
-    failed_ends e cause was up reads to from stored halts same = record {
+    pub failed_ends : {F : Type 0} (e : StoreFault) → (e ≡ DiskFault) ⊎ (e ≡ NoMemory) → IsKept g n → n.store.failed ≡ false → OnlyReads g n.store.disk m.store.disk F → (F → e ≡ DiskFault) → (e ≡ DiskFault → F)
+        → (e ≢ DiskFault → m.store.failed ≡ false) → (e ≡ DiskFault → m.store.failed ≡ true) → m.server ≡ n.server → Ends g knows t before after n m (Err e)
+    failed_ends e cause was up reads to from runs halts same = record {
       made = λ _. tt;
-      failed = λ known failed. fails_reads g n.store (durable_in n.server) (ready_in n was up) (was.image up) (was.version up) reads t.calls;
-      short = λ other. (⊎_elim (λ is. absurd (other is)) (λ is. is) cause, reads_as (λ failed. other (to failed)) (λ none. absurd none) reads);
+      failed = λ known failed. fails_reads g n.store (durable_in n.server) (was.sound.ready up) (was.image up) (was.version up) reads t.calls;
+      leaves = record {
+        short = λ other. (⊎_elim (λ is. absurd (other is)) (λ is. is) cause, reads_as (λ failed. other (to failed)) (λ none. absurd none) reads);
+        halts = λ failed. halts (fault_is e failed);
+        runs = λ fine. runs (λ is. fine (ap Err is));
+        told = λ fine. told_still reads (λ failed. fine (ap Err (to failed)));
+        calls = reads_so reads (λ failed. ap Err (to failed)) (λ failed. from (fault_is e failed));
+      };
       state = λ other. same;
       keeps = λ failed. ap halted_from same;
-      stored = λ fine. stored (λ is. fine (ap Err is));
-      halts = λ failed. halts (fault_is e failed);
-      told = λ fine. told_still reads (λ failed. fine (ap Err (to failed)));
-      calls = reads_so reads (λ failed. ap Err (to failed)) (λ failed. from (fault_is e failed));
-      halted = halted;
       last = last;
       member = member;
     }
 
   -- a rule without a durable call that does not touch the store: the place in the cell and the database stay
-  pub shown_ends : {knows : Type 0} {t : Stepped} {before after : List Output} (n : Held D) (st now : State) → IsKept g n → n.halted ≡ false → n.server ≡ server_of st → n.member ≡ member_of st → Keeps st now
+  pub shown_ends : {knows : Type 0} {t : Stepped} {before after : List Output} (n : Held D) (st now : State) → IsKept g n → n.store.failed ≡ false → n.member ≡ member_of st → Keeps st now
       → ShowsBehind t (server_of now) before after → Ends g knows t before after n (record n { server = server_of now; member = member_of now }) (Ok tt)
-  shown_ends n st now stored up server member kept shows =
-      read_ends n (record n { server = server_of now; member = member_of now }) refl refl (kept.member ∙ sym member) stored up (reads_none n.store.disk) (λ none. none)
-      (kept_with n (server_of now) stored (kept.version ∙ ap (λ (s : Server). s.version) (sym server)) (kept.image ∙ ap (λ (s : Server). s.image) (sym server))) shows.calls (λ _. (shows.server, shows.outputs))
+  shown_ends n st now stored up member kept shows =
+      read_ends n (record n { server = server_of now; member = member_of now }) refl (kept.member ∙ sym member) stored up (reads_none n.store.disk) (λ none. none) up shows.calls (λ _. (shows.server, shows.outputs))
 
   -- one that changes nothing
-  pub rests_ends : {knows : Type 0} {t : Stepped} {before after : List Output} (n : Held D) → IsKept g n → n.halted ≡ false → ShowsBehind t n.server before after → Ends g knows t before after n n (Ok tt)
-  rests_ends n stored up shows =
-      read_ends n n refl refl refl stored up (reads_none n.store.disk) (λ none. none) stored shows.calls (λ _. (shows.server, shows.outputs))
+  pub rests_ends : {knows : Type 0} {t : Stepped} {before after : List Output} (n : Held D) → IsKept g n → n.store.failed ≡ false → ShowsBehind t n.server before after → Ends g knows t before after n n (Ok tt)
+  rests_ends n stored up shows = read_ends n n refl refl stored up (reads_none n.store.disk) (λ none. none) up shows.calls (λ _. (shows.server, shows.outputs))
 
   -- want of memory, before anything was done
-  pub short_ends : {knows : Type 0} {t : Stepped} {before after : List Output} (n : Held D) → IsKept g n → n.halted ≡ false → Ends g knows t before after n n (Err NoMemory)
+  pub short_ends : {knows : Type 0} {t : Stepped} {before after : List Output} (n : Held D) → IsKept g n → n.store.failed ≡ false → Ends g knows t before after n n (Err NoMemory)
   short_ends n stored up =
-      failed_ends n n refl refl refl NoMemory (inr refl) stored up (reads_none n.store.disk) (λ none. absurd none) (λ is. absurd (not_short is)) (λ _. stored) (λ is. absurd (not_short is)) refl
+      failed_ends n n refl refl NoMemory (inr refl) stored up (reads_none n.store.disk) (λ none. absurd none) (λ is. absurd (not_short is)) (λ _. up) (λ is. absurd (not_short is)) refl
 
   -- a rule that is another one
   pub same_ends : {knows : Type 0} {t u : Stepped} {before after : List Output} {n m : Held D} {r : Result (Unit {0}) StoreFault} → t ≡ u → Ends g knows u before after n m r → Ends g knows t before after n m r
@@ -143,20 +132,7 @@ module _ {D : Type 0} (g : Ghosts D) where
   -- A rule that is made and fails as another one. The rest of how it ends speaks of neither.
   pub ends_as : {knows less : Type 0} {t u : Stepped} {before after first final : List Output} {n m : Held D} {r : Result (Unit {0}) StoreFault} → (less → OnOk r (IsMade g t before after n m))
       → (less → IsErrOf r DiskFault → FailsIn g (durable_in n.server) n.store.disk m.store.disk t.calls) → Ends g knows u first final n m r → Ends g less t before after n m r
-  ends_as made failed ends = record {
-    made = made;
-    failed = failed;
-    short = ends.short;
-    state = ends.state;
-    keeps = ends.keeps;
-    stored = ends.stored;
-    halts = ends.halts;
-    told = ends.told;
-    calls = ends.calls;
-    halted = ends.halted;
-    last = ends.last;
-    member = ends.member;
-  }
+  ends_as made failed ends = record { made = made; failed = failed; leaves = ends.leaves; state = ends.state; keeps = ends.keeps; last = ends.last; member = ends.member }
 
   -- less is asked of the disk
   pub known_ends : {knows less : Type 0} {t : Stepped} {before after : List Output} {n m : Held D} {r : Result (Unit {0}) StoreFault} → (less → knows) → Ends g knows t before after n m r → Ends g less t before after n m r

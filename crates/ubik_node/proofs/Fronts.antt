@@ -26,7 +26,7 @@ use Rattle.ubik_node.specs.Node.{Ends, Held, IsKept, durable_in}
 use Rattle.server_state.specs.Receiving.{front_back, front_taken}
 use Rattle.server_state.specs.State.{announced, server_of, server_with}
 use Rattle.ubik_node.proofs.Decided.{decided_ends}
-use Rattle.ubik_node.proofs.Endings.{ends_as, fault_is, kept_with, ok_not, short_ends}
+use Rattle.ubik_node.proofs.Endings.{ends_as, fault_is, ok_not, short_ends}
 use Rattle.ubik_node.proofs.Received.{front_of}
 
 pub same_phase : (v : Version) (r : RecoveryRecord) (text : Option ReceivedText) → phase_record v (with_text r text) ≡ phase_record v r
@@ -34,11 +34,7 @@ same_phase v r text = by r.phase
   where
     by : (p : Phase) → record_in p v (with_text r text) ≡ record_in p v r
     by phase.None = refl
-    by phase.Poll = refl
-    by phase.Fetch = refl
-    by phase.Relabel = refl
-    by phase.Send = refl
-    by phase.Ready = refl
+    by other = refl
 
 -- another text is another text of the server
 pub text_put : (v : Version) (r : RecoveryRecord) (s : Server) (text : Option ReceivedText) → recovering v (with_text r text) s ≡ record (recovering v r s) { received = text }
@@ -89,7 +85,7 @@ on_fine (Err e) P went so = absurd (false≢true (sym went))
 
 module _ {D : Type 0} (g : Ghosts D) {knows : Type 0} {t : Stepped} {before after : List Output} (n : Held D) where
   -- memory ran out, and what was given out has come back
-  pub short_back : (server : Server) (member : Member) → IsKept g n → n.halted ≡ false → server ≡ n.server → member ≡ n.member → Ends g knows t before after n (record n { server = server; member = member }) (Err NoMemory)
+  pub short_back : (server : Server) (member : Member) → IsKept g n → n.store.failed ≡ false → server ≡ n.server → member ≡ n.member → Ends g knows t before after n (record n { server = server; member = member }) (Err NoMemory)
   short_back server member stored up same place =
       subst (λ (s : Server). Ends g knows t before after n (record n { server = s; member = member }) (Err NoMemory)) (sym same)
       (subst (λ (m : Member). Ends g knows t before after n (record n { member = m }) (Err NoMemory)) (sym place) (short_ends g n stored up))
@@ -105,18 +101,9 @@ module _ {D : Type 0} (g : Ghosts D) {knows : Type 0} {t : Stepped} {before afte
     failed_from server member e same keeps here ends = record {
       made = λ known. tt;
       failed = λ known failed. subst (λ (d : Durable). FailsIn g d n.store.disk m.store.disk t.calls) durable (ends.failed known failed);
-      short = ends.short;
+      leaves = ends.leaves;
       state = same;
       keeps = λ failed. keeps (fault_is e failed);
-      stored = λ fine.
-          let back = ends.state (λ is. fine (ap Err is)) in
-          let there = same (λ is. fine (ap Err is)) in
-          kept_with g m server (ends.stored fine) (ap (λ (s : Server). s.version) there ∙ sym (ap (λ (d : Durable). d.version) durable) ∙ sym (ap (λ (s : Server). s.version) back))
-          (ap (λ (s : Server). s.image) there ∙ sym (ap (λ (d : Durable). d.image) durable) ∙ sym (ap (λ (s : Server). s.image) back));
-      halts = ends.halts;
-      told = ends.told;
-      calls = ends.calls;
-      halted = ends.halted;
       last = ends.last;
       member = here;
     }
@@ -128,22 +115,17 @@ module _ {D : Type 0} (g : Ghosts D) {knows : Type 0} {t u : Stepped} {before af
       ends_as g (λ known. tt) (λ known failed. subst (λ (calls : List Made). FailsIn g (durable_in n.server) n.store.disk m.store.disk calls) (sym same) (ends.failed known failed)) ends
 
   -- a rule that goes on without the disk
-  pub goes_on : (server : Server) (member : Member) → server.version ≡ m.server.version → server.image ≡ m.server.image → member ≡ m.member → (t.server ≡ m.server → (u.server ≡ server) × (final ≡ first ++ outputs_of u.shown))
+  pub goes_on : (server : Server) (member : Member) → member ≡ m.member → (t.server ≡ m.server → (u.server ≡ server) × (final ≡ first ++ outputs_of u.shown))
       → Ends g knows t before after n m (Ok tt) → Ends g knows u first final n (record m { server = server; member = member }) (Ok tt)
-  goes_on server member version image here shows ends = record {
+  goes_on server member here shows ends = record {
     made = λ known.
         let one = ends.made known in
         let shown = shows one.server in
         record { server = shown.0; outputs = shown.1; disk = subst (λ (calls : List Made). Serves g (durable_in n.server) n.store.disk m.store.disk calls) (sym same) one.disk };
     failed = λ known failed. subst (λ (calls : List Made). FailsIn g (durable_in n.server) n.store.disk m.store.disk calls) (sym same) (ends.failed known failed);
-    short = ends.short;
+    leaves = ends.leaves;
     state = tt;
     keeps = λ failed. absurd (ok_not tt failed);
-    stored = λ fine. kept_with g m server (ends.stored fine) version image;
-    halts = ends.halts;
-    told = ends.told;
-    calls = ends.calls;
-    halted = ends.halted;
     last = ends.last;
     member = here ∙ ends.member;
   }

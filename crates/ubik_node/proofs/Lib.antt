@@ -1,6 +1,5 @@
 pub mod AfterReads
 pub mod Alone
-pub mod Appended
 pub mod Begun
 pub mod Calling
 pub mod Closing
@@ -31,5 +30,6 @@ pub mod Rested
 pub mod Senders
 pub mod Served
 pub mod Stepping
+pub mod Stored
 pub mod Turns
 pub mod TwoCalls

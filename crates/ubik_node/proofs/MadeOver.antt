@@ -1,42 +1,27 @@
 -- What was made of a call over a draft is of an outcome that may come.
 use Rattle.std.proofs.Common.{◌≡◌, ◌≢◌, ◌≤◌, ◌∙◌, ℕ, true, List, Option, Some, None, IfSome, length, refl, sym, ap, subst, arith}
 use Rattle.std.specs.Prelude.{IsSomeAnd, IfOk, Result, Ok, Err}
-use Rattle.ubik_types.specs.declared.images.Change.{Change}
 use Rattle.db_image.specs.declared.services.CallReply.{CallReply}
 use Rattle.db_image.specs.declared.services.CallReply.TheVariants as reply
 use Rattle.db_image.specs.declared.draft_services.CallEnd.{CallEnd}
 use Rattle.db_image.specs.Blocks.{changes_between}
-use Rattle.db_image.specs.Database.{Outcome, changes_of}
+use Rattle.db_image.specs.Database.{Outcome}
 use Rattle.db_image.specs.Ends.{EndsBy, IsShort, KeepsGrammar, end_of}
 use Rattle.db_image.specs.Standing.{Standing}
-use Rattle.cell_model.specs.Evaluating.{MayCome}
 use Rattle.ubik_node.specs.declared.evaluations.Evaluation.{Evaluation}
 use Rattle.ubik_node.specs.Evaluation.{IsMadeOf, IsMadeOver}
 
 -- an end by a reply is an end by an outcome with that reply
 ended_by : (o : Outcome) (r : CallReply) (image : List ℕ) → EndsBy o (end_of r) (Some image) → (end_of r ≡ end_of o.reply) × (Some image ≡ Some o.image)
 ended_by o (reply.Done fields) image is = is
-ended_by o (reply.Rule number) image is = is
-ended_by o reply.Malformed image is = is
-ended_by o (reply.BadRecord at) image is = is
+ended_by o other image is = is
 
 same_reply : (r q : CallReply) → end_of r ≡ end_of q → r ≡ q
 same_reply (reply.Done a) (reply.Done b) is = cc
-same_reply (reply.Done a) (reply.Rule b) is = absurd cc
-same_reply (reply.Done a) reply.Malformed is = absurd cc
-same_reply (reply.Done a) (reply.BadRecord b) is = absurd cc
-same_reply (reply.Rule a) (reply.Done b) is = absurd cc
 same_reply (reply.Rule a) (reply.Rule b) is = cc
-same_reply (reply.Rule a) reply.Malformed is = absurd cc
-same_reply (reply.Rule a) (reply.BadRecord b) is = absurd cc
-same_reply reply.Malformed (reply.Done b) is = absurd cc
-same_reply reply.Malformed (reply.Rule b) is = absurd cc
 same_reply reply.Malformed reply.Malformed is = refl
-same_reply reply.Malformed (reply.BadRecord b) is = absurd cc
-same_reply (reply.BadRecord a) (reply.Done b) is = absurd cc
-same_reply (reply.BadRecord a) (reply.Rule b) is = absurd cc
-same_reply (reply.BadRecord a) reply.Malformed is = absurd cc
 same_reply (reply.BadRecord a) (reply.BadRecord b) is = cc
+same_reply r q is = absurd cc
 
 same_image : (a b : List ℕ) → Some a ≡ Some b → a ≡ b
 same_image a b is = cc

@@ -14,7 +14,7 @@ use Rattle.ubik_store.specs.declared.faults.StoreFault.{StoreFault}
 use Rattle.ubik_store.specs.declared.faults.StoreFault.TheVariants.{DiskFault}
 use Rattle.ubik_store.specs.declared.stores.Store.{Store}
 use Rattle.ubik_store.specs.DurableCall.{HasFailed}
-use Rattle.ubik_store.specs.Store.{IsSound, StaysAsItWas, image_in}
+use Rattle.ubik_store.specs.Store.{StaysAsItWas, image_in}
 use Rattle.cell_model.specs.declared.events.Output.{Output}
 use Rattle.cell_model.specs.declared.events.Output.TheVariants as output
 use Rattle.cell_model.specs.Asks.{read_reply}
@@ -29,7 +29,6 @@ use Rattle.ubik_node.specs.Node.{Held, IsKept}
 use Rattle.ubik_node.specs.Serving.{IsReadReply, ReadsFrom}
 use Rattle.server_state.specs.State.{ShowsBehind}
 use Rattle.cell_model.specs.Node.{Server}
-use Rattle.ubik_node.proofs.Calling.{stored_read}
 use Rattle.ubik_node.proofs.Durables.{IsThere}
 use Rattle.ubik_node.proofs.Evaluated.{one_chosen}
 use Rattle.ubik_node.proofs.Endings.{failed_ends, ok_not, read_ends}
@@ -48,14 +47,14 @@ pub replied_as : {E : Type 0} (d : Standing) (one : Option Evaluated) (image : L
 replied_as d one image now call read (Ok e) so made = (so e made).reply
 replied_as d one image now call read (Err why) so made = tt
 
-module _ {D : Type 0} (g : Ghosts D) (d : Standing) (n : Held D) (s : Store D) (was : IsKept g n) (up : n.halted ≡ false) (sound : IsSound g s) (image : List ℕ) (now id : ℕ) (call : List ℕ) (before after : List Output) (one : Option Evaluated) (may : IfSome one (MayCome d)) where
+module _ {D : Type 0} (g : Ghosts D) (d : Standing) (n : Held D) (s : Store D) (was : IsKept g n) (up : n.store.failed ≡ false) (image : List ℕ) (now id : ℕ) (call : List ℕ) (before after : List Output) (one : Option Evaluated) (may : IfSome one (MayCome d)) where
   answered : {F : Type 0} (e : code.Evaluation) (told : Reply) → StaysAsItWas n.store s → OnlyReads g n.store.disk s.disk F → ¬ F → (IsSome (g.files n.store.disk) → e.reply ≡ (outcome_told one d.database image now call).reply)
       → after ≡ before ++ output.Reply id told ∷ [] → IsReadReply (Ok e) told → ReadsFrom g d n (record n { store = s }) image now id call before after (Ok tt)
   answered e told stays reads went outcome put says = (
     one_chosen d one may [],
     λ basis.
         let on : Evaluation = record { call = call; moment = now; basis = basis } in
-        read_ends g n (record n { store = s }) refl refl refl was up reads went (stored_read g n s was up sound stays reads went) refl (λ meant. (
+        read_ends g n (record n { store = s }) refl refl was up reads went (stays.failed ∙ up) refl (λ meant. (
           refl,
           put ∙ ap (λ (o : Output). before ++ o ∷ []) (sym (says id on) ∙ ap (λ (r : CallReply). (read_reply id on r).output) (outcome meant)),
         )),
@@ -63,14 +62,14 @@ module _ {D : Type 0} (g : Ghosts D) (d : Standing) (n : Held D) (s : Store D) (
 
   -- it found no memory
   short_answered : {F : Type 0} → StaysAsItWas n.store s → OnlyReads g n.store.disk s.disk F → ¬ F → after ≡ before ++ output.Reply id reply.NoMemory ∷ [] → ReadsFrom g d n (record n { store = s }) image now id call before after (Ok tt)
-  short_answered stays reads went put = (one_chosen d None tt (true ∷ []), λ basis. read_ends g n (record n { store = s }) refl refl refl was up reads went (stored_read g n s was up sound stays reads went) refl (λ meant. (refl, put)))
+  short_answered stays reads went put = (one_chosen d None tt (true ∷ []), λ basis. read_ends g n (record n { store = s }) refl refl was up reads went (stays.failed ∙ up) refl (λ meant. (refl, put)))
 
   -- the disk failed
   unanswered : {F : Type 0} → HasFailed n.store s → OnlyReads g n.store.disk s.disk F → F → ReadsFrom g d n (record n { store = s }) image now id call before after (Err DiskFault)
   unanswered has reads failed = (
     none_chosen d,
     λ basis.
-        failed_ends g n (record n { store = s }) refl refl refl DiskFault (inl refl) was up reads (λ _. refl) (λ _. failed) (λ other. absurd (other refl)) (λ _. record { sound = sound; failed = has.failed }) refl,
+        failed_ends g n (record n { store = s }) refl refl DiskFault (inl refl) was up reads (λ _. refl) (λ _. failed) (λ other. absurd (other refl)) (λ _. has.failed) refl,
   )
 
   pub read_ended : (made : Result code.Evaluation StoreFault) (r : Result (Unit {0}) StoreFault) → (¬ IsErrOf made DiskFault → StaysAsItWas n.store s) → (IsErrOf made DiskFault → HasFailed n.store s) → OnlyReads g n.store.disk s.disk (IsErrOf made DiskFault)

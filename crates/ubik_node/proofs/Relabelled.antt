@@ -1,10 +1,11 @@
 -- A relabelling: what goes to the others, and the server after it.
-use Rattle.std.proofs.Common.{◌≡◌, ◌≤◌, ◌<◌, ◌++◌, ℕ, zero, suc, Bool, true, false, cond, ltb, Option, Some, None, IfSome, IsSome, List, [], ◌∷◌, length, refl, sym, ap, ◌∙◌, append_assoc, arith}
+use Rattle.std.proofs.Common.{◌≡◌, ◌≤◌, ◌<◌, ◌++◌, ℕ, zero, suc, Bool, true, false, ltb, Option, Some, None, IfSome, IsSome, List, [], ◌∷◌, length, refl, sym, ap, ◌∙◌, append_assoc, arith}
+use Rattle.std.proofs.lemmas.Bool.{cond_both}
 use Rattle.std.proofs.lemmas.Bool.Decides.{nat_tests}
 use Rattle.std.proofs.lemmas.List.{map-append}
 use Rattle.ubik_types.specs.declared.hosts.Host.{Host}
 use Rattle.ubik_types.specs.declared.versions.Version.{Version}
-use Rattle.ubik_types.specs.Phase.{Polled, PhaseRecord, NoPhase, Poll, Fetch, Relabel, Send, Ready}
+use Rattle.ubik_types.specs.Phase.{Polled, PhaseRecord, Send, Ready}
 use Rattle.ubik_types.specs.Quorum.{is_majority}
 use Rattle.disk_base.specs.Files.{Files}
 use Rattle.ubik_store.specs.Store.{image_in}
@@ -13,9 +14,9 @@ use Rattle.cell_model.specs.Node.{Flight, Server}
 use Rattle.cell_model.specs.Pieces.{piece_from}
 use Rattle.cell_model.specs.Polls.{entry_at}
 use Rattle.cell_model.specs.Recovery.{spread_answer}
-use Rattle.cell_model.specs.Step.{Member, Shown, announcing, cell_size, outputs_of, quiet, sends_from, sends_to_each, showing, with_phase}
+use Rattle.cell_model.specs.Step.{Member, Shown, Stepped, cell_size, outputs_of, sends_from, sends_to_each}
 use Rattle.cell_model.specs.declared.events.Output.{Output}
-use Rattle.cell_model.specs.Writes.{ended_write, settled, settled_in}
+use Rattle.cell_model.specs.Writes.{settled, settled_in}
 use Rattle.server_rules.proofs.Turns.{sends_same}
 use Rattle.server_state.specs.declared.spreading.Given.{Given}
 use Rattle.server_state.specs.Spreading.{given_bodies}
@@ -72,21 +73,10 @@ piece_known (Some fs) piece image at told is there = is ∙ ap (λ (bytes : List
 
 -- what holders lead to makes no durable call
 settled_by : (m : Member) (s : Server) (phase : PhaseRecord) (flight : Option Flight) → (settled_in m (record s { flight = flight }) phase).calls ≡ []
-settled_by m s NoPhase flight = refl
-settled_by m s (Poll poll) flight = refl
-settled_by m s (Fetch poll best host) flight = refl
-settled_by m s (Relabel poll) flight = refl
-settled_by m s (Send poll spread) flight = by (is_majority (cell_size m) spread.holders)
-  where
-    by : (b : Bool) → (cond b (showing (with_phase (record s { flight = flight }) (Ready poll spread s.version)) (announcing s.version ∷ [])) (quiet (record s { flight = flight }))).calls ≡ []
-    by true = refl
-    by false = refl
+settled_by m s (Send poll spread) flight = cond_both (is_majority (cell_size m) spread.holders) _ _ (λ (t : Stepped). t.calls ≡ []) (λ _. refl) (λ _. refl)
 settled_by m s (Ready poll spread announced) None = refl
-settled_by m s (Ready poll spread announced) (Some f) = by (is_majority (cell_size m) spread.holders)
-  where
-    by : (b : Bool) → (cond b (ended_write (record s { flight = Some f }) f poll spread announced) (quiet (record s { flight = Some f }))).calls ≡ []
-    by true = refl
-    by false = refl
+settled_by m s (Ready poll spread announced) (Some f) = cond_both (is_majority (cell_size m) spread.holders) _ _ (λ (t : Stepped). t.calls ≡ []) (λ _. refl) (λ _. refl)
+settled_by m s other flight = refl
 
 pub settled_calls : (m : Member) (s : Server) → (settled m s).calls ≡ []
 settled_calls m s = settled_by m s s.phase s.flight

@@ -69,11 +69,7 @@ phase_is v r = by r.phase
   where
     by : (p : Phase) → phase_of (record_in p v r) ≡ p
     by phase.None = refl
-    by phase.Poll = refl
-    by phase.Fetch = refl
-    by phase.Relabel = refl
-    by phase.Send = refl
-    by phase.Ready = refl
+    by other = refl
 
 abbrev in_phase : HaltedServer → Phase → HaltedServer
 in_phase h p = record h { phase = p }

@@ -1,25 +1,29 @@
 -- A step of a server, and its opening.
-use Rattle.std.proofs.Common.{◌≡◌, ℕ, Bool, false, cond, None, List, [], refl, sym, ap, subst, ◌∙◌}
+use Rattle.std.proofs.Common.{◌≡◌, ℕ, Bool, true, false, cond, None, List, [], refl, sym, ap, subst, ◌∙◌}
 use Rattle.ubik_types.specs.declared.versions.Version.{Version}
 use Rattle.ubik_types.specs.Phase.{NoPhase}
 use Rattle.ubik_votes.specs.Voter.{Voter, fresh_voter}
 use Rattle.db_image.specs.Standing.{Standing}
 use Rattle.cell_model.specs.declared.events.NodeEvent.{NodeEvent}
 use Rattle.cell_model.specs.declared.events.Output.{Output}
-use Rattle.cell_model.specs.Durable.{Made, durable}
+use Rattle.cell_model.specs.Durable.{durable}
 use Rattle.cell_model.specs.Node as model
 use Rattle.cell_model.specs.Evaluating.{KeepsStates}
-use Rattle.cell_model.specs.Step.{Member, Stepped, outputs_of}
+use Rattle.cell_model.specs.Step.{Member, Stepped}
 use Rattle.cell_model.proofs.MeantSteps.{step_is_meant}
 use Rattle.disk_base.specs.declared.disks.Disk.{Ghosts}
 use Rattle.ubik_node.specs.Disk.{FailsIn, Serves}
 use Rattle.ubik_node.specs.declared.nodes.StepEnd.{StepEnd}
-use Rattle.ubik_node.specs.declared.nodes.StepEnd.TheVariants.{Done, Halted, NoMemory}
+use Rattle.ubik_node.specs.declared.nodes.StepEnd.TheVariants.{Done, Halted}
 use Rattle.ubik_node.specs.Node.{HoldsStates, Makes, Steps, StepsFreely, durable_in}
 
 -- a node that is not halted
 pub up_if : (b : Bool) (h : model.HaltedServer) (s : model.Server) → b ≡ false → cond b (model.Halted h) (model.Up s) ≡ model.Up s
 up_if b h s is = rw is refl
+
+-- and one that is
+pub halted_if : (b : Bool) (h : model.HaltedServer) (s : model.Server) → b ≡ true → cond b (model.Halted h) (model.Up s) ≡ model.Halted h
+halted_if b h s is = rw is refl
 
 -- a step from the node that is up
 pub steps_at : {D : Type 0} (g : Ghosts D) (d : Standing) (m : Member) (end : StepEnd) (e f : NodeEvent) (s : model.Server) (now : ℕ) (before after then : model.Node) (out : List Output) (old new : D)
@@ -38,17 +42,11 @@ steps_meant g d keeps m Done e now (model.Up s) after out old new holds steps =
     let o = steps.0 in
     let is = step_is_meant d keeps o.told o.may m s now e o.short holds.0.0 holds.1.0 holds.0.1 holds.1.1 in
     (o.short, subst (λ (t : Stepped). Makes t after out (Serves g (durable_in s) old new)) is steps.1)
-steps_meant g d keeps m Done e now (model.Halted h) after out old new holds steps = steps
-steps_meant g d keeps m Done e now model.Down after out old new holds steps = steps
 steps_meant g d keeps m Halted e now (model.Up s) after out old new holds steps =
     let o = steps.2 in
     let is = step_is_meant d keeps o.told o.may m s now e o.short holds.0.0 holds.1.0 holds.0.1 holds.1.1 in
     (steps.0, steps.1, o.short, subst (λ (t : Stepped). FailsIn g (durable_in s) old new t.calls) is steps.3)
-steps_meant g d keeps m Halted e now (model.Halted h) after out old new holds steps = steps
-steps_meant g d keeps m Halted e now model.Down after out old new holds steps = steps
-steps_meant g d keeps m NoMemory e now (model.Up s) after out old new holds steps = steps
-steps_meant g d keeps m NoMemory e now (model.Halted h) after out old new holds steps = steps
-steps_meant g d keeps m NoMemory e now model.Down after out old new holds steps = steps
+steps_meant g d keeps m end e now before after out old new holds steps = steps
 
 -- the server that was opened
 pub opened_is : (v : Voter) (n size me now : ℕ) (version : Version) (image : List ℕ) → v ≡ fresh_voter n me now → n ≡ size

@@ -8,7 +8,7 @@ use Rattle.std.proofs.lemmas.Bool.{false≢true}
 use Rattle.std.proofs.lemmas.List.{append-nil, map-append, take_all}
 use Rattle.ubik_types.specs.declared.images.Change.{Change}
 use Rattle.ubik_types.specs.Logged.{too_large}
-use Rattle.ubik_types.specs.Phase.{PhaseRecord, Polled, Spread, NoPhase, Poll, Fetch, Relabel, Send, Ready, phase_of}
+use Rattle.ubik_types.specs.Phase.{PhaseRecord, Polled, Spread, NoPhase, Send, Ready, phase_of}
 use Rattle.ubik_types.specs.Quorum.{is_majority}
 use Rattle.ubik_types.specs.declared.versions.Version.{Version}
 use Rattle.disk_base.specs.declared.disks.Disk.{Ghosts}
@@ -44,11 +44,7 @@ pub writes_busy : (p : PhaseRecord) (own : Option OwnRecord) → IsSome own
     → is_free_in p (option_map (λ (write : OwnRecord). write.flight) own) ≡ false
 writes_busy p None some = absurd (false≢true some)
 writes_busy NoPhase (Some write) some = refl
-writes_busy (Poll poll) (Some write) some = refl
-writes_busy (Fetch poll best host) (Some write) some = refl
-writes_busy (Relabel poll) (Some write) some = refl
-writes_busy (Send poll spread) (Some write) some = refl
-writes_busy (Ready poll spread announced) (Some write) some = refl
+writes_busy other (Some write) some = refl
 
 -- what was put out before is all that was put out
 pub front_whole : (r : Result (Unit {0}) StoreFault) (out : List Output) → OnErr r (take (length out) out ≡ out)
@@ -66,12 +62,8 @@ IsTurn s t = (is_free t.server ≡ false) ⊎ ((t.server ≡ s) × (t.calls ≡ 
 module _ (m : Member) (s : Server) (now id : ℕ) (call : List ℕ) (others : 1 < cell_size m) where
   written_turns : (answer image : List ℕ) (changes : List Change) (p : PhaseRecord) → s.phase ≡ p
       → IsTurn s (written_in m s now id call answer image changes p)
-  written_turns answer image changes NoPhase is = inl (ap (λ (p : PhaseRecord). is_free_in p s.flight) is)
-  written_turns answer image changes (Poll poll) is = inl (ap (λ (p : PhaseRecord). is_free_in p s.flight) is)
-  written_turns answer image changes (Fetch poll best host) is = inl (ap (λ (p : PhaseRecord). is_free_in p s.flight) is)
-  written_turns answer image changes (Relabel poll) is = inl (ap (λ (p : PhaseRecord). is_free_in p s.flight) is)
-  written_turns answer image changes (Send poll spread) is = inl (ap (λ (p : PhaseRecord). is_free_in p s.flight) is)
   written_turns answer image changes (Ready poll spread announced) is = inl (let few = one_is_few (cell_size m) m.me others in rw few refl)
+  written_turns answer image changes other is = inl (ap (λ (p : PhaseRecord). is_free_in p s.flight) is)
 
   counted_turns : (answer image : List ℕ) (changes : List Change) (b : Bool)
       → IsTurn s (cond b (last_counter m s now id) (written_in m s now id call answer image changes s.phase))
@@ -87,9 +79,7 @@ module _ (m : Member) (s : Server) (now id : ℕ) (call : List ℕ) (others : 1 
   replied_turns : (db : Database) (image : List ℕ) (r : CallReply) → IsTurn s (turned db m s now id call image r)
   replied_turns db image (call_reply.Done answer) =
       small_turns answer image (changes_of db s.image image) (too_large 0 (length s.image) (changes_of db s.image image))
-  replied_turns db image (call_reply.Rule number) = inr (refl, refl, refl)
-  replied_turns db image call_reply.Malformed = inr (refl, refl, refl)
-  replied_turns db image (call_reply.BadRecord at) = inr (refl, refl, refl)
+  replied_turns db image other = inr (refl, refl, refl)
 
   pub turn_is : (db : Database) (short : Bool) → IsTurn s (write_turn db m s now id call short)
   turn_is db true = inr (refl, refl, refl)
@@ -217,13 +207,11 @@ module _ {D : Type 0} (g : Ghosts D) {knows : Type 0} (dbs : Databases) (now : �
       → Ends g more (next_turns (behind_first dbs) mid.member now mid.server.waiting mid.server short) between after mid last r
       → Ends g knows (next_turns dbs n.member now n.server.waiting n.server (b ∷ short)) before after n last r
   turn_goes {more} mid last between short r fine ready so ends replied later =
-      let named_held : Server → Bool → ℕ → Member → Held D =
-      λ x h l k. record { store = mid.store; server = x; halted = h; last = l; member = k } in
+      let named_held : Server → ℕ → Member → Held D = λ x l k. record { store = mid.store; server = x; last = l; member = k } in
       let mid_is : mid ≡ record n { store = mid.store; server = s; member = place } =
-      ap (λ (x : Server). named_held x mid.halted mid.last mid.member) replied.server
-      ∙ ap (λ (h : Bool). named_held s h mid.last mid.member) ends.halted
-      ∙ ap (λ (l : ℕ). named_held s n.halted l mid.member) ends.last
-      ∙ ap (λ (k : Member). named_held s n.halted n.last k) ends.member in
+      ap (λ (x : Server). named_held x mid.last mid.member) replied.server
+      ∙ ap (λ (l : ℕ). named_held s l mid.member) ends.last
+      ∙ ap (λ (k : Member). named_held s n.last k) ends.member in
       let u = next_turns (behind_first dbs) mid.member now mid.server.waiting mid.server short in
       let same : u ≡ next_turns (behind_first dbs) n.member now waiting (with_line n.server waiting) short =
       ap (λ (k : Member). next_turns (behind_first dbs) k now mid.server.waiting mid.server short) (ends.member ∙ at)
@@ -302,12 +290,8 @@ module _ (m : Member) (s : Server) where
   settled_keeps ready = by s.phase refl ready
     where
       by : (p : PhaseRecord) → s.phase ≡ p → is_ready p ≡ true → halted_from (settled_in m s p).server ≡ halted_from s
-      by NoPhase is ready = absurd (false≢true ready)
-      by (Poll poll) is ready = absurd (false≢true ready)
-      by (Fetch poll best host) is ready = absurd (false≢true ready)
-      by (Relabel poll) is ready = absurd (false≢true ready)
-      by (Send poll spread) is ready = absurd (false≢true ready)
       by (Ready poll spread announced) is ready = ended_keeps poll spread announced is s.flight
+      by other is ready = absurd (false≢true ready)
 
   ended_line : (poll : Polled) (spread : Spread) (announced : Version) (o : Option Flight)
       → (flight_settled m s poll spread announced o).server.waiting ≡ s.waiting
@@ -327,12 +311,9 @@ module _ (m : Member) (s : Server) where
       by_majority poll spread false = refl
 
       by : (p : PhaseRecord) → (settled_in m s p).server.waiting ≡ s.waiting
-      by NoPhase = refl
-      by (Poll poll) = refl
-      by (Fetch poll best host) = refl
-      by (Relabel poll) = refl
       by (Send poll spread) = by_majority poll spread (is_majority (cell_size m) spread.holders)
       by (Ready poll spread announced) = ended_line poll spread announced s.flight
+      by other = refl
 
 -- so does one at which nobody waits, or one whose disk does not fail
 pub settled_halts : (m : Member) (s mid : Server) → (settled m s).server ≡ mid

@@ -33,7 +33,7 @@ use Rattle.cell_model.specs.Node.{Server}
 use Rattle.cell_model.specs.Step.{Member, Stepped, outputs_of}
 use Rattle.ubik_node.specs.Disk.{FailsIn, LeavesWithin, Serves, StandsAs, StandsBetween, StandsWithin, TakenCutsNoPut, calls_made, has_label}
 use Rattle.ubik_node.specs.Node.{Ends, Held, IsKept, durable_in}
-use Rattle.ubik_node.proofs.Calling.{call_failed, ended, told_by}
+use Rattle.ubik_node.proofs.Calling.{call_failed, ended, failed_leaves, told_by}
 use Rattle.ubik_node.proofs.Durables.{IsThere, calls_one, fails_one, image_then, leaves_one, serves_one}
 use Rattle.ubik_node.proofs.Endings.{ends_as, made_ends, reads_none}
 
@@ -204,20 +204,20 @@ module _ {D : Type 0} (g : Ghosts D) (old mid : D) (d : Durable) (first second :
           as_many : (a b x n y : ℕ) → b ≡ a + (x + 0) → b ≡ a + n → n + y ≡ x + y
           as_many a b x n y one run = omega arith
 
-module _ {D : Type 0} (g : Ghosts D) (n : Held D) (was : IsKept g n) (up : n.halted ≡ false) (mid : Store D) (sound : IsSound g mid) (changes : List Change) (v : Version) (image : List ℕ)
+module _ {D : Type 0} (g : Ghosts D) (n : Held D) (was : IsKept g n) (up : n.store.failed ≡ false) (mid : Store D) (sound : IsSound g mid) (changes : List Change) (v : Version) (image : List ℕ)
     (first second : Made) (leads : effect n.server.image changes ≡ image) (same : durable_after (durable_in n.server) first.call ≡ durable v image) (cuts : TakenCutsNoPut first.reason first.call → CutsNoPut changes) (count : change_count first.call ≡ length changes) where
   -- the first call was not made
   pub first_failed : {knows : Type 0} {t : Stepped} {before after : List Output} → t.calls ≡ first ∷ second ∷ [] → (long : ℕ → Type 0) (e : StoreFault) → EndsAs g long v n.store mid e → version_lt n.store.version v ≡ true → ((bytes : ℕ) → long bytes → ⊥) → IsDurable g changes v n.store mid (IsErrOf (ended e) DiskFault)
       → Ends g knows t before after n (record n { store = mid }) (Err e)
   first_failed {knows} {t} {before} {after} calls long e ends newer fits durably =
       let one : Ends g knows (record t { calls = first ∷ [] }) before after n (record n { store = mid }) (Err e) =
-      call_failed g n was up n.store (reads_none g n.store.disk) (λ none. none) was.sound (record { version = refl; len = refl; begun = refl; failed = refl }) mid sound changes v image first leads same cuts count refl long e ends newer fits durably in
+      call_failed g n was up n.store (reads_none g n.store.disk) (λ none. none) was up mid changes v image first leads same cuts count refl long e ends newer fits durably in
       ends_as g (λ _. tt) (λ known _.
       subst (λ (all : List Made). FailsIn g (durable_in n.server) n.store.disk mid.disk all) (sym calls)
-      (fails_first g n.store.disk mid.disk (durable_in n.server) first second n.store mid changes refl refl (was.sound.ready (was.failed ∙ up)) count
+      (fails_first g n.store.disk mid.disk (durable_in n.server) first second n.store mid changes refl refl (was.sound.ready up) count
       (leaves_one g n.store mid (durable_in n.server) changes v image first (was.image up) (was.version up) leads same cuts durably) durably.few)) one
 
-  module _ {F : Type 0} (done : Commits g changes v n.store mid) (durably : IsDurable g changes v n.store mid F) (went : ¬ F) (later : Store D) (sound_later : IsSound g later) (w : Version) (none : change_count second.call ≡ 0)
+  module _ {F : Type 0} (done : Commits g changes v n.store mid) (durably : IsDurable g changes v n.store mid F) (went : ¬ F) (later : Store D) (w : Version) (none : change_count second.call ≡ 0)
       (next : durable_after (durable v image) second.call ≡ durable w image) where
     ready : IsReady g mid
     ready = sound.ready done.failed
@@ -237,19 +237,11 @@ module _ {D : Type 0} (g : Ghosts D) (n : Held D) (was : IsKept g n) (up : n.hal
     one = serves_one g n.store mid (durable_in n.server) changes v image first (was.image up) (was.version up) leads same cuts count done.steps durably
 
     -- both were made
-    pub both_made : {knows : Type 0} {t : Stepped} {before after : List Output} {G : Type 0} → t.calls ≡ first ∷ second ∷ [] → (server : Server) (place : Member) → place ≡ n.member → Commits g [] w mid later → IsDurable g [] w mid later G → ¬ G → server.version ≡ w → length server.image ≡ later.len → IsThere server.image (image_in (g.files later.disk))
-        → (knows → (t.server ≡ server) × (after ≡ before ++ outputs_of t.shown)) → Ends g knows t before after n (record n { store = later; server = server; member = place }) (Ok tt)
-    both_made calls server place member also durably_too fine version len holds shows =
-        made_ends g n (record n { store = later; server = server; member = place }) refl refl member
+    pub both_made : {knows : Type 0} {t : Stepped} {before after : List Output} {G : Type 0} → t.calls ≡ first ∷ second ∷ [] → (server : Server) (place : Member) → place ≡ n.member → Commits g [] w mid later → IsDurable g [] w mid later G → ¬ G → (knows → (t.server ≡ server) × (after ≡ before ++ outputs_of t.shown)) → Ends g knows t before after n (record n { store = later; server = server; member = place }) (Ok tt)
+    both_made calls server place member also durably_too fine shows =
+        made_ends g n (record n { store = later; server = server; member = place }) refl member
         (14 + length changes + 14, calls_as (omega arith) (λ failed. fine failed) (λ none. absurd none) (calls_joined durably.calls went durably_too.calls))
-        (record {
-          sound = sound_later;
-          version = λ _. also.version ∙ sym version;
-          len = λ _. sym len;
-          none_begun = λ _. also.begun;
-          failed = also.failed ∙ sym up;
-          image = λ _. holds;
-        })
+        also.failed
         (λ told. told_by (λ bytes. effect bytes []) (g.files mid.disk) (g.files later.disk) also.image (tells told))
         (λ known.
         let shown = shows known in
@@ -273,14 +265,9 @@ module _ {D : Type 0} (g : Ghosts D) (n : Held D) (was : IsKept g n) (up : n.hal
           (fails_second g n.store.disk mid.disk (durable_in n.server) first second later.disk tells label one durably.calls.advances
           (subst (λ (e : Durable). FailsIn g e mid.disk later.disk (second ∷ [])) (sym same)
           (fails_one g mid later (durable v image) [] w image second ready there done.version refl next (λ _. tt) none durably_too)));
-      short = λ other. absurd (other refl);
+      leaves = failed_leaves g later ends.failed (14 + length changes + 14, calls_as (omega arith) (λ failed. failed) (λ failed. failed) (calls_joined durably.calls went durably_too.calls));
       state = λ other. refl;
       keeps = λ failed. refl;
-      stored = λ fine. absurd (fine refl);
-      halts = λ _. record { sound = sound_later; failed = ends.failed };
-      told = λ fine. absurd (fine refl);
-      calls = (14 + length changes + 14, calls_as (omega arith) (λ failed. failed) (λ failed. failed) (calls_joined durably.calls went durably_too.calls));
-      halted = refl;
       last = refl;
       member = refl;
     }

@@ -1,14 +1,15 @@
 pub mod Acts
-pub mod Appending
 pub mod Built
 pub mod Choices
 pub mod Database
 pub mod Debug
 pub mod Disk
 pub mod Evaluation
+pub mod Lone
 pub mod Node
 pub mod Serving
 pub mod StoreImages
+pub mod Stored
 pub mod Taking
 pub mod Unanswered
 pub mod Verdict

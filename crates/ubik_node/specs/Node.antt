@@ -1,5 +1,5 @@
 -- What a node stands for, and what a step of it is.
-use Rattle.std.specs.Prelude.{◌≡◌, ◌≢◌, ◌<◌, ◌++◌, ℕ, Bool, true, false, if◌then◌else◌, None, IfSome, IsSome, Option, List, [], length, Result, Ok, Err, OnOk, IfErr, IsErrOf}
+use Rattle.std.specs.Prelude.{◌≡◌, ◌≢◌, ◌<◌, ◌++◌, ℕ, Bool, true, false, if◌then◌else◌, IsSome, Option, List, [], Result, Ok, Err, OnOk, IfErr, IsErrOf}
 use Rattle.disk_base.specs.declared.disks.Disk.{Ghosts}
 use Rattle.disk_base.specs.Files.{Files}
 use Rattle.disk_base.specs.Runs.{OnlyReads}
@@ -11,8 +11,6 @@ use Rattle.ubik_store.specs.declared.faults.StoreFault.{StoreFault}
 use Rattle.ubik_store.specs.declared.faults.StoreFault.TheVariants as fault
 use Rattle.ubik_store.specs.Calls.{CallsAtMost}
 use Rattle.ubik_store.specs.declared.stores.Store.{Store}
-use Rattle.ubik_store.specs.Store.{IsSound, image_in}
-use Rattle.ubik_types.specs.declared.versions.Version.{Version}
 use Rattle.cell_model.specs.declared.events.NodeEvent.{NodeEvent}
 use Rattle.cell_model.specs.declared.events.NodeEvent.TheVariants as events
 use Rattle.cell_model.specs.declared.events.Output.{Output}
@@ -28,45 +26,28 @@ use Rattle.ubik_node.specs.declared.nodes.StepEnd.TheVariants.{Done, Halted, NoM
 use Rattle.ubik_node.specs.Choices.{Choices, dbs_of}
 use Rattle.ubik_node.specs.Disk.{FailsIn, Serves}
 use Rattle.ubik_node.specs.Evaluation.{is_evaluated}
+use Rattle.ubik_node.specs.Stored.{IsStoredAs}
 use Rattle.server_state.specs.State.{server_of, member_of}
 
 -- the server of a node that is not halted
-abbrev pub up_server : {D V : Type 0} → Node D V → model.Server
+abbrev pub up_server : {D V : Type 0} {g : Ghosts D} → Node D V g → model.Server
 up_server n = server_of n.state
 
 -- the hosts of the node's cell, and its own place among them
-abbrev pub own_member : {D V : Type 0} → Node D V → Member
+abbrev pub own_member : {D V : Type 0} {g : Ghosts D} → Node D V g → Member
 own_member n = member_of n.state
 
 -- the abstract server
-abbrev pub node_of : {D V : Type 0} → Node D V → model.Node
-node_of n = if n.halted then model.Halted (model.halted_from (up_server n)) else model.Up (up_server n)
-
--- The store of a node has its version and its image, and nothing is begun there; it has failed where the node is halted. A halted node tells
--- what was before the step that halted it, in which a durable call may have been made whole.
-pub record IsStoredAs {D : Type 0} (g : Ghosts D) (store : Store D) (own : Version) (bytes : List ℕ) (stops : Bool) : Type 0 where
-  pub sound : IsSound g store
-  pub version : stops ≡ false → store.version ≡ own
-  pub len : stops ≡ false → store.len ≡ length bytes
-  pub none_begun : stops ≡ false → store.begun ≡ None
-  pub failed : store.failed ≡ stops
-  pub image : stops ≡ false → IfSome (image_in (g.files store.disk)) (λ there. there ≡ bytes)
-
-abbrev pub IsStored : {D V : Type 0} → Ghosts D → Node D V → Type 0
-IsStored g n = IsStoredAs g n.store n.state.version n.state.image n.halted
-
--- the store of a node in the step that halts it, which has failed first
-pub record HasFailedStore {D : Type 0} (g : Ghosts D) (store : Store D) : Type 0 where
-  pub sound : IsSound g store
-  pub failed : store.failed ≡ true
+abbrev pub node_of : {D V : Type 0} {g : Ghosts D} → Node D V g → model.Node
+node_of n = if n.store.failed then model.Halted (model.halted_from (up_server n)) else model.Up (up_server n)
 
 -- a run of calls of a disk, however many: a stop in it makes it fail, and a failure has its cause
 abbrev pub CallsSo : {D : Type 0} → Ghosts D → (old new : D) → Type 0 → Type 0
 CallsSo g old new failed = (most : ℕ) × CallsAtMost g most old new failed
 
 -- so of a step that ended so: it fails where it halts a node that was not halted
-abbrev pub Calls : {D V : Type 0} → Ghosts D → (old new : Node D V) → StepEnd → Type 0
-Calls g old new end = CallsSo g old.store.disk new.store.disk ((end ≡ Halted) × (old.halted ≡ false))
+abbrev pub Calls : {D V : Type 0} (g : Ghosts D) → (old new : Node D V g) → StepEnd → Type 0
+Calls g old new end = CallsSo g old.store.disk new.store.disk ((end ≡ Halted) × (old.store.failed ≡ false))
 
 -- the durable state of a server that is up
 abbrev pub durable_in : model.Server → Durable
@@ -143,23 +124,22 @@ last_after Done last now = now
 last_after Halted last now = now
 
 -- the disk tells its files, where there is another server to send something of them to
-abbrev pub Knows : {D V : Type 0} → Ghosts D → Node D V → Type 0
+abbrev pub Knows : {D V : Type 0} (g : Ghosts D) → Node D V g → Type 0
 Knows g n = 1 < cell_size (own_member n) → IsSome (g.files n.store.disk)
 
 -- a node as rules see it
 pub record Held (D : Type 0) : Type 0 where
   pub store : Store D
   pub server : model.Server
-  pub halted : Bool
   pub last : ℕ
   pub member : Member
 
-abbrev pub held : {D V : Type 0} → Node D V → Held D
-held n = record { store = n.store; server = up_server n; halted = n.halted; last = n.last; member = own_member n }
+abbrev pub held : {D V : Type 0} {g : Ghosts D} → Node D V g → Held D
+held n = record { store = n.store; server = up_server n; last = n.last; member = own_member n }
 
 -- its store is that of the server
 abbrev pub IsKept : {D : Type 0} → Ghosts D → Held D → Type 0
-IsKept g h = IsStoredAs g h.store h.server.version h.server.image h.halted
+IsKept g h = IsStoredAs g h.store h.server.version h.server.image
 
 -- A rule was made: the server after it, what it put out behind what stood there, and what the disk did for its durable calls.
 pub record IsMade {D : Type 0} (g : Ghosts D) (t : Stepped) (before after : List Output) (old new : Held D) : Type 0 where
@@ -167,20 +147,23 @@ pub record IsMade {D : Type 0} (g : Ghosts D) (t : Stepped) (before after : List
   pub outputs : after ≡ before ++ outputs_of t.shown
   pub disk : Serves g (durable_in old.server) old.store.disk new.store.disk t.calls
 
+-- What a rule that ended so left of a store that had not failed, and of its disk: where memory ran out nothing changed.
+pub record LeavesStore {D : Type 0} (g : Ghosts D) (old : D) (new : Store D) (r : Result (Unit {0}) StoreFault) : Type 0 where
+  pub short : IfErr r (λ why. why ≢ fault.DiskFault → (why ≡ fault.NoMemory) × OnlyReads g old new.disk ⊥)
+  pub halts : IsErrOf r fault.DiskFault → new.failed ≡ true
+  pub runs : ¬ IsErrOf r fault.DiskFault → new.failed ≡ false
+  pub told : ¬ IsErrOf r fault.DiskFault → IsSome (g.files old) → IsSome (g.files new.disk)
+  pub calls : CallsSo g old new.disk (IsErrOf r fault.DiskFault)
+
 -- How a rule ended at a node that is not halted. As far as the disk tells what that needs, it was made, or the disk failed in it; or memory
 -- ran out, and nothing changed. Where the disk failed the server keeps what a halted one tells. Where a rule was not made, what was put out
 -- counts for nothing.
 pub record Ends {D : Type 0} (g : Ghosts D) (knows : Type 0) (t : Stepped) (before after : List Output) (old new : Held D) (r : Result (Unit {0}) StoreFault) : Type 0 where
   pub made : knows → OnOk r (IsMade g t before after old new)
   pub failed : knows → IsErrOf r fault.DiskFault → FailsIn g (durable_in old.server) old.store.disk new.store.disk t.calls
-  pub short : IfErr r (λ why. why ≢ fault.DiskFault → (why ≡ fault.NoMemory) × OnlyReads g old.store.disk new.store.disk ⊥)
+  pub leaves : LeavesStore g old.store.disk new.store r
   pub state : IfErr r (λ why. why ≢ fault.DiskFault → new.server ≡ old.server)
   pub keeps : IsErrOf r fault.DiskFault → model.halted_from new.server ≡ model.halted_from old.server
-  pub stored : ¬ IsErrOf r fault.DiskFault → IsKept g new
-  pub halts : IsErrOf r fault.DiskFault → HasFailedStore g new.store
-  pub told : ¬ IsErrOf r fault.DiskFault → IsSome (g.files old.store.disk) → IsSome (g.files new.store.disk)
-  pub calls : CallsSo g old.store.disk new.store.disk (IsErrOf r fault.DiskFault)
-  pub halted : new.halted ≡ old.halted
   pub last : new.last ≡ old.last
   pub member : new.member ≡ old.member
 
@@ -188,10 +171,10 @@ pub record Ends {D : Type 0} (g : Ghosts D) (knows : Type 0) (t : Stepped) (befo
 abbrev pub EndsSo : {D : Type 0} → Ghosts D → (d : Standing) → (knows : Type 0) → (Choices d → Stepped) → (before after : List Output) → (old new : Held D) → Result (Unit {0}) StoreFault → Type 0
 EndsSo g d knows t before after old new r = (o : Choices d) × Ends g knows (t o) before after old new r
 
--- a step whose rule the disk failed in: the server is halted, and keeps what a halted one tells
+-- a step whose rule the disk failed in: the server keeps what a halted one tells
 abbrev pub IsHalting : {D : Type 0} → NodeEvent → (back : model.Server) → (old new : Held D) → List Output → StepEnd → Type 0
 IsHalting event back old new after end =
-    (end ≡ Halted) × ((s : model.Server) × (new ≡ record old { server = s; halted = true }) × (model.halted_from s ≡ model.halted_from back))
+    (end ≡ Halted) × ((s : model.Server) × (new ≡ record old { server = s }) × (model.halted_from s ≡ model.halted_from back))
     × (after ≡ outputs_of (refusals event))
 
 -- How a step is closed by the end of its rule. Where the rule was not made, what the lapse gave out comes back, and nothing is put out.

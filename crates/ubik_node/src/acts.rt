@@ -21,7 +21,7 @@ use ubik_store::StoreFault;
 use ubik_types::{Bytes, Host};
 
 impl<D: Disk, V: DraftService> Node<D, V> {
-    ghost use Rattle.ubik_node.specs.Node.{Ends, EndsSo, held, IsStored, Knows, NeedsFiles, own_member, up_server};
+    ghost use Rattle.ubik_node.specs.Node.{Ends, EndsSo, held, Knows, NeedsFiles, own_member, up_server};
 
     /// A packet of a server of the cell: what is to be done is decided, and then done.
     pub(crate) fn heard(
@@ -33,8 +33,7 @@ impl<D: Disk, V: DraftService> Node<D, V> {
         out: &mut Outputs,
     ) -> Result<(), StoreFault>
         requires moment { IsMoment now }
-        requires not_halted { self.old.halted ≡ false }
-        requires stored { IsStored D.Disk self.old }
+        requires not_halted { self.old.store.failed ≡ false }
         requires few { length out.old ≤ 100 }
         requires from { from < length self.old.state.cell }
         requires built { IsBuiltBody packet.now }
@@ -50,8 +49,7 @@ impl<D: Disk, V: DraftService> Node<D, V> {
     /// The recovery turn of a server that is not halted, after the lapse.
     pub(crate) fn recover(&mut self, now: u32, out: &mut Outputs) -> Result<(), StoreFault>
         requires moment { IsMoment now }
-        requires not_halted { self.old.halted ≡ false }
-        requires stored { IsStored D.Disk self.old }
+        requires not_halted { self.old.store.failed ≡ false }
         requires few { length out.old ≤ 100 }
         ensures { EndsSo D.Disk V.standing (Knows D.Disk self.old) (λ _. recovery_turn (own_member self.old) (up_server self.old) now)
             out.old out.new (held self.old) (held self.new) result }
@@ -68,8 +66,7 @@ impl<D: Disk, V: DraftService> Node<D, V> {
         out: &mut Outputs,
     ) -> Result<(), StoreFault>
         requires moment { IsMoment now }
-        requires not_halted { self.old.halted ≡ false }
-        requires stored { IsStored D.Disk self.old }
+        requires not_halted { self.old.store.failed ≡ false }
         requires room { HasRoom act (length out.old) }
         requires can { CanAct self.old.state act }
         ensures ends { EndsSo D.Disk V.standing (ActNeeds act.entry (Knows D.Disk self.old) (IsSome (D.files self.old.store.disk)))
@@ -112,8 +109,7 @@ impl<D: Disk, V: DraftService> Node<D, V> {
         asked: bool,
         out: &mut Outputs,
     ) -> Result<(), StoreFault>
-        requires not_halted { self.old.halted ≡ false }
-        requires stored { IsStored D.Disk self.old }
+        requires not_halted { self.old.store.failed ≡ false }
         requires few { length out.old ≤ 100 }
         requires within { at ≤ length self.old.state.image }
         ensures { Ends D.Disk (IsSome (D.files self.old.store.disk))

@@ -28,7 +28,7 @@ impl<D: Disk, V: DraftService> Node<D, V> {
     ghost use Rattle.cell_model.specs.Step.{is_short};
     ghost use Rattle.cell_model.specs.Writes.{announced_image, is_free, next_version, write_turn, written_in};
     ghost use Rattle.ubik_node.specs.Choices.{dbs_of};
-    ghost use Rattle.ubik_node.specs.Node.{Ends, EndsSo, held, IsStored, own_member, up_server};
+    ghost use Rattle.ubik_node.specs.Node.{Ends, EndsSo, held, own_member, up_server};
     ghost use Rattle.ubik_node.specs.Serving.{IsRepliedTo, ReadsFrom};
     ghost use Rattle.ubik_node.specs.Verdict.{IsWritten};
 
@@ -40,8 +40,7 @@ impl<D: Disk, V: DraftService> Node<D, V> {
         call: &[u8],
         out: &mut Outputs,
     ) -> Result<(), StoreFault>
-        requires not_halted { self.old.halted ≡ false }
-        requires stored { IsStored D.Disk self.old }
+        requires not_halted { self.old.store.failed ≡ false }
         requires few { length out.old ≤ 100 }
         ensures ends { EndsSo D.Disk V.standing
             (is_evaluated (own_member self.old) (up_server self.old) now (V.standing.database.writes call.now) ≡ true → IsSome (D.files self.old.store.disk))
@@ -70,8 +69,7 @@ impl<D: Disk, V: DraftService> Node<D, V> {
 
     /// Replies to a call that reads the announced image: during a write in flight the one before it.
     fn read(&mut self, now: u32, id: u32, call: &[u8], out: &mut Outputs) -> Result<(), StoreFault>
-        requires not_halted { self.old.halted ≡ false }
-        requires stored { IsStored D.Disk self.old }
+        requires not_halted { self.old.store.failed ≡ false }
         requires few { length out.old ≤ 100 }
         ensures ends { ReadsFrom D.Disk V.standing (held self.old) (held self.new) (announced_image (up_server self.old)) now id call.now out.old out.new result }
         ensures memory { IsErrOf result StoreFault.DiskFault ⊎ IsOk result }
@@ -91,8 +89,7 @@ impl<D: Disk, V: DraftService> Node<D, V> {
         call: &[u8],
         out: &mut Outputs,
     ) -> Result<(), StoreFault>
-        requires not_halted { self.old.halted ≡ false }
-        requires stored { IsStored D.Disk self.old }
+        requires not_halted { self.old.store.failed ≡ false }
         requires few { length out.old ≤ 100 }
         ensures ends { ReadsFrom D.Disk V.standing (held self.old) (held self.new) self.old.state.image now id call.now out.old out.new result }
         ensures memory { IsErrOf result StoreFault.DiskFault ⊎ IsOk result }
@@ -109,8 +106,7 @@ impl<D: Disk, V: DraftService> Node<D, V> {
         call: &[u8],
         out: &mut Outputs,
     ) -> Result<(), StoreFault>
-        requires not_halted { self.old.halted ≡ false }
-        requires stored { IsStored D.Disk self.old }
+        requires not_halted { self.old.store.failed ≡ false }
         requires serving { IsServing self.old.state.recovery }
         requires free { own_of self.old.state.writes ≡ None }
         requires few { length out.old + length (waiting_of self.old.state.writes) ≤ 180 }
@@ -145,8 +141,7 @@ impl<D: Disk, V: DraftService> Node<D, V> {
         call: &[u8],
         out: &mut Outputs,
     ) -> Result<(), StoreFault>
-        requires not_halted { self.old.halted ≡ false }
-        requires stored { IsStored D.Disk self.old }
+        requires not_halted { self.old.store.failed ≡ false }
         requires serving { IsServing self.old.state.recovery }
         requires free { own_of self.old.state.writes ≡ None }
         requires few { length out.old + length (waiting_of self.old.state.writes) ≤ 180 }
@@ -185,8 +180,7 @@ impl<D: Disk, V: DraftService> Node<D, V> {
         changes: &Changes,
         out: &mut Outputs,
     ) -> Result<(), StoreFault>
-        requires not_halted { self.old.halted ≡ false }
-        requires stored { IsStored D.Disk self.old }
+        requires not_halted { self.old.store.failed ≡ false }
         requires serving { IsServing self.old.state.recovery }
         requires free { own_of self.old.state.writes ≡ None }
         requires counter { self.old.state.version.counter < MAX_COUNTER }

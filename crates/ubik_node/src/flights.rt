@@ -64,7 +64,7 @@ pub fn flight_over<D: Disk>(
 
 impl<D: Disk, V: DraftService> Node<D, V> {
     ghost use Rattle.cell_model.specs.Writes.{written_in};
-    ghost use Rattle.ubik_node.specs.Node.{Ends, held, IsStored, own_member, up_server};
+    ghost use Rattle.ubik_node.specs.Node.{Ends, held, own_member, up_server};
     ghost use Rattle.ubik_node.specs.Verdict.{IsWritten};
 
     /// Commits changes under the next counter, and sends them to the other servers: they are in flight until a majority has them. All memory is
@@ -78,8 +78,7 @@ impl<D: Disk, V: DraftService> Node<D, V> {
         changes: &Changes,
         out: &mut Outputs,
     ) -> Result<(), StoreFault>
-        requires not_halted { self.old.halted ≡ false }
-        requires stored { IsStored D.Disk self.old }
+        requires not_halted { self.old.store.failed ≡ false }
         requires serving { IsServing self.old.state.recovery }
         requires free { own_of self.old.state.writes ≡ None }
         requires counter { self.old.state.version.counter < MAX_COUNTER }

@@ -11,7 +11,7 @@ use ubik_store::StoreFault;
 
 impl<D: Disk, V: DraftService> Node<D, V> {
     ghost use Rattle.ubik_node.specs.Choices.{dbs_of};
-    ghost use Rattle.ubik_node.specs.Node.{EndsSo, held, IsStored, own_member, up_server};
+    ghost use Rattle.ubik_node.specs.Node.{EndsSo, held, own_member, up_server};
 
     /// Holders have come: a write that a majority has is over, and those that wait have their turns.
     pub(crate) fn settle_with_turns(
@@ -19,8 +19,7 @@ impl<D: Disk, V: DraftService> Node<D, V> {
         now: u32,
         out: &mut Outputs,
     ) -> Result<(), StoreFault>
-        requires not_halted { self.old.halted ≡ false }
-        requires stored { IsStored D.Disk self.old }
+        requires not_halted { self.old.store.failed ≡ false }
         requires few { length out.old ≤ 100 }
         ensures ends { EndsSo D.Disk V.standing (IsSome (D.files self.old.store.disk))
             (λ o. settled_with_turns (dbs_of o) (own_member self.old) (up_server self.old) now o.short)
@@ -33,8 +32,7 @@ impl<D: Disk, V: DraftService> Node<D, V> {
 
     /// The turns of those that wait, in their order, until one of them is in flight or a new poll has begun.
     fn take_turns(&mut self, now: u32, out: &mut Outputs) -> Result<(), StoreFault>
-        requires not_halted { self.old.halted ≡ false }
-        requires stored { IsStored D.Disk self.old }
+        requires not_halted { self.old.store.failed ≡ false }
         requires few { length out.old ≤ 102 }
         ensures ends { EndsSo D.Disk V.standing (IsSome (D.files self.old.store.disk))
             (λ o. next_turns (dbs_of o) (own_member self.old) now (up_server self.old).waiting (up_server self.old) o.short)

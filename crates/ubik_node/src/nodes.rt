@@ -12,6 +12,9 @@ ghost use Rattle.ubik_calls.specs.declared.frames.Frame.TheVariants as frames;
 ghost use Rattle.ubik_calls.specs.WireGrammar.{HasSpelling};
 ghost use Rattle.ubik_node.specs.Built.{BodyTakesNoMemory, IsBuilt, IsBuiltBody, TakesNoMemory};
 ghost use Rattle.server_state.specs.Recovering.{IsOfCell};
+ghost use Rattle.std.proofs.Props.{props};
+ghost use Rattle.ubik_node.specs.Lone.{IsSeamless-prop, IsWithinImage-prop};
+ghost use Rattle.ubik_node.specs.Stored.{IsStoredAs};
 
 use crate::asking::put_reply;
 use cell_model::NodeEvent;
@@ -39,23 +42,23 @@ pub enum StepEnd {
 }
 
 /// A server that is up, over the store of its disk, and the database that it serves.
-pub struct Node<D: Disk, V: DraftService> {
+pub struct Node<D: Disk, V> {
     pub(crate) alloc: Global,
     pub(crate) store: Store<D>,
     pub(crate) state: State,
-    pub(crate) halted: bool,
     last: u32,
     service: PhantomData<V>,
+    // So it is in each node, also in one that a lock hands out.
+    pub ghost stored: { IsStoredAs D.Disk store state.version state.image } by { Prim.hlevel (props, IsSeamless-prop, IsWithinImage-prop) },
 }
 
 // Derived, it would be spelled out for each field wherever a caller lets a server go, and proved there.
-impl<D: Disk + Drop, V: DraftService> Drop for Node<D, V> {
+impl<D: Disk + Drop, V> Drop for Node<D, V> {
     fn drop(self) {
         let Self {
             alloc: _,
             store: _,
             state: _,
-            halted: _,
             last: _,
             service: _,
         } = self;
@@ -71,7 +74,7 @@ impl<D: Disk, V: DraftService> Node<D, V> {
     ghost use Rattle.ubik_node.specs.Disk.{StandsAs};
     ghost use Rattle.server_state.specs.Lapsing.{IsDroppedOf, returned};
     ghost use Rattle.ubik_node.specs.Choices.{dbs_of};
-    ghost use Rattle.ubik_node.specs.Node.{Calls, Closes, EndsSo, held, HoldsStates, IsStored, Needs, NeedsFiles, NeedsThen, Steps, StepsFreely, last_after, node_of, own_member, up_server};
+    ghost use Rattle.ubik_node.specs.Node.{Calls, Closes, EndsSo, held, HoldsStates, Needs, NeedsFiles, NeedsThen, Steps, StepsFreely, last_after, node_of, own_member, up_server};
 
     /// Opens a server over its disk, on which nothing is pending, at a moment in seconds: the server at a place of the cell. An
     /// empty disk is an empty database of version 0.0. A refusal is that of the store, and hands the disk back as the store left it.
@@ -88,7 +91,6 @@ impl<D: Disk, V: DraftService> Node<D, V> {
         ensures opened { IfOk result (λ node. (d : Durable) × (node_of node ≡ model.Up (model.opened_server (length cell) d now))
             × IfSome (D.files disk) (StandsAs d)) }
         ensures member { IfOk result (λ node. own_member node ≡ record { hosts = cell; me = me }) }
-        ensures stored { IfOk result (IsStored D.Disk) }
         ensures last { IfOk result (λ node. node.last ≡ now) }
         ensures untold { IfOk result (λ node. D.files disk ≡ None → D.files node.store.disk ≡ None) }
         ensures told { IfOk result (λ node. IsSome (D.files disk) → IsSome (D.files node.store.disk)) }
@@ -118,7 +120,6 @@ impl<D: Disk, V: DraftService> Node<D, V> {
             alloc,
             store,
             state,
-            halted: false,
             last: now,
             service: PhantomData,
         })
@@ -134,7 +135,6 @@ impl<D: Disk, V: DraftService> Node<D, V> {
         requires order { self.old.last ≤ now }
         requires built { IsBuilt event }
         requires empty { out.old ≡ [] }
-        requires stored { IsStored D.Disk self.old }
         ensures step { Needs V.standing.database (own_member self.old) (node_of self.old) event now (D.files self.old.store.disk)
             → StepsFreely D.Disk V.standing (own_member self.old) result event now (node_of self.old) (node_of self.new) out.new
             self.old.store.disk self.new.store.disk }
@@ -143,9 +143,8 @@ impl<D: Disk, V: DraftService> Node<D, V> {
             → Steps D.Disk V.standing.database (own_member self.old) result event now (node_of self.old) (node_of self.new) out.new
             self.old.store.disk self.new.store.disk }
         ensures member { own_member self.new ≡ own_member self.old }
-        ensures stored { IsStored D.Disk self.new }
         ensures memory { TakesNoMemory event → result ≢ StepEnd.NoMemory }
-        ensures halts { (result ≡ StepEnd.Halted) ↔ (self.new.halted ≡ true) }
+        ensures halts { (result ≡ StepEnd.Halted) ↔ (self.new.store.failed ≡ true) }
         ensures told { result ≢ StepEnd.Halted → IsSome (D.files self.old.store.disk) → IsSome (D.files self.new.store.disk) }
         ensures calls { Calls D.Disk self.old self.new result }
         ensures last { self.new.last ≡ last_after result self.old.last now }
@@ -159,7 +158,6 @@ impl<D: Disk, V: DraftService> Node<D, V> {
         requires order { self.old.last ≤ now }
         requires built { IsBuilt event.now }
         requires empty { out.old ≡ [] }
-        requires stored { IsStored D.Disk self.old }
         ensures step { Needs V.standing.database (own_member self.old) (node_of self.old) event.now now (D.files self.old.store.disk)
             → StepsFreely D.Disk V.standing (own_member self.old) result event.now now (node_of self.old) (node_of self.new) out.new
             self.old.store.disk self.new.store.disk }
@@ -168,14 +166,13 @@ impl<D: Disk, V: DraftService> Node<D, V> {
             → Steps D.Disk V.standing.database (own_member self.old) result event.now now (node_of self.old) (node_of self.new) out.new
             self.old.store.disk self.new.store.disk }
         ensures member { own_member self.new ≡ own_member self.old }
-        ensures stored { IsStored D.Disk self.new }
         ensures memory { TakesNoMemory event.now → result ≢ StepEnd.NoMemory }
-        ensures halts { (result ≡ StepEnd.Halted) ↔ (self.new.halted ≡ true) }
+        ensures halts { (result ≡ StepEnd.Halted) ↔ (self.new.store.failed ≡ true) }
         ensures told { result ≢ StepEnd.Halted → IsSome (D.files self.old.store.disk) → IsSome (D.files self.new.store.disk) }
         ensures calls { Calls D.Disk self.old self.new result }
         ensures last { self.new.last ≡ last_after result self.old.last now }
     {
-        let end = if self.halted {
+        let end = if self.store.failed() {
             refuse(event, out)
         } else {
             self.step_up(now, event, out)
@@ -236,9 +233,9 @@ impl<D: Disk, V: DraftService> Node<D, V> {
 
     /// Whether the server's disk has failed.
     pub fn halted(&self) -> bool
-        ensures { result ≡ self.now.halted }
+        ensures { result ≡ self.now.store.failed }
     {
-        self.halted
+        self.store.failed()
     }
 
     /// The moment of the opening, or of the last step that did not end for want of memory.
@@ -256,7 +253,6 @@ impl<D: Disk, V: DraftService> Node<D, V> {
             alloc: _,
             store,
             state: _,
-            halted: _,
             last: _,
             service: _,
         } = self;
@@ -274,10 +270,9 @@ impl<D: Disk, V: DraftService> Node<D, V> {
     /// A step of a server that is not halted.
     fn step_up(&mut self, now: u32, event: &NodeEvent, out: &mut Outputs) -> StepEnd
         requires moment { IsMoment now }
-        requires not_halted { self.old.halted ≡ false }
+        requires not_halted { self.old.store.failed ≡ false }
         requires built { IsBuilt event.now }
         requires empty { out.old ≡ [] }
-        requires stored { IsStored D.Disk self.old }
         ensures step { Needs V.standing.database (own_member self.old) (node_of self.old) event.now now (D.files self.old.store.disk)
             → StepsFreely D.Disk V.standing (own_member self.old) result event.now now (node_of self.old) (node_of self.new) out.new
             self.old.store.disk self.new.store.disk }
@@ -286,9 +281,8 @@ impl<D: Disk, V: DraftService> Node<D, V> {
             → Steps D.Disk V.standing.database (own_member self.old) result event.now now (node_of self.old) (node_of self.new) out.new
             self.old.store.disk self.new.store.disk }
         ensures member { own_member self.new ≡ own_member self.old }
-        ensures stored { IsStored D.Disk self.new }
         ensures memory { TakesNoMemory event.now → result ≢ StepEnd.NoMemory }
-        ensures halts { (result ≡ StepEnd.Halted) ↔ (self.new.halted ≡ true) }
+        ensures halts { (result ≡ StepEnd.Halted) ↔ (self.new.store.failed ≡ true) }
         ensures told { result ≢ StepEnd.Halted → IsSome (D.files self.old.store.disk) → IsSome (D.files self.new.store.disk) }
         ensures calls { Calls D.Disk self.old self.new result }
         ensures last { self.new.last ≡ self.old.last }
@@ -301,10 +295,9 @@ impl<D: Disk, V: DraftService> Node<D, V> {
     /// What an event makes of a server that is not halted, after the lapse.
     fn handle(&mut self, now: u32, event: &NodeEvent, out: &mut Outputs) -> Result<(), StoreFault>
         requires moment { IsMoment now }
-        requires not_halted { self.old.halted ≡ false }
+        requires not_halted { self.old.store.failed ≡ false }
         requires built { IsBuilt event.now }
         requires few { length out.old ≤ 100 }
-        requires stored { IsStored D.Disk self.old }
         ensures ends { EndsSo D.Disk V.standing (NeedsThen V.standing.database (own_member self.old) (up_server self.old) event.now now (D.files self.old.store.disk))
             (λ o. handled (dbs_of o) (own_member self.old) (up_server self.old) now event.now o.short) out.old out.new (held self.old) (held self.new) result }
         ensures memory { TakesNoMemory event.now → IsErrOf result StoreFault.DiskFault ⊎ IsOk result }
@@ -340,7 +333,6 @@ impl<D: Disk, V: DraftService> Node<D, V> {
         match fault {
             StoreFault::DiskFault => {
                 self.state.restore_phase(given);
-                self.halted = true;
                 refuse(event, out)
             }
             _ => {
@@ -353,10 +345,9 @@ impl<D: Disk, V: DraftService> Node<D, V> {
     /// A packet of another server, at a server that is not halted, after the lapse. One of a host that is not of the cell is nothing.
     fn receive(&mut self, now: u32, packet: &Packet, out: &mut Outputs) -> Result<(), StoreFault>
         requires moment { IsMoment now }
-        requires not_halted { self.old.halted ≡ false }
+        requires not_halted { self.old.store.failed ≡ false }
         requires kind { IsBuiltBody packet.now.body }
         requires few { length out.old ≤ 100 }
-        requires stored { IsStored D.Disk self.old }
         ensures ends { EndsSo D.Disk V.standing (NeedsFiles packet.now.body (IsSome (D.files self.old.store.disk)))
             (λ o. received_packet (dbs_of o) (own_member self.old) (up_server self.old) now packet.now o.short (place_of self.old.state.cell packet.now.from))
             out.old out.new (held self.old) (held self.new) result }
@@ -372,14 +363,11 @@ impl<D: Disk, V: DraftService> Node<D, V> {
 
 impl<D: StopDisk, V: DraftService> Node<D, V> {
     ghost use Rattle.ubik_node.specs.Disk.{IsArmed, IsRevived};
-    ghost use Rattle.ubik_node.specs.Node.{IsStored};
 
     /// Has the disk stop after so many further changing calls, and then leave its files so. Of a halted server nothing comes of it.
     pub fn arm(&mut self, calls: u32, fill: Fill)
-        requires stored { IsStored D.Disk self.old }
-        ensures stored { IsStored D.Disk self.new }
         ensures disk { IsArmed D.Disk calls fill self.old.store.disk self.new.store.disk }
-        ensures same { (self.new.state ≡ self.old.state) × (self.new.halted ≡ self.old.halted) × (self.new.last ≡ self.old.last) }
+        ensures same { (self.new.state ≡ self.old.state) × (self.new.store.failed ≡ self.old.store.failed) × (self.new.last ≡ self.old.last) }
     {
         self.store.arm(calls, fill);
     }
@@ -393,11 +381,9 @@ impl<D: StopDisk, V: DraftService> Node<D, V> {
 
     /// Opens the files of a halted server anew: they are what a crash leaves of them, all synced. The server stays halted.
     pub fn revive(&mut self)
-        requires halted { self.old.halted ≡ true }
-        requires stored { IsStored D.Disk self.old }
-        ensures stored { IsStored D.Disk self.new }
+        requires halted { self.old.store.failed ≡ true }
         ensures disk { IsRevived D.Disk self.old.store.disk self.new.store.disk }
-        ensures same { (self.new.state ≡ self.old.state) × (self.new.halted ≡ self.old.halted) × (self.new.last ≡ self.old.last) }
+        ensures same { (self.new.state ≡ self.old.state) × (self.new.store.failed ≡ self.old.store.failed) × (self.new.last ≡ self.old.last) }
     {
         self.store.revive();
     }

@@ -24,7 +24,7 @@ use ubik_store::StoreFault;
 use ubik_types::{Changes, Host, NoMemory, Version};
 
 impl<D: Disk, V: DraftService> Node<D, V> {
-    ghost use Rattle.ubik_node.specs.Node.{Ends, held, IsStored, own_member, up_server};
+    ghost use Rattle.ubik_node.specs.Node.{Ends, held, own_member, up_server};
 
     /// The database gets another version, and a host is told so.
     pub(crate) fn take_version(
@@ -33,8 +33,7 @@ impl<D: Disk, V: DraftService> Node<D, V> {
         new: Version,
         out: &mut Outputs,
     ) -> Result<(), StoreFault>
-        requires not_halted { self.old.halted ≡ false }
-        requires stored { IsStored D.Disk self.old }
+        requires not_halted { self.old.store.failed ≡ false }
         requires few { length out.old ≤ 100 }
         requires may { MayTake self.old.state new }
         ensures { Ends D.Disk (Unit {0}) (followed (relabelled_by (up_server self.old) new) (answers_version_kept (own_member self.old) to))
@@ -54,8 +53,7 @@ impl<D: Disk, V: DraftService> Node<D, V> {
         changes: &Changes,
         out: &mut Outputs,
     ) -> Result<(), StoreFault>
-        requires not_halted { self.old.halted ≡ false }
-        requires stored { IsStored D.Disk self.old }
+        requires not_halted { self.old.store.failed ≡ false }
         requires few { length out.old ≤ 100 }
         requires may { MayTake self.old.state new }
         requires fits { too_large 0 (length self.old.state.image) changes.now ≡ None }
@@ -78,8 +76,7 @@ impl<D: Disk, V: DraftService> Node<D, V> {
         bytes: &[u8],
         out: &mut Outputs,
     ) -> Result<(), StoreFault>
-        requires not_halted { self.old.halted ≡ false }
-        requires stored { IsStored D.Disk self.old }
+        requires not_halted { self.old.store.failed ≡ false }
         requires few { length out.old ≤ 100 }
         requires may { MayTake self.old.state source.version }
         requires follow { CanFollow self.old.state source.version end }
@@ -111,8 +108,7 @@ impl<D: Disk, V: DraftService> Node<D, V> {
         text: &[u8],
         out: &mut Outputs,
     ) -> Result<(), StoreFault>
-        requires not_halted { self.old.halted ≡ false }
-        requires stored { IsStored D.Disk self.old }
+        requires not_halted { self.old.store.failed ≡ false }
         requires few { length out.old ≤ 100 }
         requires may { MayTake self.old.state version }
         requires follow { CanFollow self.old.state version end }
@@ -138,8 +134,7 @@ impl<D: Disk, V: DraftService> Node<D, V> {
         text: &[u8],
         out: &mut Outputs,
     ) -> Result<(), StoreFault>
-        requires not_halted { self.old.halted ≡ false }
-        requires stored { IsStored D.Disk self.old }
+        requires not_halted { self.old.store.failed ≡ false }
         requires few { length out.old ≤ 100 }
         requires may { MayTake self.old.state version }
         requires fits { length text.now ≤ MAX_IMAGE }
@@ -159,8 +154,7 @@ impl<D: Disk, V: DraftService> Node<D, V> {
         version: Version,
         text: &[u8],
     ) -> Result<(), StoreFault>
-        requires not_halted { self.old.halted ≡ false }
-        requires stored { IsStored D.Disk self.old }
+        requires not_halted { self.old.store.failed ≡ false }
         requires may { MayTake self.old.state version }
         requires over { IsOver self.old.state next }
         requires fits { length text.now ≤ MAX_IMAGE }
@@ -176,8 +170,7 @@ impl<D: Disk, V: DraftService> Node<D, V> {
     /// Takes the whole image of another server over, under its version.
     fn install(&mut self, text: &[u8], version: Version) -> Result<(), StoreFault>
         requires resting { ¬ IsServing self.old.state.recovery }
-        requires not_halted { self.old.halted ≡ false }
-        requires stored { IsStored D.Disk self.old }
+        requires not_halted { self.old.store.failed ≡ false }
         requires fits { length text.now ≤ MAX_IMAGE }
         requires version { IsVersion version }
         requires newer { version_lt self.old.state.version version ≡ true }

@@ -21,7 +21,7 @@ use ubik_store::StoreFault;
 use ubik_types::{Version, bytes_of};
 
 impl<D: Disk, V: DraftService> Node<D, V> {
-    ghost use Rattle.ubik_node.specs.Node.{Ends, held, IsStored, Knows, own_member, up_server};
+    ghost use Rattle.ubik_node.specs.Node.{Ends, held, Knows, own_member, up_server};
 
     /// The database gets a version, the first of its epoch, for the poll of a recovery.
     pub(crate) fn relabel(
@@ -30,8 +30,7 @@ impl<D: Disk, V: DraftService> Node<D, V> {
         new: Version,
         out: &mut Outputs,
     ) -> Result<(), StoreFault>
-        requires not_halted { self.old.halted ≡ false }
-        requires stored { IsStored D.Disk self.old }
+        requires not_halted { self.old.store.failed ≡ false }
         requires few { length out.old ≤ 120 }
         requires may { MayTake self.old.state new }
         requires of_cell { IsOfCell (length self.old.state.cell) next }
@@ -63,8 +62,7 @@ impl<D: Disk, V: DraftService> Node<D, V> {
         text: &[u8],
         out: &mut Outputs,
     ) -> Result<(), StoreFault>
-        requires not_halted { self.old.halted ≡ false }
-        requires stored { IsStored D.Disk self.old }
+        requires not_halted { self.old.store.failed ≡ false }
         requires few { length out.old ≤ 100 }
         requires may { MayTake self.old.state best }
         requires over { IsOver self.old.state next }

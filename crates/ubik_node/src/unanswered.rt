@@ -17,7 +17,7 @@ impl<D: Disk, V: DraftService> Node<D, V> {
         ensures { IsLeastOf result (unanswered (node_of self.now)) }
     {
         match &self.state.writes {
-            Some(writes) if !self.halted => least_id(writes),
+            Some(writes) if !self.store.failed() => least_id(writes),
             _ => None,
         }
     }

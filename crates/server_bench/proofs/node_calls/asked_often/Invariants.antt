@@ -1,6 +1,5 @@
-use Rattle.std.proofs.Common.{◌≡◌, ◌≤◌}
-use Rattle.ubik_node.specs.Node.{IsStored}
+use Rattle.std.proofs.Common.{◌≤◌}
 use Rattle.server_bench.proofs.node_calls.asked_often.Given as goal
 
 abbrev pub invariant-loop-turn : goal.invariant-loop-turn
-invariant-loop-turn g l = (l.done ≤ l.turn) × IsStored g.D.Disk l.node
+invariant-loop-turn g l = l.done ≤ l.turn

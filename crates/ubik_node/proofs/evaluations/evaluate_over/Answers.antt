@@ -1,5 +1,4 @@
-use Rattle.std.proofs.Common.{◌≡◌, ◌∙◌, IfOk, IfSome, sym, ap, rules}
-use Rattle.db_image.specs.Blocks.{changes_between}
+use Rattle.std.proofs.Common.{◌≡◌, ◌∙◌, sym, ap, rules}
 use Rattle.db_image.specs.Ends.{end_of}
 use Rattle.ubik_node.proofs.MadeOver.{all_made}
 use Rattle.ubik_node.proofs.evaluations.evaluate_over.Goals as goal

@@ -17,7 +17,7 @@ returns-in_default-clause-ends g c =
     let n = c.args.self.now in
     let st = n.state in
     let kind = λ (w : Option Bool). asked_as (dbs_of (none_chosen g.V.DraftService.standing) 0) (member_of st) (server_of st) c.args.now c.args.id c.args.call.now false w in
-    (none_chosen g.V.DraftService.standing, same_ends g.D.Disk (ap kind (sym c.in_default.ensures)) (rests_ends g.D.Disk (held n) c.requires.stored c.requires.not_halted (record { server = refl; calls = refl; outputs = c.put_reply.ensures })))
+    (none_chosen g.V.DraftService.standing, same_ends g.D.Disk (ap kind (sym c.in_default.ensures)) (rests_ends g.D.Disk (held n) c.args.self.now.stored c.requires.not_halted (record { server = refl; calls = refl; outputs = c.put_reply.ensures })))
 
 pub returns-in-Refuse-clause-ends : goal.returns-in-Refuse-clause-ends
 returns-in-Refuse-clause-ends g c =
@@ -28,7 +28,7 @@ returns-in-Refuse-clause-ends g c =
     let kind = λ (w : Option Bool). asked_as db (member_of st) (server_of st) c.args.now c.args.id c.args.call.now false w in (
       o,
       same_ends g.D.Disk (ap kind (sym c.in-Some.ensures) ∙ c.in-Refuse.ensures.turn db c.args.id c.args.call.now false)
-          (rests_ends g.D.Disk (held n) c.requires.stored c.requires.not_halted (record { server = refl; calls = refl; outputs = c.put_reply-in-Refuse.ensures })),
+          (rests_ends g.D.Disk (held n) c.args.self.now.stored c.requires.not_halted (record { server = refl; calls = refl; outputs = c.put_reply-in-Refuse.ensures })),
     )
 
 pub returns-in-Read-clause-ends : goal.returns-in-Read-clause-ends
@@ -62,7 +62,7 @@ returns-in-Wait-clause-ends g c =
     let now = c.put_in_line.new.self in
     let kind = λ (w : Option Bool). asked_as db (member_of st) s c.args.now c.args.id c.args.call.now line.0 w in (
       o,
-      same_ends g.D.Disk (ap kind (sym c.in-Some.ensures)) (shown_ends g.D.Disk (held n) st now c.requires.stored c.requires.not_halted refl refl c.put_in_line.ensures.kept
+      same_ends g.D.Disk (ap kind (sym c.in-Some.ensures)) (shown_ends g.D.Disk (held n) st now c.args.self.now.stored c.requires.not_halted refl c.put_in_line.ensures.kept
           (line_shows s.flight (λ (f : Flight). put_into_line s c.args.id c.args.call.now line.0 f) (kind (Some c.in-Some.writes)) (server_of now) c.args.out.now c.put_in_line.new.out (in_flight_so (own_of st.writes) (c.in-Wait.ensures.writing tt))
           (c.in-Wait.ensures.turn db c.args.id c.args.call.now line.0) line.1)),
     )

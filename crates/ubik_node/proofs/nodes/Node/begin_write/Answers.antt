@@ -26,10 +26,11 @@ use Rattle.ubik_types.specs.Quorum.{marked}
 use Rattle.ubik_node.specs.Verdict.{IsWritten}
 use Rattle.server_state.specs.Writing.{write_begun}
 use Rattle.ubik_node.proofs.Begun.{commit_ended}
-use Rattle.ubik_node.proofs.Calling.{ended, held_as, known_call_failed, known_call_made, short_ends_read, stored_read, unread_ends}
+use Rattle.ubik_node.proofs.Calling.{ended, held_as, known_call_failed, known_call_made, short_ends_read, unread_ends}
 use Rattle.ubik_node.proofs.Committing.{flown, next_is_newer, spread_to_each, undone_here, written_begun}
 use Rattle.ubik_node.proofs.Endings.{handed_ends, ok_not, told_still}
 use Rattle.ubik_node.proofs.HeldImages.{held_after, held_length, held_there}
+use Rattle.ubik_node.proofs.Stored.{made_keeps, read_keeps}
 use Rattle.ubik_types.specs.Version.{IsVersion}
 use Rattle.server_state.specs.Plain.{IsAnswer}
 use Rattle.server_state.proofs.Plain.{own_version}
@@ -38,7 +39,7 @@ use Rattle.ubik_node.proofs.nodes.Node.begin_write.Goals as goal
 pub returns-in_err-flight-clause-ends : goal.returns-in_err-flight-clause-ends
 returns-in_err-flight-clause-ends g c = λ image.
     handed_ends g.D.Disk c.from_residual.result c.in_err-flight.field-0.0 c.from_residual.ensures.1
-    (unread_ends g.D.Disk (held c.args.self.now) c.flight_over.new.store c.flight_over.result c.in_err-flight.field-0.0 c.in_err-flight.was c.flight_over.ensures.fault c.requires.stored c.requires.not_halted c.flight_over.ensures.sound c.flight_over.ensures.same
+    (unread_ends g.D.Disk (held c.args.self.now) c.flight_over.new.store c.flight_over.result c.in_err-flight.field-0.0 c.in_err-flight.was c.flight_over.ensures.fault c.args.self.now.stored c.requires.not_halted c.flight_over.ensures.same
     c.flight_over.ensures.failed c.flight_over.ensures.disk)
 
 pub returns-in_err-hold_place-clause-ends : goal.returns-in_err-hold_place-clause-ends
@@ -47,7 +48,7 @@ returns-in_err-hold_place-clause-ends g c = λ image.
     let mid = c.hold_place.new.self in
     handed_ends g.D.Disk c.from_residual-in_err-hold_place.result _ c.from_residual-in_err-hold_place.ensures.1
     (held_as g.D.Disk (server_of mid) (member_of mid) c.hold_place.ensures.server c.hold_place.ensures.kept.member
-    (short_ends_read g.D.Disk (held c.args.self.now) c.flight_over.new.store c.requires.stored c.requires.not_halted c.in_ok-flight.ensures.sound (c.in_ok-flight.ensures.same went) c.in_ok-flight.ensures.disk went))
+    (short_ends_read g.D.Disk (held c.args.self.now) c.flight_over.new.store c.args.self.now.stored c.requires.not_halted (c.in_ok-flight.ensures.same went) c.in_ok-flight.ensures.disk went))
 
 pub returns-in_err-spread_write-clause-ends : goal.returns-in_err-spread_write-clause-ends
 returns-in_err-spread_write-clause-ends g c = λ image.
@@ -55,7 +56,7 @@ returns-in_err-spread_write-clause-ends g c = λ image.
     let mid = c.hold_place.new.self in
     handed_ends g.D.Disk c.from_residual-in_err-spread_write.result _ c.from_residual-in_err-spread_write.ensures.1
     (held_as g.D.Disk (server_of mid) (member_of mid) c.hold_place.ensures.server c.hold_place.ensures.kept.member
-    (short_ends_read g.D.Disk (held c.args.self.now) c.flight_over.new.store c.requires.stored c.requires.not_halted c.in_ok-flight.ensures.sound (c.in_ok-flight.ensures.same went) c.in_ok-flight.ensures.disk went))
+    (short_ends_read g.D.Disk (held c.args.self.now) c.flight_over.new.store c.args.self.now.stored c.requires.not_halted (c.in_ok-flight.ensures.same went) c.in_ok-flight.ensures.disk went))
 
 pub returns-in_err-commit_all-clause-ends : goal.returns-in_err-commit_all-clause-ends
 returns-in_err-commit_all-clause-ends g c = λ image.
@@ -69,18 +70,19 @@ returns-in_err-commit_all-clause-ends g c = λ image.
     let first = c.flight_over.new.store in
     let reads = c.in_ok-flight.ensures.disk in
     let stays = c.in_ok-flight.ensures.same went in
-    let still = stored_read g.D.Disk (held n) first c.requires.stored c.requires.not_halted c.in_ok-flight.ensures.sound stays reads went in
+    let still = read_keeps g.D.Disk first c.in_ok-flight.ensures.sound n.stored stays reads went in
+    let runs = stays.failed ∙ c.requires.not_halted in
     let later = c.commit_all.new.store in
     let mid = c.hold_place.new.self in
-    let same : logged first.len c.as_slice.result.now ≡ kept = ap (λ (cs : List Change). logged first.len cs) c.as_slice.ensures ∙ ap (λ (k : ℕ). logged k given) (still.len c.requires.not_halted) in
+    let same : logged first.len c.as_slice.result.now ≡ kept = ap (λ (cs : List Change). logged first.len cs) c.as_slice.ensures ∙ ap (λ (k : ℕ). logged k given) (still.len runs) in
     let e = c.in_err-commit_all.field-0.0 in
-    let fits : too_large 0 first.len c.as_slice.result.now ≡ None = ap (λ (cs : List Change). too_large 0 first.len cs) c.as_slice.ensures ∙ ap (λ (k : ℕ). too_large 0 k given) (still.len c.requires.not_halted) ∙ c.requires.within in
-    let newer = ap (λ (own : Version). version_lt own v) (still.version c.requires.not_halted) ∙ ap (version_lt st.version) c.next_version-next.ensures ∙ next_is_newer st.version in
+    let fits : too_large 0 first.len c.as_slice.result.now ≡ None = ap (λ (cs : List Change). too_large 0 first.len cs) c.as_slice.ensures ∙ ap (λ (k : ℕ). too_large 0 k given) (still.len runs) ∙ c.requires.within in
+    let newer = ap (λ (own : Version). version_lt own v) (still.version runs) ∙ ap (version_lt st.version) c.next_version-next.ensures ∙ next_is_newer st.version in
     let own : OwnRecord = record { flight = flight_of (server_of st) c.args.now c.args.id c.args.call.now c.args.answer given; kept = record c.in_ok-flight.flight { old_version = st.version } } in
     let leads = written_begun (server_of st) (announced st) st.recovery c.args.now c.args.id c.args.call.now c.args.answer image given c.requires.serving m own v c.next_version-next.ensures (sym st.of_cell.servers) c.requires.others refl refl in
     handed_ends g.D.Disk c.from_residual-in_err-commit_all.result e c.from_residual-in_err-commit_all.ensures.1
     (held_as g.D.Disk (server_of mid) (member_of mid) c.hold_place.ensures.server c.hold_place.ensures.kept.member
-    (known_call_failed g.D.Disk (held n) c.requires.stored c.requires.not_halted first reads went c.in_ok-flight.ensures.sound stays later c.commit_all.ensures.sound kept v image (own_commit v given image (record { moment = c.args.now; call = c.args.call.now }))
+    (known_call_failed g.D.Disk (held n) c.args.self.now.stored c.requires.not_halted first reads went still runs later kept v image (own_commit v given image (record { moment = c.args.now; call = c.args.call.now }))
     (λ known. record { leads = ap (effect st.image) known.1.kept ∙ known.1.leads; same = refl; cuts = λ _. subst CutsNoPut (sym known.1.kept) known.1.puts; count = ap length (sym known.1.kept); calls = leads.calls }) IsNeverLong e
     (commit_ended g.D.Disk v first later e newer (c.in_err-commit_all.ensures.memory fits) (λ is. c.commit_all.ensures.failed (c.in_err-commit_all.was ∙ ap Err is)) c.in_err-commit_all.ensures.refused)
     newer (λ bytes long. absurd long)
@@ -98,32 +100,30 @@ returns-clause-ends g c = λ image.
     let first = c.flight_over.new.store in
     let reads = c.in_ok-flight.ensures.disk in
     let stays = c.in_ok-flight.ensures.same went in
-    let still = stored_read g.D.Disk (held n) first c.requires.stored c.requires.not_halted c.in_ok-flight.ensures.sound stays reads went in
+    let still = read_keeps g.D.Disk first c.in_ok-flight.ensures.sound n.stored stays reads went in
+    let runs = stays.failed ∙ c.requires.not_halted in
     let later = c.commit_all.new.store in
     let mid = c.hold_place.new.self in
-    let same : logged first.len c.as_slice.result.now ≡ kept = ap (λ (cs : List Change). logged first.len cs) c.as_slice.ensures ∙ ap (λ (k : ℕ). logged k given) (still.len c.requires.not_halted) in
+    let same : logged first.len c.as_slice.result.now ≡ kept = ap (λ (cs : List Change). logged first.len cs) c.as_slice.ensures ∙ ap (λ (k : ℕ). logged k given) (still.len runs) in
     let last = c.begin_flight.new.self in
     let flight = c.in_ok-flight.flight in
     let of : IsFlightOf c.args.id st.version v c.args.now given flight = c.in_ok-flight.ensures.flight in
     let write = c.own_write-write.result in
     let done : Commits g.D.Disk kept v first later = subst (λ (cs : List Change). Commits g.D.Disk cs v first later) same c.in_ok-commit_all.ensures.done in
-    let is : last.image ≡ c.of-image.result = c.begin_flight.ensures.image in
     let t : Transaction = record { moment = c.args.now; call = c.args.call.now } in
     let Known : Type 0 = IsSome (g.D.Disk.files n.store.disk) × IsWritten st.image image given in
     let here : Known → c.of-image.result ≡ image = λ known.
-    c.of-image.ensures ∙ held_after (g.D.Disk.files first.disk) (g.D.Disk.files later.disk) later.len kept st.image image (told_still g.D.Disk reads went known.0) (still.image c.requires.not_halted) done.image (ap (effect st.image) known.1.kept ∙ known.1.leads) in
-    let undoes = λ (known : Known). undone_here (g.D.Disk.files n.store.disk) flight st.image given known.0 (c.requires.stored.image c.requires.not_halted) c.in_ok-flight.ensures.undo in
+    c.of-image.ensures ∙ held_after (g.D.Disk.files first.disk) (g.D.Disk.files later.disk) later.len kept st.image image (told_still g.D.Disk reads went known.0) (still.image runs) done.image (ap (effect st.image) known.1.kept ∙ known.1.leads) in
+    let undoes = λ (known : Known). undone_here (g.D.Disk.files n.store.disk) flight st.image given known.0 (c.args.self.now.stored.image c.requires.not_halted) c.in_ok-flight.ensures.undo in
     let back : Known → image_before flight.undo flight.old_len c.of-image.result ≡ st.image = λ known.
     sym (ap (λ (w : OwnRecord). w.flight.old_image) c.own_write-write.ensures.value) ∙ c.own_write-write.ensures.before st.image (undoes known) (here known ∙ sym known.1.leads) in
     let leads = λ (known : Known). written_begun (server_of st) (announced st) st.recovery c.args.now c.args.id c.args.call.now c.args.answer image given c.requires.serving m write v c.next_version-next.ensures (sym st.of_cell.servers) c.requires.others
     (ap (λ (w : OwnRecord). w.kept.old_version) c.own_write-write.ensures.value ∙ of.old_version)
     (flown write flight (server_of st) c.args.id c.args.now st.version v c.args.call.now c.args.answer (image_before flight.undo flight.old_len c.of-image.result) given c.own_write-write.ensures.value of (back known)) in
-    known_call_made g.D.Disk (held n) c.requires.stored c.requires.not_halted first reads went c.in_ok-flight.ensures.sound stays later c.commit_all.ensures.sound kept v image (own_commit v given image t)
+    known_call_made g.D.Disk (held n) c.args.self.now.stored c.requires.not_halted first reads went still runs later kept v image (own_commit v given image t)
     (λ known. record { leads = ap (effect st.image) known.1.kept ∙ known.1.leads; same = refl; cuts = λ _. subst CutsNoPut (sym known.1.kept) known.1.puts; count = ap length (sym known.1.kept); calls = (leads known).calls })
     (server_of last) (member_of last) (c.begin_flight.ensures.place ∙ c.hold_place.ensures.kept.member) done
-    (subst (λ (cs : List Change). IsDurable g.D.Disk cs v first later (IsErrOf c.commit_all.result DiskFault)) same c.commit_all.ensures.durable) (λ failed. ok_not c.in_ok-commit_all.field-0 (sym c.in_ok-commit_all.was ∙ failed)) c.begin_flight.ensures.version
-    (ap length (is ∙ c.of-image.ensures) ∙ held_length g.D.Disk later (c.commit_all.ensures.sound.ready done.failed))
-    (held_there (g.D.Disk.files later.disk) later.len last.image (is ∙ c.of-image.ensures))
+    (subst (λ (cs : List Change). IsDurable g.D.Disk cs v first later (IsErrOf c.commit_all.result DiskFault)) same c.commit_all.ensures.durable) (λ failed. ok_not c.in_ok-commit_all.field-0 (sym c.in_ok-commit_all.was ∙ failed))
     (λ known. (
       (leads known).server
           ∙ sym (c.begin_flight.ensures.after
@@ -136,6 +136,17 @@ returns-clause-ends g c = λ image.
           ∙ ap (λ (shown : List Shown). c.args.out.now ++ outputs_of shown) (spread_to_each m (length st.cell) 20 (replicate 20 false) flight.old_version st.version v flight.text (text_of given) refl of.old_version of.text)
           ∙ ap (λ (o : List Output). c.args.out.now ++ o) (sym (leads known).outputs),
     ))
+
+pub invariant_of-self-2 : goal.invariant_of-self-2
+invariant_of-self-2 g c =
+    let later = c.commit_all.new.store in
+    let image = c.begin_flight.ensures.image ∙ c.of-image.ensures in
+    let sound = c.in_ok-commit_all.ensures.sound in
+    let done = c.in_ok-commit_all.ensures.done in
+    record {
+      stored = made_keeps g.D.Disk later sound done c.begin_flight.ensures.version (ap length image ∙ held_length g.D.Disk later (sound.ready done.failed))
+          (held_there (g.D.Disk.files later.disk) later.len c.begin_flight.new.self.image image);
+    }
 
 pub begin_flight-requires-clause-fits : goal.begin_flight-requires-clause-fits
 begin_flight-requires-clause-fits g c =

@@ -22,7 +22,7 @@ use Rattle.ubik_node.proofs.Begun.{commit_ended}
 use Rattle.ubik_node.proofs.Calling.{ended, known_call_failed, known_call_made}
 use Rattle.ubik_node.proofs.Committing.{next_is_newer, written_alone}
 use Rattle.ubik_node.proofs.Endings.{handed_ends, ok_not, reads_none}
-use Rattle.ubik_node.proofs.HeldImages.{held_after, held_length, held_there}
+use Rattle.ubik_node.proofs.HeldImages.{held_after}
 use Rattle.server_state.proofs.Writes.{no_own}
 use Rattle.ubik_node.proofs.nodes.Node.commit.Goals as goal
 
@@ -37,12 +37,12 @@ returns-in_err-commit_all-clause-ends g c = λ now call image.
     let kept = logged (length st.image) given in
     let only = is_alone st.cell st.me c.requires.alone st.place in
     let leads = written_alone (server_of st) (announced st) st.recovery now c.args.id call c.args.answer image given c.requires.serving (member_of st) only v c.next_version-next.ensures (no_own _ c.requires.free) (st.of_cell.servers ∙ c.requires.alone) in
-    let same : logged n.store.len c.as_slice.result.now ≡ kept = ap (λ (cs : List Change). logged n.store.len cs) c.as_slice.ensures ∙ ap (λ (k : ℕ). logged k given) (c.requires.stored.len c.requires.not_halted) in
-    let fits : too_large 0 n.store.len c.as_slice.result.now ≡ None = ap (λ (cs : List Change). too_large 0 n.store.len cs) c.as_slice.ensures ∙ ap (λ (k : ℕ). too_large 0 k given) (c.requires.stored.len c.requires.not_halted) ∙ c.requires.within in
-    let newer = ap (λ (own : Version). version_lt own v) (c.requires.stored.version c.requires.not_halted) ∙ ap (version_lt st.version) c.next_version-next.ensures ∙ next_is_newer st.version in
+    let same : logged n.store.len c.as_slice.result.now ≡ kept = ap (λ (cs : List Change). logged n.store.len cs) c.as_slice.ensures ∙ ap (λ (k : ℕ). logged k given) (c.args.self.now.stored.len c.requires.not_halted) in
+    let fits : too_large 0 n.store.len c.as_slice.result.now ≡ None = ap (λ (cs : List Change). too_large 0 n.store.len cs) c.as_slice.ensures ∙ ap (λ (k : ℕ). too_large 0 k given) (c.args.self.now.stored.len c.requires.not_halted) ∙ c.requires.within in
+    let newer = ap (λ (own : Version). version_lt own v) (c.args.self.now.stored.version c.requires.not_halted) ∙ ap (version_lt st.version) c.next_version-next.ensures ∙ next_is_newer st.version in
     handed_ends g.D.Disk c.from_residual.result e c.from_residual.ensures.1
-    (known_call_failed g.D.Disk (held n) c.requires.stored c.requires.not_halted n.store (reads_none g.D.Disk n.store.disk) (λ none. none) c.requires.stored.sound (record { version = refl; len = refl; begun = refl; failed = refl }) later
-    c.commit_all.ensures.sound kept v image (own_commit v given image (record { moment = now; call = call }))
+    (known_call_failed g.D.Disk (held n) c.args.self.now.stored c.requires.not_halted n.store (reads_none g.D.Disk n.store.disk) (λ none. none) c.args.self.now.stored c.requires.not_halted later
+    kept v image (own_commit v given image (record { moment = now; call = call }))
     (λ known. record { leads = ap (effect st.image) known.1.kept ∙ known.1.leads; same = refl; cuts = λ _. subst CutsNoPut (sym known.1.kept) known.1.puts; count = ap length (sym known.1.kept); calls = leads.calls }) IsNeverLong e
     (commit_ended g.D.Disk v n.store later e newer (c.in_err-commit_all.ensures.memory fits) (λ is. c.commit_all.ensures.failed (c.in_err-commit_all.was ∙ ap Err is)) c.in_err-commit_all.ensures.refused)
     newer (λ bytes long. absurd long)
@@ -59,19 +59,16 @@ returns-clause-ends g c = λ now call image.
     let kept = logged (length st.image) given in
     let only = is_alone st.cell st.me c.requires.alone st.place in
     let leads = written_alone (server_of st) (announced st) st.recovery now c.args.id call c.args.answer image given c.requires.serving (member_of st) only v c.next_version-next.ensures (no_own _ c.requires.free) (st.of_cell.servers ∙ c.requires.alone) in
-    let same : logged n.store.len c.as_slice.result.now ≡ kept = ap (λ (cs : List Change). logged n.store.len cs) c.as_slice.ensures ∙ ap (λ (k : ℕ). logged k given) (c.requires.stored.len c.requires.not_halted) in
+    let same : logged n.store.len c.as_slice.result.now ≡ kept = ap (λ (cs : List Change). logged n.store.len cs) c.as_slice.ensures ∙ ap (λ (k : ℕ). logged k given) (c.args.self.now.stored.len c.requires.not_halted) in
     let done : Commits g.D.Disk kept v n.store later = subst (λ (cs : List Change). Commits g.D.Disk cs v n.store later) same c.in_ok-commit_all.ensures.done in
-    let is : last.image ≡ c.of-image.result = c.take_commit.ensures.image in
-    known_call_made g.D.Disk (held n) c.requires.stored c.requires.not_halted n.store (reads_none g.D.Disk n.store.disk) (λ none. none) c.requires.stored.sound (record { version = refl; len = refl; begun = refl; failed = refl }) later
-    c.commit_all.ensures.sound kept v image (own_commit v given image (record { moment = now; call = call }))
+    known_call_made g.D.Disk (held n) c.args.self.now.stored c.requires.not_halted n.store (reads_none g.D.Disk n.store.disk) (λ none. none) c.args.self.now.stored c.requires.not_halted later
+    kept v image (own_commit v given image (record { moment = now; call = call }))
     (λ known. record { leads = ap (effect st.image) known.1.kept ∙ known.1.leads; same = refl; cuts = λ _. subst CutsNoPut (sym known.1.kept) known.1.puts; count = ap length (sym known.1.kept); calls = leads.calls })
     (server_of last) (member_of last) c.take_commit.ensures.place done
-    (subst (λ (cs : List Change). IsDurable g.D.Disk cs v n.store later (IsErrOf c.commit_all.result DiskFault)) same c.commit_all.ensures.durable) (λ failed. ok_not c.in_ok-commit_all.field-0 (sym c.in_ok-commit_all.was ∙ failed)) c.take_commit.ensures.version
-    (ap length (is ∙ c.of-image.ensures) ∙ held_length g.D.Disk later (c.commit_all.ensures.sound.ready done.failed))
-    (held_there (g.D.Disk.files later.disk) later.len last.image (is ∙ c.of-image.ensures))
+    (subst (λ (cs : List Change). IsDurable g.D.Disk cs v n.store later (IsErrOf c.commit_all.result DiskFault)) same c.commit_all.ensures.durable) (λ failed. ok_not c.in_ok-commit_all.field-0 (sym c.in_ok-commit_all.was ∙ failed))
     (λ known.
     let here : c.of-image.result ≡ image = c.of-image.ensures
-    ∙ held_after (g.D.Disk.files n.store.disk) (g.D.Disk.files later.disk) later.len kept st.image image known.0 (c.requires.stored.image c.requires.not_halted) done.image (ap (effect st.image) known.1.kept ∙ known.1.leads) in (
+    ∙ held_after (g.D.Disk.files n.store.disk) (g.D.Disk.files later.disk) later.len kept st.image image known.0 (c.args.self.now.stored.image c.requires.not_halted) done.image (ap (effect st.image) known.1.kept ∙ known.1.leads) in (
       leads.server ∙ sym (c.take_commit.ensures.after ∙ ap (λ (bytes : List ℕ). recovering v (with_text (held_alone st.recovery 0) None) (with_database (server_of st) v bytes)) here),
       c.put_reply.ensures ∙ ap (λ (o : List Output). o ++ output.Reply c.args.id (reply.Ok c.args.answer) ∷ []) c.put.ensures
           ∙ append_assoc c.args.out.now (output.Announce v ∷ []) (output.Reply c.args.id (reply.Ok c.args.answer) ∷ []) ∙ ap (λ (o : List Output). c.args.out.now ++ o) (sym leads.outputs),

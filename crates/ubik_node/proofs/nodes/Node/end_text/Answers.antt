@@ -24,7 +24,7 @@ returns-then-short g c =
     let failed : is_err c.extended.result ≡ true = sym c.is_err-short.ensures.value ∙ c.if-short.true in
     let same : items ≡ c.take_front-text.result.items = on_err c.extended.result _ failed c.extended.ensures.err in
     let front : take at items ≡ take at (received_bytes st.recovery.text) = ap (take at) (same ∙ c.take_front-text.ensures.front) ∙ take-take at at (received_bytes st.recovery.text) (omega arith) in
-    short_back g.D.Disk (held n) (server_of last) (member_of last) c.requires.stored c.requires.not_halted
+    short_back g.D.Disk (held n) (server_of last) (member_of last) c.args.self.now.stored c.requires.not_halted
     (c.put_front.ensures.after ∙ front_restored (begins_text c.args.end st.recovery.text) c.args.source at c.args.bytes.now (take at items) st mid _ c.requires.ends.takes c.take_front-text.ensures.after front)
     (c.put_front.ensures.kept.member ∙ c.take_front-text.ensures.kept.member)
 

@@ -12,7 +12,7 @@ returns-in-BeaconTurn-clause-ends g c =
     let n = c.args.self.now in
     rw c.in-BeaconTurn.is (
       none_chosen g.V.DraftService.standing,
-      shown_ends g.D.Disk (held n) n.state c.beacon_turn.new.self c.requires.stored c.requires.not_halted refl refl c.beacon_turn.ensures.kept c.beacon_turn.ensures.shows,
+      shown_ends g.D.Disk (held n) n.state c.beacon_turn.new.self c.args.self.now.stored c.requires.not_halted refl c.beacon_turn.ensures.kept c.beacon_turn.ensures.shows,
     )
 
 pub returns-in-RecoverTurn-clause-ends : goal.returns-in-RecoverTurn-clause-ends

@@ -1,4 +1,4 @@
-use Rattle.std.proofs.Common.{◌∙◌, ℕ, List, length, refl, sym, ap, arith, ◌≡◌}
+use Rattle.std.proofs.Common.{◌∙◌, ℕ, List, refl, sym, ap, arith, ◌≡◌}
 use Rattle.ubik_node.proofs.Rested.{phase_is}
 use Rattle.server_state.specs.declared.state.State.{State}
 use Rattle.ubik_types.specs.Phase.{phase_of}
@@ -12,7 +12,6 @@ use Rattle.ubik_node.specs.Node.{held}
 use Rattle.server_state.specs.State.{member_of, server_of, announced}
 use Rattle.ubik_node.proofs.Calling.{call_failed, call_made}
 use Rattle.ubik_node.proofs.Endings.{handed_ends, ok_not, reads_none}
-use Rattle.ubik_node.proofs.HeldImages.{held_length, held_there}
 use Rattle.ubik_node.proofs.Received.{effect_whole, held_text}
 use Rattle.ubik_node.proofs.nodes.Node.install.Goals as goal
 
@@ -26,9 +25,9 @@ returns-in_err-install-clause-ends g c =
     let v = c.args.version in
     let text = c.args.text.now in
     handed_ends g.D.Disk c.from_residual.result c.in_err-install.field-0.0 c.from_residual.ensures.1
-    (call_failed g.D.Disk (held n) c.requires.stored c.requires.not_halted n.store (reads_none g.D.Disk n.store.disk) (λ none. none) c.requires.stored.sound (record { version = refl; len = refl; begun = refl; failed = refl }) c.install.new.self
-    c.install.ensures.sound (whole_image text) v text (record { call = durable.Install v text; reason = Received }) (effect_whole n.state.image text) refl (λ _. (tt, tt)) refl refl (IsTooLong text) c.in_err-install.field-0.0 c.in_err-install.ensures.ended
-    (rw (c.requires.stored.version c.requires.not_halted) c.requires.newer) (λ bytes long. absurd (omega (arith, long.0, c.requires.fits))) (c.in_err-install.ensures.durable (c.requires.stored.failed ∙ c.requires.not_halted)))
+    (call_failed g.D.Disk (held n) c.args.self.now.stored c.requires.not_halted n.store (reads_none g.D.Disk n.store.disk) (λ none. none) c.args.self.now.stored c.requires.not_halted c.install.new.self
+    (whole_image text) v text (record { call = durable.Install v text; reason = Received }) (effect_whole n.state.image text) refl (λ _. (tt, tt)) refl refl (IsTooLong text) c.in_err-install.field-0.0 c.in_err-install.ensures.ended
+    (rw (c.args.self.now.stored.version c.requires.not_halted) c.requires.newer) (λ bytes long. absurd (omega (arith, long.0, c.requires.fits))) (c.in_err-install.ensures.durable c.requires.not_halted))
 
 pub returns-clause-ends : goal.returns-clause-ends
 returns-clause-ends g c =
@@ -39,11 +38,9 @@ returns-clause-ends g c =
     let later = c.install.new.self in
     let done = c.in_ok-install.ensures.ended in
     let last = c.take_over.new.self in
-    call_made g.D.Disk (held n) c.requires.stored c.requires.not_halted n.store (reads_none g.D.Disk n.store.disk) (λ none. none) c.requires.stored.sound (record { version = refl; len = refl; begun = refl; failed = refl }) later
-    c.install.ensures.sound (whole_image text) v text (record { call = durable.Install v text; reason = Received }) (effect_whole st.image text) refl (λ _. (tt, tt)) refl refl (server_of last) (member_of last) c.take_over.ensures.place done
-    (c.install.ensures.durable (c.requires.stored.failed ∙ c.requires.not_halted)) (λ failed. ok_not c.in_ok-install.field-0 (sym c.in_ok-install.was ∙ failed)) c.take_over.ensures.version
-    (ap length (c.take_over.ensures.image ∙ c.of.ensures) ∙ held_length g.D.Disk later (c.install.ensures.sound.ready done.failed))
-    (held_there (g.D.Disk.files later.disk) later.len last.image (c.take_over.ensures.image ∙ c.of.ensures))
+    call_made g.D.Disk (held n) c.args.self.now.stored c.requires.not_halted n.store (reads_none g.D.Disk n.store.disk) (λ none. none) c.args.self.now.stored c.requires.not_halted later
+    (whole_image text) v text (record { call = durable.Install v text; reason = Received }) (effect_whole st.image text) refl (λ _. (tt, tt)) refl refl (server_of last) (member_of last) c.take_over.ensures.place done
+    (c.install.ensures.durable c.requires.not_halted) (λ failed. ok_not c.in_ok-install.field-0 (sym c.in_ok-install.was ∙ failed))
     (λ told. (
       sym (c.take_over.ensures.after
           ∙ ap (λ (bytes : List ℕ). with_database (server_of st) v bytes) (held_text (g.D.Disk.files n.store.disk) (g.D.Disk.files later.disk) later.len text c.of.result told c.in_ok-install.ensures.image c.of.ensures)),

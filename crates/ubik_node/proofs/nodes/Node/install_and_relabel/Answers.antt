@@ -18,7 +18,6 @@ use Rattle.ubik_node.specs.Node.{held}
 use Rattle.server_state.specs.State.{ShowsBehind, member_of, server_of}
 use Rattle.ubik_node.proofs.Endings.{handed_ends, short_ends}
 use Rattle.ubik_node.proofs.Fetching.{first_of, held_twice}
-use Rattle.ubik_node.proofs.HeldImages.{held_length, held_there}
 use Rattle.ubik_node.proofs.Received.{effect_whole}
 use Rattle.ubik_node.proofs.Relabelled.{relabel_outputs, settled_calls}
 use Rattle.ubik_node.proofs.TwoCalls.{both_made, first_failed, second_failed}
@@ -26,11 +25,11 @@ use Rattle.ubik_node.proofs.nodes.Node.install_and_relabel.Goals as goal
 
 pub returns-in_err-bytes_of : goal.returns-in_err-bytes_of
 returns-in_err-bytes_of g c =
-    handed_ends g.D.Disk c.from_residual.result _ c.from_residual.ensures.1 (short_ends g.D.Disk (held c.args.self.now) c.requires.stored c.requires.not_halted)
+    handed_ends g.D.Disk c.from_residual.result _ c.from_residual.ensures.1 (short_ends g.D.Disk (held c.args.self.now) c.args.self.now.stored c.requires.not_halted)
 
 pub returns-in_err-give : goal.returns-in_err-give
 returns-in_err-give g c =
-    handed_ends g.D.Disk c.from_residual-in_err-give.result _ c.from_residual-in_err-give.ensures.1 (short_ends g.D.Disk (held c.args.self.now) c.requires.stored c.requires.not_halted)
+    handed_ends g.D.Disk c.from_residual-in_err-give.result _ c.from_residual-in_err-give.ensures.1 (short_ends g.D.Disk (held c.args.self.now) c.args.self.now.stored c.requires.not_halted)
 
 pub returns-in_err-install : goal.returns-in_err-install
 returns-in_err-install g c =
@@ -43,9 +42,9 @@ returns-in_err-install g c =
     let installs : Made = record { call = durable.Install best text; reason = Received } in
     let s = with_database (server_of st) best text in
     handed_ends g.D.Disk c.from_residual-in_err-install.result c.in_err-install.field-0.0 c.from_residual-in_err-install.ensures.1
-    (first_failed g.D.Disk (held n) c.requires.stored c.requires.not_halted c.install.new.self c.install.ensures.sound (whole_image text) best text installs (own_relabelling v) (effect_whole st.image text) refl (λ _. (tt, tt)) refl
+    (first_failed g.D.Disk (held n) c.args.self.now.stored c.requires.not_halted c.install.new.self c.install.ensures.sound (whole_image text) best text installs (own_relabelling v) (effect_whole st.image text) refl (λ _. (tt, tt)) refl
     (ap (λ (calls : List Made). installs ∷ own_relabelling v ∷ calls) (settled_calls m (relabelled_to m s (polled_of c.args.next) v).server)) (IsTooLong text) c.in_err-install.field-0.0 c.in_err-install.ensures.ended
-    (rw (c.requires.stored.version c.requires.not_halted) c.requires.may.newer) (λ bytes long. absurd (omega (arith, long.0, c.requires.fits))) (c.in_err-install.ensures.durable (c.requires.stored.failed ∙ c.requires.not_halted)))
+    (rw (c.args.self.now.stored.version c.requires.not_halted) c.requires.may.newer) (λ bytes long. absurd (omega (arith, long.0, c.requires.fits))) (c.in_err-install.ensures.durable c.requires.not_halted))
 
 pub returns-in_err-relabel : goal.returns-in_err-relabel
 returns-in_err-relabel g c =
@@ -59,9 +58,9 @@ returns-in_err-relabel g c =
     let s = with_database (server_of st) best text in
     let done = c.in_ok-install.ensures.ended in
     handed_ends g.D.Disk c.from_residual-in_err-relabel.result c.in_err-relabel.field-0.0 c.from_residual-in_err-relabel.ensures.1
-    (second_failed g.D.Disk (held n) c.requires.stored c.requires.not_halted c.install.new.self c.install.ensures.sound (whole_image text) best text installs (own_relabelling v) (effect_whole st.image text) refl (λ _. (tt, tt)) refl
+    (second_failed g.D.Disk (held n) c.args.self.now.stored c.requires.not_halted c.install.new.self c.install.ensures.sound (whole_image text) best text installs (own_relabelling v) (effect_whole st.image text) refl (λ _. (tt, tt)) refl
     done
-    (c.install.ensures.durable (c.requires.stored.failed ∙ c.requires.not_halted)) (λ failed. false≢true (ap is_err (sym c.in_ok-install.was ∙ failed))) c.relabel.new.self c.relabel.ensures.sound v refl refl (ap (λ (calls : List Made). installs ∷ own_relabelling v ∷ calls) (settled_calls m (relabelled_to m s (polled_of c.args.next) v).server)) c.in_err-relabel.field-0.0 c.in_err-relabel.ensures.ended
+    (c.install.ensures.durable c.requires.not_halted) (λ failed. false≢true (ap is_err (sym c.in_ok-install.was ∙ failed))) c.relabel.new.self v refl refl (ap (λ (calls : List Made). installs ∷ own_relabelling v ∷ calls) (settled_calls m (relabelled_to m s (polled_of c.args.next) v).server)) c.in_err-relabel.field-0.0 c.in_err-relabel.ensures.ended
     (λ is. c.in_err-relabel.ensures.no_memory done.room (ap Err is)) (ap (λ (w : Version). version_lt w v) done.version ∙ c.requires.newer) (c.in_err-relabel.ensures.durable done.failed))
 
 pub returns : goal.returns
@@ -83,11 +82,9 @@ returns g c =
     let s = with_database (server_of st) best text in
     let after : Server = (relabelled_to m s poll v).server in
     let sent : Server → Member → Server = λ x k. with_phase (with_database x v x.image) (Send poll (record { old = x.version; holders = only_holder k })) in
-    let image = c.settle.ensures.kept.image ∙ c.begin_sending.ensures.image ∙ c.take_over.ensures.image ∙ c.of.ensures in
-    both_made g.D.Disk (held n) c.requires.stored c.requires.not_halted c.install.new.self c.install.ensures.sound (whole_image text) best text installs (own_relabelling v) (effect_whole st.image text) refl (λ _. (tt, tt)) refl
-    done (c.install.ensures.durable (c.requires.stored.failed ∙ c.requires.not_halted)) (λ failed. false≢true (ap is_err (sym c.in_ok-install.was ∙ failed))) later c.relabel.ensures.sound v refl refl (ap (λ (calls : List Made). installs ∷ own_relabelling v ∷ calls) (settled_calls m after))
-    (server_of last) (member_of last) (c.settle.ensures.kept.member ∙ c.begin_sending.ensures.place ∙ c.take_over.ensures.place) also (c.relabel.ensures.durable done.failed) (λ failed. false≢true (ap is_err (sym c.in_ok-relabel.was ∙ failed))) (c.settle.ensures.kept.version ∙ c.begin_sending.ensures.version)
-    (ap length image ∙ held_length g.D.Disk later (c.relabel.ensures.sound.ready also.failed)) (held_there (g.D.Disk.files later.disk) later.len last.image image)
+    both_made g.D.Disk (held n) c.args.self.now.stored c.requires.not_halted c.install.new.self c.install.ensures.sound (whole_image text) best text installs (own_relabelling v) (effect_whole st.image text) refl (λ _. (tt, tt)) refl
+    done (c.install.ensures.durable c.requires.not_halted) (λ failed. false≢true (ap is_err (sym c.in_ok-install.was ∙ failed))) later v refl refl (ap (λ (calls : List Made). installs ∷ own_relabelling v ∷ calls) (settled_calls m after))
+    (server_of last) (member_of last) (c.settle.ensures.kept.member ∙ c.begin_sending.ensures.place ∙ c.take_over.ensures.place) also (c.relabel.ensures.durable done.failed) (λ failed. false≢true (ap is_err (sym c.in_ok-relabel.was ∙ failed)))
     (λ told.
     let bytes = held_twice (g.D.Disk.files n.store.disk) (g.D.Disk.files c.install.new.self.disk) (g.D.Disk.files later.disk) later.len text c.of.result told c.in_ok-install.ensures.image also.image c.of.ensures in
     let sends : server_of sending ≡ after =

@@ -21,8 +21,7 @@ returns g c =
     let n = c.args.self.now in
     let mid = c.install.new.self in
     let last = c.wait.new.self in
-    goes_on g.D.Disk {t = installed (server_of n.state) c.args.version c.args.text.now} (held n) (held mid) refl (server_of last) (member_of last) c.wait.ensures.kept.version
-    c.wait.ensures.kept.image c.wait.ensures.kept.member
+    goes_on g.D.Disk {t = installed (server_of n.state) c.args.version c.args.text.now} (held n) (held mid) refl (server_of last) (member_of last) c.wait.ensures.kept.member
     (λ server. (
       waits_at (server_of n.state) c.args.version c.args.text.now (polled_of c.args.next) mid.state c.args.next server ∙ sym c.wait.ensures.after,
       refl,

@@ -16,8 +16,8 @@ use Rattle.ubik_node.specs.Node.{held, up_server}
 use Rattle.ubik_node.specs.Serving.{IsRepliedTo}
 use Rattle.server_state.specs.State.{member_of, server_of}
 use Rattle.server_state.specs.Writing.{own_of}
-use Rattle.ubik_node.proofs.Calling.{after_reads, known_so, stored_read, unread_ends}
-use Rattle.ubik_node.proofs.Endings.{handed_ends, kept_with, known_read_ends, reads_as, told_still}
+use Rattle.ubik_node.proofs.Calling.{after_reads, known_so, unread_ends}
+use Rattle.ubik_node.proofs.Endings.{handed_ends, known_read_ends, reads_as, told_still}
 use Rattle.ubik_node.proofs.Evaluated.{answers_of, never_less, one_chosen}
 use Rattle.ubik_node.proofs.Made.{judged_here}
 use Rattle.ubik_node.proofs.Turns.{front_whole, writes_busy}
@@ -27,7 +27,7 @@ pub returns-in_err-made-clause-ends : goal.returns-in_err-made-clause-ends
 returns-in_err-made-clause-ends g c = (
   none_chosen g.V.DraftService.standing,
   handed_ends g.D.Disk c.from_residual.result c.in_err-made.field-0.0 c.from_residual.ensures.1
-      (unread_ends g.D.Disk (held c.args.self.now) c.evaluate.new.store c.evaluate.result c.in_err-made.field-0.0 c.in_err-made.was c.evaluate.ensures.fault c.requires.stored c.requires.not_halted c.evaluate.ensures.sound c.evaluate.ensures.same c.evaluate.ensures.failed
+      (unread_ends g.D.Disk (held c.args.self.now) c.evaluate.new.store c.evaluate.result c.in_err-made.field-0.0 c.in_err-made.was c.evaluate.ensures.fault c.args.self.now.stored c.requires.not_halted c.evaluate.ensures.same c.evaluate.ensures.failed
       c.evaluate.ensures.disk),
 )
 
@@ -43,11 +43,10 @@ returns-in-Reply-clause-ends g c =
     let went = λ (failed : _). false≢true (ap is_err failed) in
     let told = answers_of {E = StoreFault} d (image_in files) c.args.now c.args.call.now (Ok c.in_ok-made.made) c.in_ok-made.ensures.made in
     let reads = c.in_ok-made.ensures.disk in
-    let still = stored_read g.D.Disk (held n) c.evaluate.new.store c.requires.stored c.requires.not_halted c.in_ok-made.ensures.sound (c.in_ok-made.ensures.same went) reads went in
     let judged = λ (tells : IsSome files). judged_here d told.one (member_of st) st files c.args.now c.args.id c.args.call.now c.in_ok-made.made (verdict.Reply c.in-Reply.reply) (never_less d g.met.V.DraftService.never_shrinks told.one told.may st.image c.args.now c.args.call.now)
-    c.in-Reply.ensures.judged told.says (c.requires.stored.image c.requires.not_halted) tells in (
+    c.in-Reply.ensures.judged told.says (c.args.self.now.stored.image c.requires.not_halted) tells in (
       one_chosen d told.one told.may [],
-      known_read_ends g.D.Disk (held n) (record (held n) { store = c.evaluate.new.store }) refl refl refl c.requires.stored c.requires.not_halted reads went still
+      known_read_ends g.D.Disk (held n) (record (held n) { store = c.evaluate.new.store }) refl refl c.args.self.now.stored c.requires.not_halted reads went ((c.in_ok-made.ensures.same went).failed ∙ c.requires.not_halted)
           (λ tells.
           let leads = judged tells in (
             leads.calls,
@@ -77,12 +76,10 @@ returns-in-NewPoll-clause-ends g c =
     let reads = c.in_ok-made.ensures.disk in
     let shows = c.last_counter.ensures.shows in
     let kept = c.last_counter.ensures.kept in
-    let still = stored_read g.D.Disk (held n) c.evaluate.new.store c.requires.stored c.requires.not_halted c.in_ok-made.ensures.sound (c.in_ok-made.ensures.same went) reads went in
     let judged = λ (tells : IsSome files). judged_here d told.one (member_of st) st files c.args.now c.args.id c.args.call.now c.in_ok-made.made verdict.NewPoll (never_less d g.met.V.DraftService.never_shrinks told.one told.may st.image c.args.now c.args.call.now)
-    c.in-NewPoll.ensures.judged told.says (c.requires.stored.image c.requires.not_halted) tells in (
+    c.in-NewPoll.ensures.judged told.says (c.args.self.now.stored.image c.requires.not_halted) tells in (
       one_chosen d told.one told.may [],
-      known_read_ends g.D.Disk (held n) (record (held n) { store = c.evaluate.new.store; server = server_of last; member = member_of last }) refl refl kept.member c.requires.stored c.requires.not_halted reads went
-          (kept_with g.D.Disk (record (held n) { store = c.evaluate.new.store }) (server_of last) still kept.version kept.image)
+      known_read_ends g.D.Disk (held n) (record (held n) { store = c.evaluate.new.store; server = server_of last; member = member_of last }) refl kept.member c.args.self.now.stored c.requires.not_halted reads went ((c.in_ok-made.ensures.same went).failed ∙ c.requires.not_halted)
           (λ tells.
           let is = judged tells in (
             ap (λ (t : Stepped). t.calls) is ∙ shows.calls,
@@ -108,7 +105,7 @@ returns-then-len-eq1-clause-ends g c =
     let reads = c.in_ok-made.ensures.disk in
     let image = (outcome_told told.one d.database st.image c.args.now c.args.call.now).image in
     let judged = λ (tells : IsSome files). judged_here d told.one (member_of st) st files c.args.now c.args.id c.args.call.now c.in_ok-made.made (verdict.Commit c.in-Commit.answer c.in-Commit.changes) (never_less d g.met.V.DraftService.never_shrinks told.one told.may st.image c.args.now c.args.call.now)
-    c.in-Commit.ensures.judged told.says (c.requires.stored.image c.requires.not_halted) tells in (
+    c.in-Commit.ensures.judged told.says (c.args.self.now.stored.image c.requires.not_halted) tells in (
       one_chosen d told.one told.may [],
       after_reads g.D.Disk (held n) c.evaluate.new.store (held c.commit.new.self) c.commit.result reads went
           (known_so g.D.Disk c.commit.result (λ (tells : IsSome files). ((told_still g.D.Disk reads went tells, (judged tells).0), (judged tells).1)) (c.commit.ensures.ends c.args.now c.args.call.now image)),
@@ -128,7 +125,7 @@ returns-clause-ends g c =
     let reads = c.in_ok-made.ensures.disk in
     let image = (outcome_told told.one d.database st.image c.args.now c.args.call.now).image in
     let judged = λ (tells : IsSome files). judged_here d told.one (member_of st) st files c.args.now c.args.id c.args.call.now c.in_ok-made.made (verdict.Commit c.in-Commit.answer c.in-Commit.changes) (never_less d g.met.V.DraftService.never_shrinks told.one told.may st.image c.args.now c.args.call.now)
-    c.in-Commit.ensures.judged told.says (c.requires.stored.image c.requires.not_halted) tells in (
+    c.in-Commit.ensures.judged told.says (c.args.self.now.stored.image c.requires.not_halted) tells in (
       one_chosen d told.one told.may [],
       after_reads g.D.Disk (held n) c.evaluate.new.store (held c.begin_write.new.self) c.begin_write.result reads went
           (known_so g.D.Disk c.begin_write.result (λ (tells : IsSome files). ((told_still g.D.Disk reads went tells, (judged tells).0), (judged tells).1)) (c.begin_write.ensures.ends image)),

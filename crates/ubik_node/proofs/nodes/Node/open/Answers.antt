@@ -12,10 +12,10 @@ use Rattle.ubik_store.specs.Rest.{RestsAs}
 use Rattle.ubik_store.proofs.Telling.{told, of_told}
 use Rattle.ubik_node.specs.Disk.{StandsAs}
 use Rattle.server_state.specs.Held.{held_image}
-use Rattle.ubik_node.proofs.HeldImages.{held_length, held_there}
+use Rattle.ubik_node.proofs.HeldImages.{held_length}
 use Rattle.server_state.specs.Recovering.{IsOfCell}
 use Rattle.server_state.proofs.Polled.{of_none}
-use Rattle.ubik_node.proofs.Stepping.{opened_is}
+use Rattle.ubik_node.proofs.Stepping.{opened_is, up_if}
 use Rattle.ubik_node.proofs.nodes.Node.open.Goals as goal
 
 -- what the store told
@@ -33,7 +33,7 @@ stands_held files fs version told len bytes same opens held =
 pub returns-clause-opened : goal.returns-clause-opened
 returns-clause-opened g c = (
   durable c.version.result c.of.result,
-  ap (λ (r : RecoveryRecord). model.Up (record {
+  up_if _ _ _ c.in_ok-store.ensures.fresh.1 ∙ ap (λ (r : RecoveryRecord). model.Up (record {
     version = c.version.result;
     image = c.of.result;
     votes = c.start.result.votes;
@@ -52,19 +52,6 @@ returns-clause-opened g c = (
       stands_held (g.D.Disk.files s.disk) fs s.version c.version.result s.len c.of.result c.version.ensures
       (of_told (g.D.Disk.files c.args.disk) fs (OpensAs s.version s.len (g.D.Disk.files s.disk)) is c.in_ok-store.ensures.stands) c.of.ensures),
 )
-
-pub returns-clause-stored : goal.returns-clause-stored
-returns-clause-stored g c =
-    let s = c.in_ok-store.store in
-    let opened = c.in_ok-store.ensures in
-    record {
-      sound = opened.sound;
-      version = λ _. sym c.version.ensures;
-      len = λ _. sym (ap length c.of.ensures ∙ held_length g.D.Disk s (opened.sound.ready opened.fresh.1));
-      none_begun = λ up. opened.fresh.0;
-      failed = opened.fresh.1;
-      image = λ up. held_there (g.D.Disk.files s.disk) s.len c.of.result c.of.ensures;
-    }
 
 pub invariant_of-state : goal.invariant_of-state
 invariant_of-state g c =

@@ -7,11 +7,11 @@ use Rattle.ubik_node.proofs.nodes.Node.perform.Goals as goal
 
 pub returns-in-Rest-clause-ends : goal.returns-in-Rest-clause-ends
 returns-in-Rest-clause-ends g c =
-    rw c.in-Rest.is (none_chosen g.V.DraftService.standing, rests_ends g.D.Disk (held c.args.self.now) c.requires.stored c.requires.not_halted (record { server = refl; calls = refl; outputs = sym (append-nil c.args.out.now) }))
+    rw c.in-Rest.is (none_chosen g.V.DraftService.standing, rests_ends g.D.Disk (held c.args.self.now) c.args.self.now.stored c.requires.not_halted (record { server = refl; calls = refl; outputs = sym (append-nil c.args.out.now) }))
 
 pub returns-in-Send-clause-ends : goal.returns-in-Send-clause-ends
 returns-in-Send-clause-ends g c =
-    rw c.in-Send.is (none_chosen g.V.DraftService.standing, rests_ends g.D.Disk (held c.args.self.now) c.requires.stored c.requires.not_halted (record { server = refl; calls = refl; outputs = c.send.ensures.sent }))
+    rw c.in-Send.is (none_chosen g.V.DraftService.standing, rests_ends g.D.Disk (held c.args.self.now) c.args.self.now.stored c.requires.not_halted (record { server = refl; calls = refl; outputs = c.send.ensures.sent }))
 
 pub returns-in-SendPiece-clause-ends : goal.returns-in-SendPiece-clause-ends
 returns-in-SendPiece-clause-ends g c = rw c.in-SendPiece.is (none_chosen g.V.DraftService.standing, c.send_piece.ensures)

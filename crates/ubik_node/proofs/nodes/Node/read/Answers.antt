@@ -36,11 +36,11 @@ returns-clause-ends g c =
     ap (λ (f : FlightRecord). undo.image_before f.undo f.old_len n.state.image) c.flight.ensures.flight ∙ sym undone.bytes ∙ sym (ap (announced n.state.image) own) in
     let read = option_map (undo.image_before flight.undo flight.old_len) (image_in files) in
     let told = answers_of d read c.args.now c.args.call.now c.evaluate_before-made.result c.evaluate_before-made.ensures.made in
-    read_ended g.D.Disk d (held n) c.evaluate_before-made.new.store c.requires.stored c.requires.not_halted c.evaluate_before-made.ensures.sound image c.args.now c.args.id c.args.call.now c.args.out.now c.answer_read.new.out told.one told.may
+    read_ended g.D.Disk d (held n) c.evaluate_before-made.new.store c.args.self.now.stored c.requires.not_halted image c.args.now c.args.id c.args.call.now c.args.out.now c.answer_read.new.out told.one told.may
     c.evaluate_before-made.result c.answer_read.result
     c.evaluate_before-made.ensures.same c.evaluate_before-made.ensures.failed c.evaluate_before-made.ensures.disk
     (λ tells. replied_as d told.one image c.args.now c.args.call.now read c.evaluate_before-made.result
-    (λ e made. made_from d told.one files (undo.image_before flight.undo flight.old_len) n.state.image image c.args.now c.args.call.now e tells (c.requires.stored.image c.requires.not_halted) before made) told.says)
+    (λ e made. made_from d told.one files (undo.image_before flight.undo flight.old_len) n.state.image image c.args.now c.args.call.now e tells (c.args.self.now.stored.image c.requires.not_halted) before made) told.says)
     c.answer_read.ensures.fault c.answer_read.ensures.memory c.answer_read.ensures.replied
 
 pub evaluate_before-made-requires-clause-fits : goal.evaluate_before-made-requires-clause-fits

@@ -11,9 +11,9 @@ returns-clause-ends g c =
     let d = g.V.DraftService.standing in
     let files = g.D.Disk.files n.store.disk in
     let told = answers_of d (image_in files) c.args.now c.args.call.now c.evaluate-made.result c.evaluate-made.ensures.made in
-    read_ended g.D.Disk d (held n) c.evaluate-made.new.store c.requires.stored c.requires.not_halted c.evaluate-made.ensures.sound n.state.image c.args.now c.args.id c.args.call.now c.args.out.now c.answer_read.new.out told.one told.may
+    read_ended g.D.Disk d (held n) c.evaluate-made.new.store c.args.self.now.stored c.requires.not_halted n.state.image c.args.now c.args.id c.args.call.now c.args.out.now c.answer_read.new.out told.one told.may
     c.evaluate-made.result c.answer_read.result
     c.evaluate-made.ensures.same c.evaluate-made.ensures.failed c.evaluate-made.ensures.disk
     (λ tells. replied_as d told.one n.state.image c.args.now c.args.call.now (image_in files) c.evaluate-made.result
-    (λ e made. made_here d told.one files n.state.image c.args.now c.args.call.now e tells (c.requires.stored.image c.requires.not_halted) made) told.says)
+    (λ e made. made_here d told.one files n.state.image c.args.now c.args.call.now e tells (c.args.self.now.stored.image c.requires.not_halted) made) told.says)
     c.answer_read.ensures.fault c.answer_read.ensures.memory c.answer_read.ensures.replied

@@ -9,7 +9,7 @@ use Rattle.ubik_node.proofs.nodes.Node.receive.Goals as goal
 pub returns-in_default-clause-ends : goal.returns-in_default-clause-ends
 returns-in_default-clause-ends g c =
     rw (placed _ _ _ c.index.ensures.found c.index.ensures.only ∙ c.in_default.is)
-    (none_chosen g.V.DraftService.standing, rests_ends g.D.Disk (held c.args.self.now) c.requires.stored c.requires.not_halted (record { server = refl; calls = refl; outputs = sym (append-nil c.args.out.now) }))
+    (none_chosen g.V.DraftService.standing, rests_ends g.D.Disk (held c.args.self.now) c.args.self.now.stored c.requires.not_halted (record { server = refl; calls = refl; outputs = sym (append-nil c.args.out.now) }))
 
 pub returns-clause-ends : goal.returns-clause-ends
 returns-clause-ends g c = rw (placed _ _ _ c.index.ensures.found c.index.ensures.only ∙ c.in-Some.is) c.heard.ensures.ends

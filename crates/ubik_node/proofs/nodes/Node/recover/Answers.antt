@@ -18,7 +18,7 @@ returns-in_err-act g c =
     let last = c.recovery_turn.new.state in (
       none_chosen g.V.DraftService.standing,
       handed_ends g.D.Disk c.from_residual.result _ c.from_residual.ensures.1
-          (short_back g.D.Disk (held n) (server_of last) (member_of last) c.requires.stored c.requires.not_halted (ap (λ (st : State). server_of st) err) (ap (λ (st : State). member_of st) err)),
+          (short_back g.D.Disk (held n) (server_of last) (member_of last) c.args.self.now.stored c.requires.not_halted (ap (λ (st : State). server_of st) err) (ap (λ (st : State). member_of st) err)),
     )
 
 pub returns : goal.returns

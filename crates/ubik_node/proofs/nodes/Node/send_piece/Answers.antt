@@ -9,7 +9,7 @@ use Rattle.cell_model.specs.Step.{outputs_of, sends_to}
 use Rattle.server_rules.specs.Acts.{own_piece}
 use Rattle.server_state.specs.State.{member_of, server_of}
 use Rattle.ubik_node.specs.Node.{held}
-use Rattle.ubik_node.proofs.Calling.{stored_read, unread_ends}
+use Rattle.ubik_node.proofs.Calling.{unread_ends}
 use Rattle.ubik_node.proofs.Endings.{handed_ends, read_ends}
 use Rattle.ubik_node.proofs.Relabelled.{piece_known}
 use Rattle.ubik_node.proofs.nodes.Node.send_piece.Goals as goal
@@ -22,7 +22,7 @@ own_as s poll at false bytes is = ap (λ (xs : List ℕ). body.SendPiece poll s.
 pub returns-in_err-bytes : goal.returns-in_err-bytes
 returns-in_err-bytes g c =
     handed_ends g.D.Disk c.from_residual.result c.in_err-bytes.field-0.0 c.from_residual.ensures.1
-    (unread_ends g.D.Disk (held c.args.self.now) c.read_piece.new.store c.read_piece.result c.in_err-bytes.field-0.0 c.in_err-bytes.was c.read_piece.ensures.fault c.requires.stored c.requires.not_halted c.read_piece.ensures.sound c.read_piece.ensures.same
+    (unread_ends g.D.Disk (held c.args.self.now) c.read_piece.new.store c.read_piece.result c.in_err-bytes.field-0.0 c.in_err-bytes.was c.read_piece.ensures.fault c.args.self.now.stored c.requires.not_halted c.read_piece.ensures.same
     c.read_piece.ensures.failed c.read_piece.ensures.disk)
 
 pub returns : goal.returns
@@ -32,11 +32,11 @@ returns g c =
     let s = c.read_piece.new.store in
     let bytes = c.in_ok-bytes.bytes in
     let went = λ (failed : _). false≢true (ap is_err failed) in
-    read_ends g.D.Disk (held n) (record (held n) { store = s }) refl refl refl c.requires.stored c.requires.not_halted c.in_ok-bytes.ensures.disk went
-    (stored_read g.D.Disk (held n) s c.requires.stored c.requires.not_halted c.in_ok-bytes.ensures.sound (c.in_ok-bytes.ensures.same went) c.in_ok-bytes.ensures.disk went) refl
+    read_ends g.D.Disk (held n) (record (held n) { store = s }) refl refl c.args.self.now.stored c.requires.not_halted c.in_ok-bytes.ensures.disk went
+    ((c.in_ok-bytes.ensures.same went).failed ∙ c.requires.not_halted) refl
     (λ told. (
       refl,
       c.send.ensures.sent ∙ ap (λ (x : Body). c.args.out.now ++ outputs_of (sends_to (member_of st) c.args.to x))
           (c.piece_of-piece.ensures.piece ∙ own_as (server_of st) c.args.poll c.args.at c.args.asked bytes
-          (piece_known (g.D.Disk.files n.store.disk) bytes st.image c.args.at told c.in_ok-bytes.ensures.piece (c.requires.stored.image c.requires.not_halted))),
+          (piece_known (g.D.Disk.files n.store.disk) bytes st.image c.args.at told c.in_ok-bytes.ensures.piece (c.args.self.now.stored.image c.requires.not_halted))),
     ))

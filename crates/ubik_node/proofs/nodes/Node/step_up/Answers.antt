@@ -41,8 +41,7 @@ returns g c =
     let back = returned c.lapse-given.result later.state in
     let same : durable_in (server_of mid) ≡ durable_in (server_of st) = ap (λ (v : Version). durable v mid.image) kept.version ∙ ap (durable st.version) kept.image in
     let returns = err_map c.handle-end.result _ (back ≡ server_of st) ends.state (λ same. back_same c.lapse-given.result later.state mid same ∙ sym c.lapse-given.ensures.back) in
-    let so = closed g.D.Disk e first (held later) (held c.end.new.self) c.handle-end.new.out c.end.new.out back c.end.result c.requires.not_halted c.handle-end.result ends
-    (err_map c.handle-end.result _ (durable_in back ≡ durable_in (server_of mid)) returns (λ is. ap durable_in is ∙ sym same)) c.end.ensures in
+    let so = closed g.D.Disk e first (held later) (held c.end.new.self) c.handle-end.new.out c.end.new.out back c.end.result c.requires.not_halted c.handle-end.result ends c.end.ensures in
     let step : Needs d.database (member_of st) (node_of n) e now (g.D.Disk.files n.store.disk)
     → StepsFreely g.D.Disk d (member_of st) c.end.result e now (node_of n) (node_of c.end.new.self) c.end.new.out n.store.disk c.end.new.self.store.disk = λ needs.
     steps_at g.D.Disk d (member_of st) c.end.result e e (server_of st) now _ _ _ _ n.store.disk c.end.new.self.store.disk up refl refl
@@ -56,7 +55,6 @@ returns g c =
       step = step;
       meant = λ needs holds. steps_meant g.D.Disk d keeps (member_of st) c.end.result e now (node_of n) (node_of c.end.new.self) c.end.new.out n.store.disk c.end.new.self.store.disk holds (step needs);
       member = so.member ∙ kept.member;
-      stored = so.stored;
       memory = λ none. closed_memory e (held later) (held c.end.new.self) c.handle-end.new.out c.end.new.out back c.end.result c.handle-end.result (c.handle-end.ensures.memory none) c.end.ensures;
       halts = so.halts;
       told = so.told;

@@ -18,7 +18,7 @@ pub returns : goal.returns
 returns g c =
     let n = c.args.self.now in
     let x = c.install.new.self.state in
-    goes_on g.D.Disk {t = installed (server_of n.state) c.args.version c.args.text.now} (held n) (held c.install.new.self) refl (server_of x) (member_of x) refl refl refl
+    goes_on g.D.Disk {t = installed (server_of n.state) c.args.version c.args.text.now} (held n) (held c.install.new.self) refl (server_of x) (member_of x) refl
     (λ server. (
       server,
       c.send.ensures.sent ∙ ap (λ (k : Member). c.args.out.now ++ outputs_of (sends_to k c.args.to (body.VersionKept c.args.version))) c.in_ok-install.ensures.ends.member,

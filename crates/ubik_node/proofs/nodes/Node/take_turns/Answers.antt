@@ -19,14 +19,13 @@ loop-self-init g c =
     let st = n.state in
     record {
       not_halted = c.requires.not_halted;
-      stored = c.requires.stored;
       few = λ free. omega (arith, c.requires.few, st.written.room);
       nobody = λ none. none;
       goes = λ free after new r fine ends. ends;
       over = λ busy. (
         none_chosen g.V.DraftService.standing,
         same_ends g.D.Disk (turns_rest (dbs_of (none_chosen g.V.DraftService.standing)) (member_of st) c.args.now (waiting_of st.writes) (server_of st) [] busy)
-            (rests_ends g.D.Disk (held n) c.requires.stored c.requires.not_halted (record { server = refl; calls = refl; outputs = sym (append-nil c.args.out.now) })),
+            (rests_ends g.D.Disk (held n) c.args.self.now.stored c.requires.not_halted (record { server = refl; calls = refl; outputs = sym (append-nil c.args.out.now) })),
       );
     }
 
@@ -52,8 +51,7 @@ loop-self-preserved g c =
     let ends = same_ends g.D.Disk (ap (λ (call : List ℕ). write_turn (dbs_of turn.0 0) (member_of now) (server_of now) c.args.now w.id call b) (sym c.as_slice.ensures)) (named_as g.D.Disk c.write_turn.result (Ok c.in_ok-write_turn.field-0) c.in_ok-write_turn.was turn.1) in
     let several_now : 1 < length now.cell = omega (arith, others, ap (λ (k : Member). length k.hosts) kept.member) in
     record {
-      not_halted = ends.halted ∙ inv.not_halted;
-      stored = ends.stored (λ failed. ok_not c.in_ok-write_turn.field-0 failed);
+      not_halted = ends.leaves.runs (λ failed. ok_not c.in_ok-write_turn.field-0 failed);
       few = λ ready.
           let replied = made.rests several_now ready in
           omega (arith, inv.few free, replied.few, c.write_turn.ensures.line, ap length line, ap (λ (s : Server). length s.waiting) c.next_asked.ensures.after);
@@ -119,9 +117,9 @@ returns-in_default-clause-ends g c =
     let now = c.next_asked.new.self in
     let kept = c.next_asked.ensures.kept in
     let none = line_none (waiting_of st.writes) (sym c.in_default.is ∙ c.next_asked.ensures.first) in
-    inv.goes free c.loop-self.out (held (record n { state = now })) (Ok tt) (inr refl) (
+    inv.goes free c.loop-self.out (record (held n) { server = server_of now; member = member_of now }) (Ok tt) (inr refl) (
       none_chosen g.V.DraftService.standing,
-      shown_ends g.D.Disk (held n) st now inv.stored inv.not_halted refl refl kept
+      shown_ends g.D.Disk (held n) st now n.stored inv.not_halted refl kept
           (nobody_left (dbs_of (none_chosen g.V.DraftService.standing)) (member_of st) c.args.now (server_of st) (server_of now) [] c.loop-self.out none c.next_asked.ensures.after),
     )
 

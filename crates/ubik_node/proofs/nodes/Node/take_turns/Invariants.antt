@@ -4,7 +4,7 @@ use Rattle.ubik_store.specs.declared.faults.StoreFault.TheVariants.{DiskFault}
 use Rattle.cell_model.specs.declared.events.Output.{Output}
 use Rattle.cell_model.specs.Writes.{is_free, next_turns}
 use Rattle.ubik_node.specs.Choices.{Choices, dbs_of}
-use Rattle.ubik_node.specs.Node.{EndsSo, Held, held, IsStored, own_member, up_server}
+use Rattle.ubik_node.specs.Node.{EndsSo, Held, held, own_member, up_server}
 use Rattle.server_state.specs.Writing.{waiting_of}
 use Rattle.ubik_node.proofs.nodes.Node.take_turns.Given as goal
 
@@ -14,8 +14,7 @@ invariant-loop-self g l =
     let last = λ (after : List Output) (new : Held g.row.D.Denot) (r : Result (Unit {0}) StoreFault).
     EndsSo g.D.Disk d (IsSome (g.D.Disk.files l.fn.self.store.disk)) (λ (o : Choices d). next_turns (dbs_of o) (own_member l.fn.self) l.now (up_server l.fn.self).waiting (up_server l.fn.self) o.short) l.fn.out after (held l.fn.self) new r in
     record {
-      not_halted : l.self.halted ≡ false;
-      stored : IsStored g.D.Disk l.self;
+      not_halted : l.self.store.failed ≡ false;
       few : is_free (up_server l.self) ≡ true → length l.out + length (waiting_of l.self.state.writes) ≤ 166;
       nobody : waiting_of l.fn.self.state.writes ≡ [] → waiting_of l.self.state.writes ≡ [];
       goes : is_free (up_server l.self) ≡ true → (after : List Output) (new : Held g.row.D.Denot) (r : Result (Unit {0}) StoreFault) → IsErrOf r DiskFault ⊎ IsOk r

@@ -1,15 +1,12 @@
-use Rattle.std.proofs.Common.{◌∙◌, ◌++◌, [], length, refl, sym, ap}
-use Rattle.ubik_types.specs.Image.{effect}
+use Rattle.std.proofs.Common.{◌∙◌, ◌++◌, [], refl, sym, ap}
 use Rattle.ubik_calls.specs.declared.packets.Body.TheVariants as body
 use Rattle.cell_model.specs.Durable as durable
 use Rattle.cell_model.specs.Durable.{Received}
 use Rattle.cell_model.specs.Step.{Member, outputs_of, sends_to}
 use Rattle.ubik_store.specs.DurableCall.{IsNeverLong}
-use Rattle.ubik_store.specs.Store.{image_in}
 use Rattle.ubik_node.specs.Node.{held}
 use Rattle.server_state.specs.State.{member_of, server_of}
 use Rattle.ubik_node.proofs.Calling.{call_failed, call_made}
-use Rattle.ubik_node.proofs.Durables.{image_then}
 use Rattle.ubik_node.proofs.Endings.{handed_ends, ok_not, reads_none}
 use Rattle.ubik_node.proofs.nodes.Node.take_version.Goals as goal
 
@@ -18,9 +15,9 @@ returns-in_err-relabel g c =
     let n = c.args.self.now in
     let st = n.state in
     handed_ends g.D.Disk c.from_residual.result c.in_err-relabel.field-0.0 c.from_residual.ensures.1
-    (call_failed g.D.Disk (held n) c.requires.stored c.requires.not_halted n.store (reads_none g.D.Disk n.store.disk) (λ none. none) c.requires.stored.sound (record { version = refl; len = refl; begun = refl; failed = refl }) c.relabel.new.self
-    c.relabel.ensures.sound [] c.args.new st.image (record { call = durable.Relabel c.args.new; reason = Received }) refl refl (λ _. tt) refl refl IsNeverLong c.in_err-relabel.field-0.0 c.in_err-relabel.ensures.ended
-    (rw (c.requires.stored.version c.requires.not_halted) c.requires.may.newer) (λ bytes long. absurd long) (c.in_err-relabel.ensures.durable (c.requires.stored.failed ∙ c.requires.not_halted)))
+    (call_failed g.D.Disk (held n) c.args.self.now.stored c.requires.not_halted n.store (reads_none g.D.Disk n.store.disk) (λ none. none) c.args.self.now.stored c.requires.not_halted c.relabel.new.self
+    [] c.args.new st.image (record { call = durable.Relabel c.args.new; reason = Received }) refl refl (λ _. tt) refl refl IsNeverLong c.in_err-relabel.field-0.0 c.in_err-relabel.ensures.ended
+    (rw (c.args.self.now.stored.version c.requires.not_halted) c.requires.may.newer) (λ bytes long. absurd long) (c.in_err-relabel.ensures.durable c.requires.not_halted))
 
 pub returns : goal.returns
 returns g c =
@@ -29,10 +26,9 @@ returns g c =
     let later = c.relabel.new.self in
     let last = c.relabel-2.new.self in
     let done = c.in_ok-relabel.ensures.ended in
-    call_made g.D.Disk (held n) c.requires.stored c.requires.not_halted n.store (reads_none g.D.Disk n.store.disk) (λ none. none) c.requires.stored.sound (record { version = refl; len = refl; begun = refl; failed = refl }) later
-    c.relabel.ensures.sound [] c.args.new st.image (record { call = durable.Relabel c.args.new; reason = Received }) refl refl (λ _. tt) refl refl (server_of last) (member_of last) c.relabel-2.ensures.place done (c.relabel.ensures.durable (c.requires.stored.failed ∙ c.requires.not_halted))
-    (λ failed. ok_not c.in_ok-relabel.field-0 (sym c.in_ok-relabel.was ∙ failed)) c.relabel-2.ensures.version (ap length c.relabel-2.ensures.image ∙ sym (done.len ∙ c.requires.stored.len c.requires.not_halted))
-    (image_then (λ bytes. effect bytes []) (image_in (g.D.Disk.files n.store.disk)) (image_in (g.D.Disk.files later.disk)) st.image last.image done.image (c.requires.stored.image c.requires.not_halted) (sym c.relabel-2.ensures.image))
+    call_made g.D.Disk (held n) c.args.self.now.stored c.requires.not_halted n.store (reads_none g.D.Disk n.store.disk) (λ none. none) c.args.self.now.stored c.requires.not_halted later
+    [] c.args.new st.image (record { call = durable.Relabel c.args.new; reason = Received }) refl refl (λ _. tt) refl refl (server_of last) (member_of last) c.relabel-2.ensures.place done (c.relabel.ensures.durable c.requires.not_halted)
+    (λ failed. ok_not c.in_ok-relabel.field-0 (sym c.in_ok-relabel.was ∙ failed))
     (λ told. (
       sym c.relabel-2.ensures.after,
       c.send.ensures.sent ∙ ap (λ (m : Member). c.args.out.now ++ outputs_of (sends_to m c.args.to (body.VersionKept c.args.new))) c.relabel-2.ensures.place,

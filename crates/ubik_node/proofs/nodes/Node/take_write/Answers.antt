@@ -15,7 +15,7 @@ use Rattle.server_state.specs.State.{member_of, server_of}
 use Rattle.ubik_node.proofs.Begun.{commit_ended}
 use Rattle.ubik_node.proofs.Calling.{call_failed, call_made, ended}
 use Rattle.ubik_node.proofs.Endings.{handed_ends, ok_not, reads_none}
-use Rattle.ubik_node.proofs.HeldImages.{held_after, held_length, held_there}
+use Rattle.ubik_node.proofs.HeldImages.{held_after}
 use Rattle.ubik_node.proofs.nodes.Node.take_write.Goals as goal
 
 pub returns-in_err-commit_all : goal.returns-in_err-commit_all
@@ -26,12 +26,12 @@ returns-in_err-commit_all g c =
     let e = c.in_err-commit_all.field-0.0 in
     let later = c.commit_all.new.store in
     let kept = logged (length st.image) c.args.changes.now in
-    let same : logged n.store.len c.as_slice.result.now ≡ kept = ap (λ (cs : List Change). logged n.store.len cs) c.as_slice.ensures ∙ ap (λ (k : ℕ). logged k c.args.changes.now) (c.requires.stored.len c.requires.not_halted) in
-    let fits : too_large 0 n.store.len c.as_slice.result.now ≡ None = ap (λ (cs : List Change). too_large 0 n.store.len cs) c.as_slice.ensures ∙ ap (λ (k : ℕ). too_large 0 k c.args.changes.now) (c.requires.stored.len c.requires.not_halted) ∙ c.requires.fits in
-    let newer = ap (λ (own : Version). version_lt own v) (c.requires.stored.version c.requires.not_halted) ∙ c.requires.may.newer in
+    let same : logged n.store.len c.as_slice.result.now ≡ kept = ap (λ (cs : List Change). logged n.store.len cs) c.as_slice.ensures ∙ ap (λ (k : ℕ). logged k c.args.changes.now) (c.args.self.now.stored.len c.requires.not_halted) in
+    let fits : too_large 0 n.store.len c.as_slice.result.now ≡ None = ap (λ (cs : List Change). too_large 0 n.store.len cs) c.as_slice.ensures ∙ ap (λ (k : ℕ). too_large 0 k c.args.changes.now) (c.args.self.now.stored.len c.requires.not_halted) ∙ c.requires.fits in
+    let newer = ap (λ (own : Version). version_lt own v) (c.args.self.now.stored.version c.requires.not_halted) ∙ c.requires.may.newer in
     handed_ends g.D.Disk c.from_residual.result e c.from_residual.ensures.1
-    (call_failed g.D.Disk (held n) c.requires.stored c.requires.not_halted n.store (reads_none g.D.Disk n.store.disk) (λ none. none) c.requires.stored.sound (record { version = refl; len = refl; begun = refl; failed = refl }) later
-    c.commit_all.ensures.sound kept v (effect st.image kept) (record { call = durable.Commit v kept (effect st.image kept); reason = Received }) refl refl (λ cuts. cuts) refl refl IsNeverLong e
+    (call_failed g.D.Disk (held n) c.args.self.now.stored c.requires.not_halted n.store (reads_none g.D.Disk n.store.disk) (λ none. none) c.args.self.now.stored c.requires.not_halted later
+    kept v (effect st.image kept) (record { call = durable.Commit v kept (effect st.image kept); reason = Received }) refl refl (λ cuts. cuts) refl refl IsNeverLong e
     (commit_ended g.D.Disk v n.store later e newer (c.in_err-commit_all.ensures.memory fits) (λ is. c.commit_all.ensures.failed (c.in_err-commit_all.was ∙ ap Err is)) c.in_err-commit_all.ensures.refused)
     newer (λ bytes long. absurd long)
     (subst (λ (cs : List Change). IsDurable g.D.Disk cs v n.store later (IsErrOf (ended e) DiskFault)) same c.in_err-commit_all.ensures.durable))
@@ -44,15 +44,13 @@ returns g c =
     let later = c.commit_all.new.store in
     let last = c.take_over.new.self in
     let kept = logged (length st.image) c.args.changes.now in
-    let same : logged n.store.len c.as_slice.result.now ≡ kept = ap (λ (cs : List Change). logged n.store.len cs) c.as_slice.ensures ∙ ap (λ (k : ℕ). logged k c.args.changes.now) (c.requires.stored.len c.requires.not_halted) in
+    let same : logged n.store.len c.as_slice.result.now ≡ kept = ap (λ (cs : List Change). logged n.store.len cs) c.as_slice.ensures ∙ ap (λ (k : ℕ). logged k c.args.changes.now) (c.args.self.now.stored.len c.requires.not_halted) in
     let done : Commits g.D.Disk kept v n.store later = subst (λ (cs : List Change). Commits g.D.Disk cs v n.store later) same c.in_ok-commit_all.ensures.done in
-    call_made g.D.Disk (held n) c.requires.stored c.requires.not_halted n.store (reads_none g.D.Disk n.store.disk) (λ none. none) c.requires.stored.sound (record { version = refl; len = refl; begun = refl; failed = refl }) later
-    c.commit_all.ensures.sound kept v (effect st.image kept) (record { call = durable.Commit v kept (effect st.image kept); reason = Received }) refl refl (λ cuts. cuts) refl refl (server_of last) (member_of last) c.take_over.ensures.place done
-    (subst (λ (cs : List Change). IsDurable g.D.Disk cs v n.store later (IsErrOf c.commit_all.result DiskFault)) same c.commit_all.ensures.durable) (λ failed. ok_not c.in_ok-commit_all.field-0 (sym c.in_ok-commit_all.was ∙ failed)) c.take_over.ensures.version
-    (ap length (c.take_over.ensures.image ∙ c.of.ensures) ∙ held_length g.D.Disk later (c.commit_all.ensures.sound.ready done.failed))
-    (held_there (g.D.Disk.files later.disk) later.len last.image (c.take_over.ensures.image ∙ c.of.ensures))
+    call_made g.D.Disk (held n) c.args.self.now.stored c.requires.not_halted n.store (reads_none g.D.Disk n.store.disk) (λ none. none) c.args.self.now.stored c.requires.not_halted later
+    kept v (effect st.image kept) (record { call = durable.Commit v kept (effect st.image kept); reason = Received }) refl refl (λ cuts. cuts) refl refl (server_of last) (member_of last) c.take_over.ensures.place done
+    (subst (λ (cs : List Change). IsDurable g.D.Disk cs v n.store later (IsErrOf c.commit_all.result DiskFault)) same c.commit_all.ensures.durable) (λ failed. ok_not c.in_ok-commit_all.field-0 (sym c.in_ok-commit_all.was ∙ failed))
     (λ told. (
       sym (c.take_over.ensures.after
-          ∙ ap (λ (bytes : List ℕ). with_database (server_of st) v bytes) (c.of.ensures ∙ held_after (g.D.Disk.files n.store.disk) (g.D.Disk.files later.disk) later.len kept st.image (effect st.image kept) told (c.requires.stored.image c.requires.not_halted) done.image refl)),
+          ∙ ap (λ (bytes : List ℕ). with_database (server_of st) v bytes) (c.of.ensures ∙ held_after (g.D.Disk.files n.store.disk) (g.D.Disk.files later.disk) later.len kept st.image (effect st.image kept) told (c.args.self.now.stored.image c.requires.not_halted) done.image refl)),
       c.send.ensures.sent ∙ ap (λ (m : Member). c.args.out.now ++ outputs_of (sends_to m c.args.to (body.VersionKept v))) c.take_over.ensures.place,
     ))

@@ -20,9 +20,9 @@ returns-in_default-clause-ends g c =
     let last = c.make_write.new.self in
     let ends = c.in-Err.ensures.ends.1 in
     let other : c.in-Err.fault ≢ DiskFault = c.in_default.not-DiskFault in
-    let short = ends.short other in (
+    let short = ends.leaves.short other in (
       one_chosen g.V.DraftService.standing None tt (true ∷ []),
-      read_ends g.D.Disk (held n) (held last) ends.halted ends.last ends.member c.requires.stored c.requires.not_halted short.1 (λ none. none) (ends.stored (λ is. other (fault_is c.in-Err.fault is))) refl (λ meant. (
+      read_ends g.D.Disk (held n) (held last) ends.last ends.member c.args.self.now.stored c.requires.not_halted short.1 (λ none. none) (ends.leaves.runs (λ is. other (fault_is c.in-Err.fault is))) refl (λ meant. (
         sym (ends.state other),
         c.put_reply.ensures ∙ ap (λ (o : List Output). o ++ output.Reply c.args.id reply.NoMemory ∷ []) (c.cut.ensures ∙ ap (λ (k : ℕ). take k c.make_write.new.out) c.len-before.ensures ∙ c.in-Err.ensures.front),
       )),
@@ -35,7 +35,7 @@ returns-in_default-clause-rests g c = λ more free.
     let front = c.cut.ensures ∙ ap (λ (k : ℕ). take k c.make_write.new.out) c.len-before.ensures ∙ c.in-Err.ensures.front in
     record {
       server = ends.state other;
-      reads = (ends.short other).1;
+      reads = (ends.leaves.short other).1;
       few = omega (arith, ap length c.put_reply.ensures, length-append c.cut.new.self (output.Reply c.args.id reply.NoMemory ∷ []), ap length front);
     }
 
