@@ -1,3 +1,4 @@
 pub mod Choices
+pub mod Few
 pub mod Replaying
 pub mod Telling

@@ -44,11 +44,11 @@ record IsMeant (t : Stepped) (free : Bool) : Type 0 where
 answered : (t : Stepped) (free : Bool) (rest : List Bool) → shorts t.shown ≡ false ∷ rest → IsMeant t free
 answered t free rest is = record { first = ap is_short is; busy = λ was none. absurd (cc) }
 
-sent_silent : (m : Member) (host : Host) (bodies : List Body) → shorts (map (λ (body : Body). sent (packet_to m host body)) bodies) ≡ []
+pub sent_silent : (m : Member) (host : Host) (bodies : List Body) → shorts (map (λ (body : Body). sent (packet_to m host body)) bodies) ≡ []
 sent_silent m host [] = refl
 sent_silent m host (one ∷ bodies) = sent_silent m host bodies
 
-sends_silent : (m : Member) (k : ℕ) (hosts : List Host) (bodies : ℕ → List Body) → shorts (sends_from m k hosts bodies) ≡ []
+pub sends_silent : (m : Member) (k : ℕ) (hosts : List Host) (bodies : ℕ → List Body) → shorts (sends_from m k hosts bodies) ≡ []
 sends_silent m k [] bodies = refl
 sends_silent m k (host ∷ hosts) bodies =
     shorts-append (cond (k == m.me) [] (map (λ (body : Body). sent (packet_to m host body)) (bodies k))) (sends_from m (k + 1) hosts bodies)
@@ -124,7 +124,7 @@ module _ (db : Database) (m : Member) (s : Server) (now id : ℕ) (call : List �
 
 module _ (m : Member) (now : ℕ) where
   -- none has its turn where a write is in flight
-  idle : (dbs : Databases) (waiting : List Waiting) (s : Server) (short : List Bool) → is_free s ≡ false
+  pub idle : (dbs : Databases) (waiting : List Waiting) (s : Server) (short : List Bool) → is_free s ≡ false
       → (next_turns dbs m now waiting s short).shown ≡ []
   idle dbs [] s short busy = refl
   idle dbs (w ∷ waiting) s short busy =

@@ -1,9 +1,9 @@
 -- An item tells its step (own).
-use Rattle.std.specs.Prelude.{ℕ, ◌≡◌, ◌≤◌, Bool, true, false, List, [], ◌∷◌, ◌++◌, length}
+use Rattle.std.specs.Prelude.{ℕ, ◌+◌, ◌≡◌, ◌≤◌, Bool, true, false, List, [], ◌∷◌, ◌++◌, length}
 use Rattle.db_image.specs.Database.{Database}
 use Rattle.cell_model.specs.declared.events.NodeEvent.{NodeEvent}
 use Rattle.cell_model.specs.declared.events.Output.{Output}
-use Rattle.cell_model.specs.Evaluating.{Told, told_by}
+use Rattle.cell_model.specs.Evaluating.{Databases, Told, told_by}
 use Rattle.cell_model.specs.Node.{Node, Halted, Up, Server, HaltedServer, halted_from}
 use Rattle.cell_model.specs.NodeRule.{refusals, step_by}
 use Rattle.cell_model.specs.Step.{Member, Stepped, outputs_of}
@@ -35,3 +35,9 @@ pub record ItemsTellSteps : Type 0 where
   pub halted : (db : Database) (m : Member) (opened : Node) (items : List JournalItem) (h : HaltedServer) (outputs : List Output) (now : ℕ)
       (e : NodeEvent) → LeadsTo db m opened items (Halted h) outputs →
       LeadsTo db m opened (items ++ halted_item now e ∷ []) (Halted h) (outputs ++ outputs_of (refusals e))
+
+-- A step answers at most each call that waits, the write in flight, and the call that was asked. Where at most 64 wait, it has 66 replies or fewer.
+abbrev pub StepsReplyFew : Type 0
+StepsReplyFew =
+    (dbs : Databases) (m : Member) (s : Server) (now : ℕ) (e : NodeEvent) (short : List Bool) →
+    length (shorts_of (outputs_of (step_by dbs m s now e short).shown)) ≤ length s.waiting + 2

@@ -4,4 +4,4 @@
 
 mod laws;
 
-pub use laws::law_items_tell_steps;
+pub use laws::{law_items_tell_steps, law_steps_reply_few};
