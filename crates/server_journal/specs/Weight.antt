@@ -1,15 +1,8 @@
 -- What a journal counts of an event.
-use Rattle.std.specs.Prelude.{ℕ, ◌+◌, ◌≤◌, length}
-use Rattle.ubik_calls.specs.Length.{packet_length}
+use Rattle.std.specs.Prelude.{ℕ, ◌≤◌}
 use Rattle.cell_model.specs.declared.events.NodeEvent.{NodeEvent}
 use Rattle.cell_model.specs.declared.events.NodeEvent.TheVariants as event
-
--- 32 bytes, and those of the packet's frame or of the call (own)
-abbrev pub weight : NodeEvent → ℕ
-weight (event.Packet p) = 32 + packet_length p
-weight event.BeaconTurn = 32
-weight event.RecoverTurn = 32
-weight (event.Ask id call) = 32 + length call
+pub use Rattle.journal_model.specs.Items.{weight}
 
 -- how many calls of clients it is
 abbrev pub asks_in : NodeEvent → ℕ

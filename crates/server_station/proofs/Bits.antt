@@ -1,9 +1,9 @@
 -- Replies that are for want of memory, from the last to the first.
-use Rattle.std.proofs.Common.{◌≡◌, ℕ, zero, suc, ◌+◌, ◌*◌, ◌%◌, ◌<◌, ◌≤◌, Bool, true, false, if◌then◌else◌, Option, Some, None, List, [], ◌∷◌, length, drop, slice_get, refl, ap, sym, ◌∙◌, arith}
+use Rattle.std.proofs.Common.{◌≡◌, ℕ, zero, suc, ◌+◌, ◌*◌, ◌%◌, ◌≤◌, Some, None, List, [], ◌∷◌, length, drop, slice_get, ap, sym, ◌∙◌, arith}
 use Rattle.std.specs.Prelude.{◌^◌}
 use Rattle.std.proofs.lemmas.List.{at_drop_all}
 use Rattle.cell_model.specs.declared.events.Output.{Output}
-use Rattle.server_journal.specs.Items.{bits, shorts_of, shorts_with}
+use Rattle.server_journal.specs.Items.{shorts_of, shorts_with}
 
 drop_next : (outs : List Output) (k : ℕ) (o : Output) → slice_get outs k ≡ Some o → drop k outs ≡ o ∷ drop (suc k) outs
 drop_next [] k o at = cc

@@ -3,4 +3,5 @@ pub mod Bits
 pub mod Building
 pub mod Fitting
 pub mod Recording
+pub mod Replaying
 pub mod Sending

@@ -1,5 +1,5 @@
 -- A step that ended for want of memory puts nothing out, and the id of a call does not matter where no step is made.
-use Rattle.std.proofs.Common.{◌≡◌, ℕ, Bool, List, [], refl}
+use Rattle.std.proofs.Common.{ℕ, Bool, List, [], refl}
 use Rattle.disk_base.specs.declared.disks.Disk.{Ghosts}
 use Rattle.db_image.specs.Standing.{Standing}
 use Rattle.cell_model.specs.declared.events.NodeEvent.{NodeEvent}
@@ -19,7 +19,7 @@ cleared_steps g made event (model.Up s) after out old new ended = (ended.0, refl
 cleared_steps g made event (model.Halted h) after out old new ended = ended
 cleared_steps g made event model.Down after out old new ended = ended
 
-pub cleared : {D V : Type 0} (g : Ghosts D) (d : Standing) (event : NodeEvent) (now : ℕ) (before after : Node D V) (out : List Output)
+pub cleared : {D V : Type 0} (g : Ghosts D) (d : Standing) (event : NodeEvent) (now : ℕ) (before after : Node D V g) (out : List Output)
     → IsStep g d step.NoMemory event now before after out → IsStep g d step.NoMemory event now before after []
 cleared g d event now before after out ended =
     record {

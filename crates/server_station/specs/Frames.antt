@@ -1,5 +1,5 @@
 -- What goes out of a step: the packets to their hosts, and the replies to the clients that wait for them.
-use Rattle.std.specs.Prelude.{◌≡◌, ℕ, Option, Some, None, List, [], ◌∷◌, ◌++◌}
+use Rattle.std.specs.Prelude.{◌≡◌, Option, Some, None, List, [], ◌∷◌, ◌++◌}
 use Rattle.ubik_calls.specs.declared.frames.Frame.TheVariants as frame
 use Rattle.ubik_calls.specs.declared.replies.Reply.{Reply}
 use Rattle.ubik_calls.specs.WireGrammar.{spelling}

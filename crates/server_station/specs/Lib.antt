@@ -1,6 +1,6 @@
 pub mod Askers
 pub mod Fit
 pub mod Frames
-pub mod Lone
 pub mod Recording
+pub mod Replaying
 pub mod Turns

@@ -4,6 +4,7 @@
 #![tactic(auto)]
 
 mod askers;
+mod pasts;
 mod recorded;
 mod shorts;
 mod spelling;

@@ -1,12 +1,11 @@
 //! A server whose steps are recorded.
-ghost use Rattle.std.specs.Prelude.{◌≡◌, ◌+◌, ◌<◌, ◌≤◌, ◌^◌, [], length, max};
+ghost use Rattle.std.specs.Prelude.{◌≡◌, ◌+◌, ◌++◌, ◌<◌, ◌≤◌, ◌^◌, [], length, max};
 ghost use Rattle.ubik_types.specs.Moment.{IsMoment};
-ghost use Rattle.std.proofs.Props.{props};
-ghost use Rattle.ubik_node.specs.Node.{IsStored};
 ghost use Rattle.server_station.specs.Fit.{IsFit};
 ghost use Rattle.server_station.specs.Recording.{refused_by};
-ghost use Rattle.server_station.specs.Lone.{IsSeamless-prop, IsWithinImage-prop};
+ghost use Rattle.server_station.specs.Replaying.{Replays};
 
+use crate::pasts::Past;
 use crate::shorts::shorts_in;
 use db_image::DraftService;
 use disk_base::Disk;
@@ -37,15 +36,16 @@ fn refused(full: Full) -> StationEnd
     }
 }
 
-/// A node with the journal of its steps, which are counted over those who made them.
+/// A node with the journal of its steps, of which it is the replay, and which are counted over those who made them.
 pub(crate) struct Recorded<D: Disk, V: DraftService, L: Opening, J: Keeper> {
     pub(crate) node: Node<D, V>,
     pub(crate) journal: J,
     pub(crate) shares: Shares<L>,
-    ghost stored: { IsStored D.Disk node } by { Prim.hlevel (props, IsSeamless-prop, IsWithinImage-prop) },
+    pub(crate) past: Past<D, V>,
     ghost begun: { 0 < node.last },
     ghost moment: { node.last < 2 ^ 31 },
     ghost counted: { shares.total.total ≡ length (J.items journal) },
+    ghost replays: { Replays D.Disk V.standing past.opened.value node (J.items journal) past.outputs.value },
 }
 
 // Derived, it would be spelled out for each field wherever a caller lets one go.
@@ -55,6 +55,7 @@ impl<D: Disk + Drop, V: DraftService, L: Opening, J: Keeper> Drop for Recorded<D
             node: _,
             journal: _,
             shares: _,
+            past: _,
         } = self;
     }
 }
@@ -91,11 +92,14 @@ impl<D: Disk, V: DraftService, L: Opening, J: Keeper> Recorded<D, V, L, J> {
         ensures limits { J.limits self.new.journal ≡ J.limits self.old.journal }
         ensures share { seat.new.share.amount + length (J.items self.old.journal) ≡ seat.old.share.amount + length (J.items self.new.journal) }
         ensures lent { self.new.shares.lent ≡ self.old.shares.lent }
+        ensures opened { self.new.past.opened.value ≡ self.old.past.opened.value }
+        ensures outputs { self.new.past.outputs.value ≡ self.old.past.outputs.value ++ out.new }
     {
         let Recorded {
             node,
             journal,
             shares,
+            past,
         } = self;
         if let Err(full) = journal.admit(&event) {
             return refused(full);
@@ -111,6 +115,7 @@ impl<D: Disk, V: DraftService, L: Opening, J: Keeper> Recorded<D, V, L, J> {
         };
         let short = shorts_in(out);
         let halted = node.halted();
+        past.add(out);
         journal.keep(JournalItem {
             now,
             event,
@@ -130,6 +135,7 @@ impl<D: Disk, V: DraftService, L: Opening, J: Keeper> Recorded<D, V, L, J> {
             node,
             journal,
             shares: _,
+            past: _,
         } = self;
         (node.close(), journal)
     }

@@ -1,11 +1,12 @@
 //! What lies under the lock.
-ghost use Rattle.std.specs.Prelude.{◌≡◌, ◌+◌, ◌<◌, ◌^◌, ℕ, [], length, max, IfOk, IfErr};
+ghost use Rattle.std.specs.Prelude.{◌≡◌, ◌+◌, ◌++◌, ◌<◌, ◌^◌, ℕ, [], length, max, IfOk, IfErr};
 ghost use Rattle.ubik_calls.specs.declared.frames.Frame.TheVariants as frames;
 ghost use Rattle.ubik_calls.specs.WireGrammar.{HasSpelling};
 ghost use Rattle.ubik_types.specs.Moment.{IsMoment};
 ghost use Rattle.server_station.specs.Fit.{IsFit, IsNext};
 
 use crate::askers::Askers;
+use crate::pasts::Past;
 use crate::recorded::{Recorded, StationEnd};
 use db_image::DraftService;
 use disk_base::{Disk, Refused};
@@ -39,7 +40,7 @@ impl<D: Disk + Drop, V: DraftService, L: Opening, J: Keeper> Drop for Station<D,
 impl<D: Disk, V: DraftService, L: Opening, J: Keeper> Station<D, V, L, J> {
     ghost use Rattle.cell_model.specs.Node.{halted_from};
     ghost use Rattle.ubik_node.specs.Debug.{debug_of};
-    ghost use Rattle.ubik_node.specs.Node.{IsStored, own_member, up_server};
+    ghost use Rattle.ubik_node.specs.Node.{own_member, up_server};
     ghost use Rattle.server_journal.specs.Counts.{asks_of};
     ghost use Rattle.server_station.specs.Recording.{Records};
 
@@ -54,12 +55,13 @@ impl<D: Disk, V: DraftService, L: Opening, J: Keeper> Station<D, V, L, J> {
         requires name { blank.name ≡ L.name }
         requires parts { (blank.parts ≡ L.parts) × (L.all ≡ L.parts) × (L.all ≡ 7) }
         requires empty { J.items journal ≡ [] }
-        requires stored { IsStored D.Disk node }
         requires moment { IsMoment node.last }
         ensures node { IfOk result (λ station. station.recorded.node ≡ node) }
         ensures journal { IfOk result (λ station. station.recorded.journal ≡ journal) }
         ensures askers { IfOk result (λ station. station.askers ≡ []) }
         ensures lent { IfOk result (λ station. station.recorded.shares.lent ≡ 0) }
+        ensures opened { IfOk result (λ station. station.recorded.past.opened.value ≡ node) }
+        ensures outputs { IfOk result (λ station. station.recorded.past.outputs.value ≡ []) }
         ensures refused { IfErr result (λ refused. refused.disk ≡ node) }
     {
         let (outputs, askers) = match (Outputs::make(alloc), Askers::make(alloc)) {
@@ -71,12 +73,14 @@ impl<D: Disk, V: DraftService, L: Opening, J: Keeper> Station<D, V, L, J> {
                 });
             }
         };
+        let past = Past::of(&node);
         Ok(Station {
             alloc,
             recorded: Recorded {
                 node,
                 journal,
                 shares: Shares::open(blank),
+                past,
             },
             askers,
             outputs,
@@ -91,6 +95,7 @@ impl<D: Disk, V: DraftService, L: Opening, J: Keeper> Station<D, V, L, J> {
         ensures node { self.new.recorded.node ≡ self.old.recorded.node }
         ensures journal { self.new.recorded.journal ≡ self.old.recorded.journal }
         ensures askers { self.new.askers ≡ self.old.askers }
+        ensures past { self.new.recorded.past ≡ self.old.recorded.past }
     {
         let Recorded { shares, .. } = &mut self.recorded;
         shares.lend()
@@ -103,6 +108,7 @@ impl<D: Disk, V: DraftService, L: Opening, J: Keeper> Station<D, V, L, J> {
         ensures node { self.new.recorded.node ≡ self.old.recorded.node }
         ensures journal { self.new.recorded.journal ≡ self.old.recorded.journal }
         ensures askers { self.new.askers ≡ self.old.askers }
+        ensures past { self.new.recorded.past ≡ self.old.recorded.past }
     {
         let Recorded { shares, .. } = &mut self.recorded;
         shares.take_back(seat);
@@ -152,6 +158,8 @@ impl<D: Disk, V: DraftService, L: Opening, J: Keeper> Station<D, V, L, J> {
         ensures share { seat.new.share.amount + length (J.items self.old.recorded.journal) ≡ seat.old.share.amount + length (J.items self.new.recorded.journal) }
         ensures lent { self.new.recorded.shares.lent ≡ self.old.recorded.shares.lent }
         ensures askers { self.new.askers ≡ self.old.askers }
+        ensures opened { self.new.recorded.past.opened.value ≡ self.old.recorded.past.opened.value }
+        ensures outputs { self.new.recorded.past.outputs.value ≡ self.old.recorded.past.outputs.value ++ out.new }
     {
         let now = self.recorded.moment(now);
         self.recorded.step(seat, now, event, out)

@@ -30,12 +30,13 @@ impl<D: Disk, V: DraftService, L: Opening, J: Keeper> Station<D, V, L, J> {
         requires empty { out.old ≡ [] }
         ensures turned { Turned D.Disk V.standing (J.limits self.old.recorded.journal)
             (act_of (own_member self.old.recorded.node) (asks_of (J.items self.old.recorded.journal)) turn) (max self.old.recorded.node.last now)
-            (seen self.old.recorded.node (J.items self.old.recorded.journal) self.old.askers)
-            (seen self.new.recorded.node (J.items self.new.recorded.journal) self.new.askers) out.new result }
+            (seen self.old.recorded.node (J.items self.old.recorded.journal) self.old.askers self.old.recorded.past.outputs.value)
+            (seen self.new.recorded.node (J.items self.new.recorded.journal) self.new.askers self.new.recorded.past.outputs.value) out.new result }
         ensures framed { IsFullByFrame (J.items self.old.recorded.journal) result }
         ensures limits { J.limits self.new.recorded.journal ≡ J.limits self.old.recorded.journal }
         ensures share { seat.new.share.amount + length (J.items self.old.recorded.journal) ≡ seat.old.share.amount + length (J.items self.new.recorded.journal) }
         ensures lent { self.new.recorded.shares.lent ≡ self.old.recorded.shares.lent }
+        ensures opened { self.new.recorded.past.opened.value ≡ self.old.recorded.past.opened.value }
     {
         match turn {
             Turn::Beacon => self.step_for(seat, now, NodeEvent::BeaconTurn, None, out),
@@ -59,12 +60,13 @@ impl<D: Disk, V: DraftService, L: Opening, J: Keeper> Station<D, V, L, J> {
         requires empty { out.old ≡ [] }
         ensures turned { Turned D.Disk V.standing (J.limits self.old.recorded.journal)
             (act_of_frame (own_member self.old.recorded.node) (asks_of (J.items self.old.recorded.journal)) peer (frame_of frame.now)) (max self.old.recorded.node.last now)
-            (seen self.old.recorded.node (J.items self.old.recorded.journal) self.old.askers)
-            (seen self.new.recorded.node (J.items self.new.recorded.journal) self.new.askers) out.new result }
+            (seen self.old.recorded.node (J.items self.old.recorded.journal) self.old.askers self.old.recorded.past.outputs.value)
+            (seen self.new.recorded.node (J.items self.new.recorded.journal) self.new.askers self.new.recorded.past.outputs.value) out.new result }
         ensures framed { IsFullByFrame (J.items self.old.recorded.journal) result }
         ensures limits { J.limits self.new.recorded.journal ≡ J.limits self.old.recorded.journal }
         ensures share { seat.new.share.amount + length (J.items self.old.recorded.journal) ≡ seat.old.share.amount + length (J.items self.new.recorded.journal) }
         ensures lent { self.new.recorded.shares.lent ≡ self.old.recorded.shares.lent }
+        ensures opened { self.new.recorded.past.opened.value ≡ self.old.recorded.past.opened.value }
     {
         match decode(self.alloc, frame) {
             Ok(Frame::Packet(packet)) => {
@@ -97,8 +99,8 @@ impl<D: Disk, V: DraftService, L: Opening, J: Keeper> Station<D, V, L, J> {
     fn tell(&self, now: u32, peer: u64, number: u32, out: &mut Sendings) -> TurnEnd
         requires moment { IsMoment now }
         requires empty { out.old ≡ [] }
-        ensures { RestsBy (seen self.now.recorded.node (J.items self.now.recorded.journal) self.now.askers)
-            (seen self.now.recorded.node (J.items self.now.recorded.journal) self.now.askers)
+        ensures { RestsBy (seen self.now.recorded.node (J.items self.now.recorded.journal) self.now.askers self.now.recorded.past.outputs.value)
+            (seen self.now.recorded.node (J.items self.now.recorded.journal) self.now.askers self.now.recorded.past.outputs.value)
             (debug_answer self.now.recorded.node (max self.now.recorded.node.last now) peer number ∷ []) out.new result }
     {
         let is = self.debug(now);
@@ -126,12 +128,13 @@ impl<D: Disk, V: DraftService, L: Opening, J: Keeper> Station<D, V, L, J> {
         requires framed { IsFramed event }
         requires empty { out.old ≡ [] }
         ensures turned { TurnsBy D.Disk V.standing (J.limits self.old.recorded.journal) event (option_to_list asker) (max self.old.recorded.node.last now)
-            (seen self.old.recorded.node (J.items self.old.recorded.journal) self.old.askers)
-            (seen self.new.recorded.node (J.items self.new.recorded.journal) self.new.askers) out.new result }
+            (seen self.old.recorded.node (J.items self.old.recorded.journal) self.old.askers self.old.recorded.past.outputs.value)
+            (seen self.new.recorded.node (J.items self.new.recorded.journal) self.new.askers self.new.recorded.past.outputs.value) out.new result }
         ensures framed { IsFullByFrame (J.items self.old.recorded.journal) result }
         ensures limits { J.limits self.new.recorded.journal ≡ J.limits self.old.recorded.journal }
         ensures share { seat.new.share.amount + length (J.items self.old.recorded.journal) ≡ seat.old.share.amount + length (J.items self.new.recorded.journal) }
         ensures lent { self.new.recorded.shares.lent ≡ self.old.recorded.shares.lent }
+        ensures opened { self.new.recorded.past.opened.value ≡ self.old.recorded.past.opened.value }
     {
         let now = self.recorded.moment(now);
         let Station {

@@ -1,7 +1,10 @@
-use Rattle.std.proofs.Common.{inr, rules, sym, subst}
+use Rattle.std.proofs.Common.{◌≡◌, [], ◌∷◌, ◌++◌, inr, refl, rules, sym, subst}
+use Rattle.ubik_node.specs.declared.nodes.StepEnd.TheVariants as step
+use Rattle.server_journal.specs.Items.{item_of}
 use Rattle.server_station.specs.Recording.{Records}
 use Rattle.server_station.specs.declared.recorded.StationEnd.{StationEnd}
 use Rattle.server_station.proofs.Recording.{cleared}
+use Rattle.server_station.proofs.Replaying.{replays_at, replays_more, replays_same}
 use Rattle.server_station.proofs.recorded.Recorded.step.Goals as goal
 use Rattle.server_station.proofs.recorded.Recorded.step.Goals.{in-Done, in-Halted}
 
@@ -41,3 +44,31 @@ returns-clause-records g c =
             },
           )
     ]
+
+pub invariant_of-self-in-NoMemory-clause-replays : goal.invariant_of-self-in-NoMemory-clause-replays
+invariant_of-self-in-NoMemory-clause-replays g c =
+    let e = c.in-NoMemory.ensures in
+    let was = c.args.self.now in
+    let items : g.J.Keeper.items c.admit.new.self ≡ g.J.Keeper.items was.journal = search rules in
+    replays_at g.D.Disk g.V.DraftService.standing was.past.opened.value was.past.opened.value c.step_on-end.new.self _ _ was.past.outputs.value was.past.outputs.value refl items refl
+    (replays_same g.D.Disk g.V.DraftService.standing was.past.opened.value was.node c.step_on-end.new.self (g.J.Keeper.items was.journal) was.past.outputs.value
+    c.step_on-end.new.out c.args.event c.args.now
+    (record { steps = e.step; meant = e.meant; member = e.member; memory = e.memory; halts = e.halts; told = e.told; calls = e.calls; last = e.last }) was.replays)
+
+pub invariant_of-self-2-clause-replays : goal.invariant_of-self-2-clause-replays
+invariant_of-self-2-clause-replays g c =
+    let was = c.args.self.now in
+    let is = c.step_on-end.new.self in
+    let out = c.step_on-end.new.out in
+    let more = replays_more g.D.Disk g.V.DraftService.standing was.past.opened.value was.node is (g.J.Keeper.items was.journal) was.past.outputs.value out c.args.event c.args.now in
+    let items : g.J.Keeper.items c.keep.new.self ≡ g.J.Keeper.items was.journal ++ item_of c.args.now c.args.event out is.store.failed ∷ [] = search rules in
+    replays_at g.D.Disk g.V.DraftService.standing was.past.opened.value c.add.new.self.opened.value is
+    (g.J.Keeper.items was.journal ++ item_of c.args.now c.args.event out is.store.failed ∷ []) _ (was.past.outputs.value ++ out) _ c.add.ensures.opened items c.add.ensures.outputs
+    (elim c.match-end.branch [
+      | in-Done w ↦
+          let e = w.in-Done.ensures in
+          more step.Done (λ is. cc) (record { steps = e.step; meant = e.meant; member = e.member; memory = e.memory; halts = e.halts; told = e.told; calls = e.calls; last = e.last }) was.replays
+      | in-Halted w ↦
+          let e = w.in-Halted.ensures in
+          more step.Halted (λ is. cc) (record { steps = e.step; meant = e.meant; member = e.member; memory = e.memory; halts = e.halts; told = e.told; calls = e.calls; last = e.last }) was.replays
+    ])

@@ -25,8 +25,8 @@ returns-in-Ok-Ask-clause-turned g c =
     let is = c.step_for-in-Ok-Ask.new.self in
     let items = g.J.Keeper.items was.recorded.journal in
     let now = max was.recorded.node.last c.args.now in
-    let before = seen was.recorded.node items was.askers in
-    let after = seen is.recorded.node (g.J.Keeper.items is.recorded.journal) is.askers in
+    let before = seen was.recorded.node items was.askers was.recorded.past.outputs.value in
+    let after = seen is.recorded.node (g.J.Keeper.items is.recorded.journal) is.askers is.recorded.past.outputs.value in
     let P : Result Frame FrameFault → Type 0 =
     λ r. Turned g.D.Disk g.V.DraftService.standing (g.J.Keeper.limits was.recorded.journal)
     (act_of_frame (own_member was.recorded.node) (asks_of items) c.args.peer r) now before after c.step_for-in-Ok-Ask.new.out c.step_for-in-Ok-Ask.result in

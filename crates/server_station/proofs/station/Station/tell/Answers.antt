@@ -1,4 +1,4 @@
-use Rattle.std.proofs.Common.{◌<◌, ◌^◌, arith}
+use Rattle.std.proofs.Common.{◌<◌, arith}
 use Rattle.server_station.proofs.station.Station.tell.Goals as goal
 
 pub encode-requires : goal.encode-requires
