@@ -19,7 +19,7 @@ use Rattle.cell_model.specs.Durable.{Durable}
 use Rattle.cell_model.specs.Node as model
 use Rattle.ubik_node.specs.declared.nodes.Node.{Node}
 use Rattle.ubik_node.specs.Disk.{StandsAs}
-use Rattle.ubik_node.specs.Node.{IsStored, node_of, up_server}
+use Rattle.ubik_node.specs.Node.{node_of, up_server}
 use Rattle.server_journal.specs.declared.counts.Limits.{Limits}
 use Rattle.server_journal.specs.declared.items.JournalItem.{JournalItem}
 use Rattle.server_texts.specs.declared.kinds.ServerKind.{ServerKind}
@@ -219,17 +219,17 @@ quiet : {D : Type 0} (g : Ghosts D) (s : Store D) → IsReady g s → IsQuiet g 
 quiet g s ready = (ready.settled, stands_at_rest (g.files s.disk) s.version ready.rests)
 
 -- the disk of a node has failed, or is quiet
-pub quiet_or_failed : {D V : Type 0} (g : Ghosts D) (n : Node D V) (failed_before : ℕ) → IsStored g n → (n.halted ≡ true → failed_before < g.faults n.store.disk)
+pub quiet_or_failed : {D V : Type 0} (g : Ghosts D) (n : Node D V g) (failed_before : ℕ) → (n.store.failed ≡ true → failed_before < g.faults n.store.disk)
     → (failed_before < g.faults n.store.disk) ⊎ IsQuiet g n.store.disk
-quiet_or_failed g n failed_before is halted = by n.halted refl
+quiet_or_failed g n failed_before halted = by n.store.failed refl
   where
-    by : (b : Bool) → n.halted ≡ b → (failed_before < g.faults n.store.disk) ⊎ IsQuiet g n.store.disk
+    by : (b : Bool) → n.store.failed ≡ b → (failed_before < g.faults n.store.disk) ⊎ IsQuiet g n.store.disk
     by true down = inl (halted down)
-    by false up = inr (quiet g n.store (is.sound.ready (is.failed ∙ up)))
+    by false up = inr (quiet g n.store (n.stored.sound.ready up))
 
 -- a node that stands for a server that is up is not halted
-pub is_up : {D V : Type 0} (n : Node D V) (s : model.Server) → node_of n ≡ model.Up s → n.halted ≡ false
-is_up n s is = by n.halted is
+pub is_up : {D V : Type 0} {g : Ghosts D} (n : Node D V g) (s : model.Server) → node_of n ≡ model.Up s → n.store.failed ≡ false
+is_up n s is = by n.store.failed is
   where
     by : (b : Bool) → (if b then model.Halted (model.halted_from (up_server n)) else model.Up (up_server n)) ≡ model.Up s → b ≡ false
     by true clash = absurd cc

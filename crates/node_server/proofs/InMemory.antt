@@ -1,5 +1,5 @@
 -- When a journal in memory is full.
-use Rattle.std.proofs.Common.{◌≡◌, ◌<◌, ◌≤◌, ℕ, true, length, Option, Some, None, IfSome, ap, subst, arith}
+use Rattle.std.proofs.Common.{◌≡◌, ◌<◌, ℕ, true, Option, Some, None, IfSome, ap, subst, arith}
 use Rattle.server_journal.specs.declared.counts.Limits.{Limits}
 use Rattle.server_journal.specs.declared.journals.Journal.{Journal}
 use Rattle.node_server.specs.declared.ends.ServerRun.{ServerRun}

@@ -2,6 +2,7 @@
 pub mod Explaining
 pub mod Filling
 pub mod InMemory
+pub mod Replaying
 pub mod Seeing
 pub mod Showing
 pub mod Timing

@@ -1,5 +1,5 @@
 -- What is seen at a station of why a turn ended so, and that it stays.
-use Rattle.std.proofs.Common.{◌≡◌, ◌⊎◌, inl, inr, ℕ, ◌+◌, ◌-◌, ◌<◌, ◌≤◌, Bool, true, false, List, [], ◌∷◌, ◌++◌, length, take, refl, ap, sym, ◌∙◌, subst, arith}
+use Rattle.std.proofs.Common.{◌≡◌, ◌⊎◌, inl, inr, ℕ, ◌+◌, ◌-◌, ◌<◌, ◌≤◌, Bool, true, false, List, [], ◌++◌, length, take, refl, ap, sym, ◌∙◌, subst, arith}
 use Rattle.std.specs.Prelude.{nat_lt}
 use Rattle.std.proofs.lemmas.List.{append-nil, length-append, take-append-le, take_all}
 use Rattle.std.proofs.lemmas.Bool.Decides.{nat_tests}
@@ -25,49 +25,49 @@ use Rattle.node_server.specs.Causes.{is_seen, was_full}
 use Rattle.node_server.proofs.Filling.{IsFullAt, read, test_at}
 
 -- how often the disk of a station has failed
-abbrev failed_in : {D V : Type 0} → Ghosts D → Node D V → ℕ
+abbrev failed_in : {D V : Type 0} (g : Ghosts D) → Node D V g → ℕ
 failed_in g n = g.faults n.store.disk
 
 -- How a station goes on: the journal only grows, the disk's failures too, and a node is halted where they did, or was before.
-pub record GoesOn {D V : Type 0} (g : Ghosts D) (before after : Seen D V) : Type 0 where
+pub record GoesOn {D V : Type 0} (g : Ghosts D) (before after : Seen D V g) : Type 0 where
   pub more : List JournalItem
   pub items : after.items ≡ before.items ++ more
   pub never_falls : failed_in g before.node ≤ failed_in g after.node
-  pub rose : after.node.halted ≡ true → (before.node.halted ≡ true) ⊎ (failed_in g before.node < failed_in g after.node)
+  pub rose : after.node.store.failed ≡ true → (before.node.store.failed ≡ true) ⊎ (failed_in g before.node < failed_in g after.node)
 
-rests : {D V : Type 0} (g : Ghosts D) (s : Seen D V) → GoesOn g s s
+rests : {D V : Type 0} (g : Ghosts D) (s : Seen D V g) → GoesOn g s s
 rests g s = record { more = []; items = sym (append-nil s.items); never_falls = omega arith; rose = λ halted. inl halted }
 
-stays : {D V : Type 0} (g : Ghosts D) (before after : Seen D V) → after.node ≡ before.node → after.items ≡ before.items → GoesOn g before after
+stays : {D V : Type 0} (g : Ghosts D) (before after : Seen D V g) → after.node ≡ before.node → after.items ≡ before.items → GoesOn g before after
 stays g before after node items =
     let count : failed_in g after.node ≡ failed_in g before.node = ap (λ n. failed_in g n) node in
     record {
       more = [];
       items = items ∙ sym (append-nil before.items);
       never_falls = omega (arith, count);
-      rose = λ halted. inl (ap (λ n. n.halted) (sym node) ∙ halted);
+      rose = λ halted. inl (ap (λ n. n.store.failed) (sym node) ∙ halted);
     }
 
-halted_by : {D V : Type 0} (g : Ghosts D) (d : Standing) (e : StepEnd) (event : NodeEvent) (now : ℕ) (before after : Node D V) (out : List Output) (b : Bool)
-    → before.halted ≡ b → IsStep g d e event now before after out → e ≡ step.Halted → (before.halted ≡ true) ⊎ (failed_in g before < failed_in g after)
+halted_by : {D V : Type 0} (g : Ghosts D) (d : Standing) (e : StepEnd) (event : NodeEvent) (now : ℕ) (before after : Node D V g) (out : List Output) (b : Bool)
+    → before.store.failed ≡ b → IsStep g d e event now before after out → e ≡ step.Halted → (before.store.failed ≡ true) ⊎ (failed_in g before < failed_in g after)
 halted_by g d e event now before after out true is made ended = inl is
 halted_by g d e event now before after out false is made ended = inr (made.calls.1.cause.rose (ended, is))
 
-steps : {D V : Type 0} (g : Ghosts D) (d : Standing) (e : StepEnd) (event : NodeEvent) (now : ℕ) (before after : Seen D V) (out : List Output) (more : List JournalItem)
+steps : {D V : Type 0} (g : Ghosts D) (d : Standing) (e : StepEnd) (event : NodeEvent) (now : ℕ) (before after : Seen D V g) (out : List Output) (more : List JournalItem)
     → IsStep g d e event now before.node after.node out → after.items ≡ before.items ++ more → GoesOn g before after
 steps g d e event now before after out more made items =
     record {
       more = more;
       items = items;
       never_falls = made.calls.1.cause.never_falls;
-      rose = λ halted. halted_by g d e event now before.node after.node out before.node.halted refl made (made.halts.1 halted);
+      rose = λ halted. halted_by g d e event now before.node after.node out before.node.store.failed refl made (made.halts.1 halted);
     }
 
-recorded : {D V : Type 0} (g : Ghosts D) (d : Standing) (e : StepEnd) (event : NodeEvent) (now : ℕ) (before after : Seen D V) (out : List Output)
+recorded : {D V : Type 0} (g : Ghosts D) (d : Standing) (e : StepEnd) (event : NodeEvent) (now : ℕ) (before after : Seen D V g) (out : List Output)
     → IsRecorded g d e event now before.node after.node before.items after.items out → GoesOn g before after
 recorded g d e event now before after out is = steps g d e event now before after out _ is.step is.item
 
-refused : {D V : Type 0} (g : Ghosts D) (d : Standing) (event : NodeEvent) (now : ℕ) (before after : Seen D V) (out : List Output)
+refused : {D V : Type 0} (g : Ghosts D) (d : Standing) (event : NodeEvent) (now : ℕ) (before after : Seen D V g) (out : List Output)
     → IsRefused g d event now before.node after.node before.items after.items out → GoesOn g before after
 refused g d event now before after out is =
     elim is.node [
@@ -75,7 +75,7 @@ refused g d event now before after out is =
       | inr made ↦ steps g d step.NoMemory event now before after [] [] made (is.items ∙ sym (append-nil before.items))
     ]
 
-makes : {D V : Type 0} (g : Ghosts D) (d : Standing) (limits : Limits) (event : NodeEvent) (asker : List Asker) (now : ℕ) (before after : Seen D V) (sent : List Sending) (e : TurnEnd)
+makes : {D V : Type 0} (g : Ghosts D) (d : Standing) (limits : Limits) (event : NodeEvent) (asker : List Asker) (now : ℕ) (before after : Seen D V g) (sent : List Sending) (e : TurnEnd)
     → TurnsBy g d limits event asker now before after sent e → GoesOn g before after
 makes g d limits event asker now before after sent end.Done turned = recorded g d step.Done event now before after turned.0 turned.1.1
 makes g d limits event asker now before after sent end.Halted turned = recorded g d step.Halted event now before after turned.0 turned.1.1
@@ -87,11 +87,11 @@ makes g d limits event asker now before after sent end.Cut turned =
 makes g d limits event asker now before after sent (end.JournalFull entries bytes) turned = stays g before after turned.0.3 turned.0.4
 makes g d limits event asker now before after sent end.NoMemory turned = refused g d event now before after [] turned.0
 
-same : {D V : Type 0} (g : Ghosts D) (before after : Seen D V) → after ≡ before → GoesOn g before after
+same : {D V : Type 0} (g : Ghosts D) (before after : Seen D V g) → after ≡ before → GoesOn g before after
 same g before after is = stays g before after (ap (λ s. s.node) is) (ap (λ s. s.items) is)
 
 -- each turn goes on
-pub goes_on : {D V : Type 0} (g : Ghosts D) (d : Standing) (limits : Limits) (act : Act) (now : ℕ) (before after : Seen D V) (sent : List Sending) (e : TurnEnd)
+pub goes_on : {D V : Type 0} (g : Ghosts D) (d : Standing) (limits : Limits) (act : Act) (now : ℕ) (before after : Seen D V g) (sent : List Sending) (e : TurnEnd)
     → Turned g d limits act now before after sent e → GoesOn g before after
 goes_on g d limits (Makes event asker) now before after sent e turned = makes g d limits event asker now before after sent e turned
 goes_on g d limits (Tells peer number) now before after sent end.Done turned = same g before after turned.0
@@ -106,8 +106,8 @@ goes_on g d limits Rests now before after sent end.Cut turned = absurd turned
 goes_on g d limits Rests now before after sent (end.JournalFull entries bytes) turned = absurd turned
 
 -- a turn that ended with Halted left the node so
-halts : {D V : Type 0} (g : Ghosts D) (d : Standing) (limits : Limits) (act : Act) (now : ℕ) (before after : Seen D V) (sent : List Sending)
-    → Turned g d limits act now before after sent end.Halted → after.node.halted ≡ true
+halts : {D V : Type 0} (g : Ghosts D) (d : Standing) (limits : Limits) (act : Act) (now : ℕ) (before after : Seen D V g) (sent : List Sending)
+    → Turned g d limits act now before after sent end.Halted → after.node.store.failed ≡ true
 halts g d limits (Makes event asker) now before after sent turned = turned.1.1.step.halts.0 refl
 halts g d limits (Tells peer number) now before after sent turned = absurd turned
 halts g d limits Rests now before after sent turned = absurd turned
@@ -150,7 +150,7 @@ full_now limits items e framed past =
     } in
     test_at limits (take (length items + 1 - 1) items) (length items) (length items + 1) (bytes_of items + weight e) (subst P (sym all) there)
 
-full_by : {D V : Type 0} (g : Ghosts D) (d : Standing) (limits : Limits) (act : Act) (now : ℕ) (before after : Seen D V) (sent : List Sending) (entries bytes : ℕ)
+full_by : {D V : Type 0} (g : Ghosts D) (d : Standing) (limits : Limits) (act : Act) (now : ℕ) (before after : Seen D V g) (sent : List Sending) (entries bytes : ℕ)
     → IsFullByFrame before.items (end.JournalFull entries bytes) → Turned g d limits act now before after sent (end.JournalFull entries bytes)
     → was_full limits after.items entries bytes ≡ true
 full_by g d limits (Makes event asker) now before after sent entries bytes framed turned =
@@ -166,8 +166,8 @@ full_by g d limits Rests now before after sent entries bytes framed turned = abs
 is_more : (n m : ℕ) → n < m → nat_lt n m ≡ true
 is_more n m more = grind (arith, nat_tests)
 
-failed : {D V : Type 0} (g : Ghosts D) (before after : Seen D V) (failed_before : ℕ) → GoesOn g before after → failed_before ≤ failed_in g before.node
-    → (before.node.halted ≡ true → failed_before < failed_in g before.node) → after.node.halted ≡ true → failed_before < failed_in g after.node
+failed : {D V : Type 0} (g : Ghosts D) (before after : Seen D V g) (failed_before : ℕ) → GoesOn g before after → failed_before ≤ failed_in g before.node
+    → (before.node.store.failed ≡ true → failed_before < failed_in g before.node) → after.node.store.failed ≡ true → failed_before < failed_in g after.node
 failed g before after failed_before on low was halted =
     let falls = on.never_falls in
     elim (on.rose halted) [
@@ -176,16 +176,16 @@ failed g before after failed_before on low was halted =
     ]
 
 -- a node that is halted after a turn is so for its disk
-pub halted_for_disk : {D V : Type 0} (g : Ghosts D) (d : Standing) (limits : Limits) (act : Act) (now : ℕ) (before after : Seen D V) (sent : List Sending) (e : TurnEnd)
+pub halted_for_disk : {D V : Type 0} (g : Ghosts D) (d : Standing) (limits : Limits) (act : Act) (now : ℕ) (before after : Seen D V g) (sent : List Sending) (e : TurnEnd)
     (failed_before : ℕ) → Turned g d limits act now before after sent e → failed_before ≤ failed_in g before.node
-    → (before.node.halted ≡ true → failed_before < failed_in g before.node) → after.node.halted ≡ true → failed_before < failed_in g after.node
+    → (before.node.store.failed ≡ true → failed_before < failed_in g before.node) → after.node.store.failed ≡ true → failed_before < failed_in g after.node
 halted_for_disk g d limits act now before after sent e failed_before turned low was halted =
     failed g before after failed_before (goes_on g d limits act now before after sent e turned) low was halted
 
 -- why a turn ended so is seen
-pub seen_now : {D V : Type 0} (g : Ghosts D) (d : Standing) (limits own : Limits) (act : Act) (now : ℕ) (before after : Seen D V) (sent : List Sending) (e : TurnEnd)
+pub seen_now : {D V : Type 0} (g : Ghosts D) (d : Standing) (limits own : Limits) (act : Act) (now : ℕ) (before after : Seen D V g) (sent : List Sending) (e : TurnEnd)
     (failed_before : ℕ) → limits ≡ own → IsFullByFrame before.items e → Turned g d limits act now before after sent e → failed_before ≤ failed_in g before.node
-    → (before.node.halted ≡ true → failed_before < failed_in g before.node)
+    → (before.node.store.failed ≡ true → failed_before < failed_in g before.node)
     → is_seen own after.items failed_before (failed_in g after.node) e ≡ true
 seen_now g d limits own act now before after sent end.Done failed_before is framed turned low was = refl
 seen_now g d limits own act now before after sent end.Cut failed_before is framed turned low was = refl
@@ -201,7 +201,7 @@ more_than : (n m k : ℕ) → m ≤ k → nat_lt n m ≡ true → nat_lt n k ≡
 more_than n m k up is = grind (arith, nat_tests)
 
 -- and stays so
-pub seen_stays : {D V : Type 0} (g : Ghosts D) (own : Limits) (before after : Seen D V) (failed_before : ℕ) (e : TurnEnd) → GoesOn g before after
+pub seen_stays : {D V : Type 0} (g : Ghosts D) (own : Limits) (before after : Seen D V g) (failed_before : ℕ) (e : TurnEnd) → GoesOn g before after
     → is_seen own before.items failed_before (failed_in g before.node) e ≡ true → is_seen own after.items failed_before (failed_in g after.node) e ≡ true
 seen_stays g own before after failed_before end.Done on is = refl
 seen_stays g own before after failed_before end.Cut on is = refl

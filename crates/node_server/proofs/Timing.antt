@@ -1,7 +1,6 @@
 -- The moments of a run stay those of its clock.
 use Rattle.std.proofs.Common.{◌≡◌, ◌⊎◌, inl, inr, ℕ, ◌+◌, ◌<◌, ◌≤◌, List, [], ◌∷◌, ◌++◌, get_or, length, max, refl, ap, sym, ◌∙◌, subst, arith}
-use Rattle.std.specs.Prelude.{map, slice_index}
-use Rattle.std.specs.List.{All}
+use Rattle.std.specs.Prelude.{slice_index}
 use Rattle.std.proofs.lemmas.Bool.{cases_lt}
 use Rattle.std.proofs.lemmas.List.{get_or_append_left, get_or_at, length-append, length-map, map-append}
 use Rattle.std.proofs.lemmas.List.Elements.{All-push}
@@ -24,15 +23,15 @@ use Rattle.server_station.specs.Turns.{Act, Makes, Rests, Seen, Tells, Turned, T
 use Rattle.node_server.specs.Moments.{AreTimed, moments_of}
 
 -- A turn at a moment: no step was made, and the last moment is as before; or one was made at this moment, which is then the last one.
-abbrev pub GoesBy : {D V : Type 0} → (now : ℕ) → (before after : Seen D V) → Type 0
+abbrev pub GoesBy : {D V : Type 0} {g : Ghosts D} → (now : ℕ) → (before after : Seen D V g) → Type 0
 GoesBy now before after =
     ((after.items ≡ before.items) × (after.node.last ≡ before.node.last))
     ⊎ ((item : JournalItem) × (after.items ≡ before.items ++ item ∷ []) × (item.now ≡ now) × (after.node.last ≡ now))
 
-rests : {D V : Type 0} (now : ℕ) (before after : Seen D V) → after.node ≡ before.node → after.items ≡ before.items → GoesBy now before after
+rests : {D V : Type 0} {g : Ghosts D} (now : ℕ) (before after : Seen D V g) → after.node ≡ before.node → after.items ≡ before.items → GoesBy now before after
 rests now before after node items = inl (items, ap (λ n. n.last) node)
 
-refused : {D V : Type 0} (g : Ghosts D) (d : Standing) (event : NodeEvent) (now : ℕ) (before after : Seen D V) (out : List Output)
+refused : {D V : Type 0} (g : Ghosts D) (d : Standing) (event : NodeEvent) (now : ℕ) (before after : Seen D V g) (out : List Output)
     → IsRefused g d event now before.node after.node before.items after.items out → GoesBy now before after
 refused g d event now before after out is =
     elim is.node [
@@ -40,15 +39,15 @@ refused g d event now before after out is =
       | inr made ↦ inl (is.items, made.last)
     ]
 
-done : {D V : Type 0} (g : Ghosts D) (d : Standing) (event : NodeEvent) (now : ℕ) (before after : Seen D V) (out : List Output)
+done : {D V : Type 0} (g : Ghosts D) (d : Standing) (event : NodeEvent) (now : ℕ) (before after : Seen D V g) (out : List Output)
     → IsRecorded g d step.Done event now before.node after.node before.items after.items out → GoesBy now before after
-done g d event now before after out is = inr (item_of now event out after.node.halted, is.item, refl, is.step.last)
+done g d event now before after out is = inr (item_of now event out after.node.store.failed, is.item, refl, is.step.last)
 
-halted : {D V : Type 0} (g : Ghosts D) (d : Standing) (event : NodeEvent) (now : ℕ) (before after : Seen D V) (out : List Output)
+halted : {D V : Type 0} (g : Ghosts D) (d : Standing) (event : NodeEvent) (now : ℕ) (before after : Seen D V g) (out : List Output)
     → IsRecorded g d step.Halted event now before.node after.node before.items after.items out → GoesBy now before after
-halted g d event now before after out is = inr (item_of now event out after.node.halted, is.item, refl, is.step.last)
+halted g d event now before after out is = inr (item_of now event out after.node.store.failed, is.item, refl, is.step.last)
 
-makes : {D V : Type 0} (g : Ghosts D) (d : Standing) (limits : Limits) (event : NodeEvent) (asker : List Asker) (now : ℕ) (before after : Seen D V) (sent : List Sending) (e : TurnEnd)
+makes : {D V : Type 0} (g : Ghosts D) (d : Standing) (limits : Limits) (event : NodeEvent) (asker : List Asker) (now : ℕ) (before after : Seen D V g) (sent : List Sending) (e : TurnEnd)
     → TurnsBy g d limits event asker now before after sent e → GoesBy now before after
 makes g d limits event asker now before after sent end.Done turned = done g d event now before after turned.0 turned.1.1
 makes g d limits event asker now before after sent end.Halted turned = halted g d event now before after turned.0 turned.1.1
@@ -60,11 +59,11 @@ makes g d limits event asker now before after sent end.Cut turned =
 makes g d limits event asker now before after sent (end.JournalFull entries bytes) turned = rests now before after turned.0.3 turned.0.4
 makes g d limits event asker now before after sent end.NoMemory turned = refused g d event now before after [] turned.0
 
-same : {D V : Type 0} (now : ℕ) (before after : Seen D V) → after ≡ before → GoesBy now before after
+same : {D V : Type 0} {g : Ghosts D} (now : ℕ) (before after : Seen D V g) → after ≡ before → GoesBy now before after
 same now before after is = rests now before after (ap (λ s. s.node) is) (ap (λ s. s.items) is)
 
 -- each turn goes by its moment
-pub goes_by : {D V : Type 0} (g : Ghosts D) (d : Standing) (limits : Limits) (act : Act) (now : ℕ) (before after : Seen D V) (sent : List Sending) (e : TurnEnd)
+pub goes_by : {D V : Type 0} (g : Ghosts D) (d : Standing) (limits : Limits) (act : Act) (now : ℕ) (before after : Seen D V g) (sent : List Sending) (e : TurnEnd)
     → Turned g d limits act now before after sent e → GoesBy now before after
 goes_by g d limits (Makes event asker) now before after sent e turned = makes g d limits event asker now before after sent e turned
 goes_by g d limits (Tells peer number) now before after sent end.Done turned = same now before after turned.0
@@ -155,7 +154,7 @@ timed_as gave opened items others last other same_items same_last t =
     subst (Timed gave opened others) (sym same_last) (subst P (sym same_items) t)
 
 -- a turn at the later of the last moment and of one that the clock gave leaves them so
-pub stays_timed : {D V : Type 0} (gave : ℕ → Type 0) (opened now : ℕ) (before after : Seen D V) → GoesBy (max before.node.last now) before after
+pub stays_timed : {D V : Type 0} {g : Ghosts D} (gave : ℕ → Type 0) (opened now : ℕ) (before after : Seen D V g) → GoesBy (max before.node.last now) before after
     → IsOfClock gave now → Timed gave opened before.items before.node.last → Timed gave opened after.items after.node.last
 stays_timed gave opened now before after by given t =
     let later = max before.node.last now in

@@ -1,10 +1,9 @@
 -- How a server ends for its words.
-use Rattle.std.proofs.Common.{◌≡◌, Result, Ok, Err, refl, ap, sym, ◌∙◌, subst}
+use Rattle.std.proofs.Common.{◌≡◌, Result, Ok, Err, ap, sym, ◌∙◌, subst}
 use Rattle.server_texts.specs.Words.{Means, Named}
 use Rattle.server_texts.specs.declared.kinds.ServerKind.{ServerKind}
 use Rattle.server_texts.specs.declared.words.ServerWords.{ServerWords}
 use Rattle.server_texts.specs.declared.words.WordsFault.{WordsFault}
-use Rattle.server_texts.specs.declared.words.WordsFault.TheVariants.{Word, NoMemory}
 use Rattle.node_server.specs.Ends.{FollowsWords, IsNotForWords, kind_of_words}
 
 -- words that were read

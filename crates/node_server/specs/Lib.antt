@@ -2,3 +2,4 @@
 pub mod Causes
 pub mod Ends
 pub mod Moments
+pub mod Replays

@@ -3,6 +3,7 @@ ghost use Rattle.std.specs.Prelude.{◌≡◌, ◌+◌, ◌<◌, ◌≤◌, leng
 ghost use Rattle.std.proofs.Props.{props};
 ghost use Rattle.ubik_types.specs.Moment.{IsMoment};
 ghost use Rattle.node_server.specs.Moments.{AreTimed, moments_of};
+ghost use Rattle.node_server.specs.Replays.{IsOpenedAs};
 
 use db_image::DraftService;
 use disk_base::Disk;
@@ -13,7 +14,9 @@ use std::marker::{Brand, PhantomData};
 
 /// A server that was opened, named by the call that runs it.
 pub(crate) trait Running: Opening {
-    ghost use Rattle.std.specs.Prelude.{ℕ};
+    ghost use Rattle.std.specs.Prelude.{ℕ, Bool};
+    ghost use Rattle.cell_model.specs.Node as model;
+    ghost use Rattle.cell_model.specs.Step.{Member};
     ghost use Rattle.server_journal.specs.declared.counts.Limits.{Limits};
 
     /// How much its journal keeps at most.
@@ -27,9 +30,21 @@ pub(crate) trait Running: Opening {
 
     /// Its clock gave this moment.
     ghost gave: { ℕ → Type 0 };
+
+    /// The server as it was opened.
+    ghost server: { model.Node };
+
+    /// Its cell, and its place there.
+    ghost member: { Member };
+
+    /// Whether its disk told its files then.
+    ghost tells: { Bool };
 }
 
 impl Running for Brand {
+    ghost use Rattle.std.specs.Prelude.{false, []};
+    ghost use Rattle.cell_model.specs.Node as model;
+
     ghost limits = { record { entries = 0; bytes = 0 } };
 
     ghost failed_before = { 0 };
@@ -37,6 +52,12 @@ impl Running for Brand {
     ghost opened = { 0 };
 
     ghost gave = { λ moment. Unit {0} };
+
+    ghost server = { model.Down };
+
+    ghost member = { record { hosts = []; me = 0 } };
+
+    ghost tells = { false };
 }
 
 /// Shows that the ledger of an opening has as many parts as the opening says.
@@ -65,8 +86,9 @@ pub(crate) struct StationBench<D: Disk, V: DraftService, L: Running, J: Keeper> 
     pub(crate) whole: Whole<L>,
     ghost limits: { J.limits station.recorded.journal ≡ L.limits },
     ghost failed: { L.failed_before ≤ D.faults station.recorded.node.store.disk },
-    ghost halted: { station.recorded.node.halted ≡ true → L.failed_before < D.faults station.recorded.node.store.disk },
+    ghost halted: { station.recorded.node.store.failed ≡ true → L.failed_before < D.faults station.recorded.node.store.disk },
     ghost timed: { AreTimed L.gave (moments_of L.opened (J.items station.recorded.journal)) } by { Prim.hlevel props },
+    ghost opened: { ∥ IsOpenedAs D.Disk station.recorded.past.opened.value L.server L.member L.tells ∥₁ },
     ghost last: { slice_index (moments_of L.opened (J.items station.recorded.journal)) (length (J.items station.recorded.journal)) ≡ station.recorded.node.last },
 }
 
@@ -101,6 +123,7 @@ pub(crate) fn lend<D: Disk, V: DraftService, L: Opening, J: Keeper>(
     requires all { L.all ≡ 7 }
     ensures node { station.new.recorded.node ≡ station.old.recorded.node }
     ensures journal { station.new.recorded.journal ≡ station.old.recorded.journal }
+    ensures past { station.new.recorded.past ≡ station.old.recorded.past }
 {
     Seats {
         beacons: station.share(),

@@ -1,14 +1,14 @@
 //! A server from its opening to its end: the node, the station, and the workers in threads of one scope.
-ghost use Rattle.std.specs.Prelude.{◌≡◌, ◌≢◌, ◌<◌, ◌≤◌, ◌⊎◌, ℕ, [], length, true, false, Option, IfSome, IsNone, MatchOption};
+ghost use Rattle.std.specs.Prelude.{◌≡◌, ◌<◌, ◌≤◌, ◌⊎◌, ℕ, [], length, true, false, Option, IfSome, IsNone, MatchOption};
 ghost use Rattle.ubik_types.specs.Moment.{IsMoment};
 ghost use Rattle.disk_base.specs.Crash.{IsSettled};
 ghost use Rattle.disk_base.specs.Files.{Files};
-ghost use Rattle.ubik_node.specs.Node.{IsStored};
 ghost use Rattle.ubik_store.specs.Opening.{RefusesFiles};
 ghost use Rattle.server_rounds.specs.Clock.{IsOfClock};
 ghost use Rattle.node_server.specs.Causes.{was_full};
 ghost use Rattle.node_server.specs.Ends.{Explains, IsQuiet, IsNotForWords, ShowsFiles, kind_of_end, kind_of_fault};
 ghost use Rattle.node_server.specs.Moments.{AreTimed, moments_of};
+ghost use Rattle.node_server.specs.Replays.{IsOpenedAs, IsReplayed, RunReplays};
 
 use crate::benches::{Running, StationBench, Whole, lend};
 use crate::ends::ServerRun;
@@ -58,6 +58,7 @@ pub(crate) fn open_and_serve<
     ensures explained { Explains D.Disk J.items J.limits (J.limits journal)
         (N.may_close outside.now.net.now) (P.may_refuse outside.now.spawner.now) disk result.disk result.kind result.run }
     ensures timed { IfSome result.run (λ run. AreTimed (C.gave outside.now.clock.now) (moments_of run.opened (J.items run.journal))) }
+    ensures replays { RunReplays D.Disk J.items V.standing (record { hosts = words.cell; me = words.me }) disk result.disk result.run }
 {
     let now = outside.clock.now();
     let ServerWords { cell, me, .. } = words;
@@ -136,14 +137,14 @@ fn serve_as<
 ) -> Served<D, J>
     requires name { blank.name ≡ L.name }
     requires parts { (blank.parts ≡ L.parts) × (L.all ≡ L.parts) × (L.all ≡ 7) }
-    requires stored { IsStored D.Disk node }
     requires moment { IsMoment node.last }
     requires opened { (opened ≡ L.opened) × (node.last ≡ opened) × IsOfClock L.gave opened }
     requires clock { (moment : ℕ) → C.gave outside.now.clock.now moment → IsOfClock L.gave moment }
     requires empty { J.items journal ≡ [] }
     requires limits { J.limits journal ≡ L.limits }
-    requires up { node.halted ≡ false }
+    requires up { node.store.failed ≡ false }
     requires failed { L.failed_before ≤ D.faults node.store.disk }
+    requires opened_as { IsOpenedAs D.Disk node L.server L.member L.tells }
     ensures words { IsNotForWords result.kind }
     ensures closed { result.kind ≡ ServerKind.Closed → N.may_close outside.now.net.now }
     ensures refused { result.kind ≡ ServerKind.NoThread → P.may_refuse outside.now.spawner.now }
@@ -153,6 +154,8 @@ fn serve_as<
     ensures disk_fault { result.kind ≡ ServerKind.DiskFault → L.failed_before < D.faults result.disk }
     ensures files { (files : Option Files) → IfSome files (λ fs. ShowsFiles fs result.kind) }
     ensures short { IsNone result.run → result.kind ≡ ServerKind.NoMemory }
+    ensures moment { IfSome result.run (λ run. run.opened ≡ opened) }
+    ensures replays { IfSome result.run (λ run. L.tells ≡ true → ∥ IsReplayed D.Disk V.standing L.member L.server L.failed_before (J.items run.journal) result.disk ∥₁) }
     ensures timed { IfSome result.run (λ run. AreTimed L.gave (moments_of run.opened (J.items run.journal))) }
     ensures disk { MatchOption result.run (result.disk ≡ node.store.disk)
         (λ _. (L.failed_before ≤ D.faults result.disk) × ((L.failed_before < D.faults result.disk) ⊎ IsQuiet D.Disk result.disk)) }

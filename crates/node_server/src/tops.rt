@@ -4,6 +4,7 @@ ghost use Rattle.disk_base.specs.Crash.{IsSettled};
 ghost use Rattle.node_server.specs.Causes.{IsFullIn};
 ghost use Rattle.node_server.specs.Ends.{Explains, FollowsWords, IsNotForWords, kind_of_words};
 ghost use Rattle.node_server.specs.Moments.{AreTimed, moments_of};
+ghost use Rattle.node_server.specs.Replays.{ReplaysNamed, RunReplays, standing_of};
 ghost use Rattle.server_texts.specs.Ends.{IsSaid, end_line, status_of};
 ghost use Rattle.server_texts.specs.Words.{meaning_of};
 
@@ -56,6 +57,7 @@ pub fn server_top<
     ensures explained { Explains D.Disk (λ journal. journal.held.items) (λ journal. journal.limits) JOURNAL_LIMITS
         (N.may_close net.now) (P.may_refuse spawner.now) disk result.disk result.kind result.run }
     ensures timed { IfSome result.run (λ run. AreTimed (C.gave clock.now) (moments_of run.opened run.journal.held.items)) }
+    ensures replays { ReplaysNamed D.Disk (λ journal. journal.held.items) (meaning_of (map string_bytes words.now)) disk result.disk result.run }
     ensures journal_full { (entries bytes : ℕ) → result.kind ≡ ServerKind.JournalFull entries bytes →
         IfSome result.run (λ run. IsFullIn JOURNAL_LIMITS run.journal.held.items entries bytes) }
     ensures said { IsSaid (K.written err.old) (K.written err.new) (K.faults err.old) (K.faults err.new) (end_line result.kind) }
@@ -95,6 +97,7 @@ pub fn server_over<
     ensures explained { Explains D.Disk J.items J.limits (J.limits journal)
         (N.may_close net.now) (P.may_refuse spawner.now) disk result.disk result.kind result.run }
     ensures timed { IfSome result.run (λ run. AreTimed (C.gave clock.now) (moments_of run.opened (J.items run.journal))) }
+    ensures replays { ReplaysNamed D.Disk J.items (meaning_of (map string_bytes words.now)) disk result.disk result.run }
     ensures said { IsSaid (K.written err.old) (K.written err.new) (K.faults err.old) (K.faults err.new) (end_line result.kind) }
 {
     let outside = Outside {
@@ -136,6 +139,7 @@ fn read_and_serve<
     ensures explained { Explains D.Disk J.items J.limits (J.limits journal)
         (N.may_close outside.now.net.now) (P.may_refuse outside.now.spawner.now) disk result.disk result.kind result.run }
     ensures timed { IfSome result.run (λ run. AreTimed (C.gave outside.now.clock.now) (moments_of run.opened (J.items run.journal))) }
+    ensures replays { ReplaysNamed D.Disk J.items (meaning_of (map string_bytes words.now)) disk result.disk result.run }
 {
     match read_words(alloc, words) {
         Ok(words) => serve(rt, alloc, words, disk, journal, outside),
@@ -181,6 +185,7 @@ fn serve<
     ensures explained { Explains D.Disk J.items J.limits (J.limits journal)
         (N.may_close outside.now.net.now) (P.may_refuse outside.now.spawner.now) disk result.disk result.kind result.run }
     ensures timed { IfSome result.run (λ run. AreTimed (C.gave outside.now.clock.now) (moments_of run.opened (J.items run.journal))) }
+    ensures replays { RunReplays D.Disk J.items (standing_of words.database) (record { hosts = words.cell; me = words.me }) disk result.disk result.run }
 {
     match words.database {
         Database::Location => {
