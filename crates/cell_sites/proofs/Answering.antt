@@ -1,7 +1,6 @@
 -- The calls that a server has not answered are calls of the cell, and what it shows answers them.
-use Rattle.std.proofs.Common.{◌≡◌, inl, inr, ◌<◌, ◌≤◌, ◌+◌, ◌-◌, ℕ, zero, suc, List, [], ◌∷◌, ◌++◌, length, get_or, Option, refl, sym, ap, subst, ◌∙◌, arith}
+use Rattle.std.proofs.Common.{◌≡◌, inl, inr, ◌<◌, ◌+◌, ◌-◌, ℕ, zero, suc, List, [], ◌∷◌, ◌++◌, length, get_or, Option, refl, sym, ap, subst, ◌∙◌, arith}
 use Rattle.std.proofs.lemmas.List.Elements.{All-nil, All-cons}
-use Rattle.std.specs.List.{AllByRecursion}
 use Rattle.std.specs.Prelude.{All}
 use Rattle.ubik_calls.specs.declared.replies.Reply.{Reply}
 use Rattle.db_image.specs.Database.{Database}
@@ -67,7 +66,7 @@ all_stand_on calls call [] all = tt
 all_stand_on calls call (w ∷ waiting) all = (stands_on calls call w.id w.call all.0, all_stand_on calls call waiting all.1)
 
 -- and the new one stands under the next
-pub new_stands : (calls : List (List ℕ)) (call : List ℕ) (id : ℕ) → id ≡ length calls + 1 → StandsUnder (calls ++ call ∷ []) id call
+new_stands : (calls : List (List ℕ)) (call : List ℕ) (id : ℕ) → id ≡ length calls + 1 → StandsUnder (calls ++ call ∷ []) id call
 new_stands calls call id next =
     let more = length_more calls call in
     let place : id - 1 ≡ length calls = omega (arith, next) in
@@ -76,6 +75,10 @@ new_stands calls call id next =
       within = omega (arith, next, more);
       is = ap (λ (k : ℕ). get_or (calls ++ call ∷ []) k []) place ∙ get_last calls call;
     }
+
+pub stands_kept : (before after : List (List ℕ)) (call : List ℕ) (id : ℕ) → after ≡ before ++ call ∷ [] → id ≡ length before + 1 → StandsUnder after id call
+stands_kept before after call id kept next =
+    subst (λ (l : List (List ℕ)). StandsUnder l id call) (sym kept) (new_stands before call id next)
 
 -- ---- a step
 

@@ -134,16 +134,16 @@ whole_before v calls (Some armed) before whole rise stops runs stopped most =
 -- ---- the disks of a cell
 
 module _ {D V : Type 0} (g : Ghosts D) where
-  pub armed_here : (sites : List (Site D V)) (armed : List (Option Armed)) (k : ℕ) (site : Site D V) → AreArmed g sites armed → slice_get sites k ≡ Some site
+  pub armed_here : (sites : List (Site D V g)) (armed : List (Option Armed)) (k : ℕ) (site : Site D V g) → AreArmed g sites armed → slice_get sites k ≡ Some site
       → IsArmedAs (server_node site.server) (armed_at armed k) (g.stop (site_disk site))
   armed_here [] armed k site are there = cc
   armed_here (x ∷ sites) [] k site are there = absurd are
   armed_here (x ∷ sites) (a ∷ armed) zero site are there =
-      let same : x ≡ site = cc in subst (λ (y : Site D V). IsArmedAs (server_node y.server) a (g.stop (site_disk y))) same are.0
+      let same : x ≡ site = cc in subst (λ (y : Site D V g). IsArmedAs (server_node y.server) a (g.stop (site_disk y))) same are.0
   armed_here (x ∷ sites) (a ∷ armed) (suc k) site are there = armed_here sites armed k site are.1 there
 
   -- another server, and another stop of its disk
-  pub armed_set : (sites : List (Site D V)) (armed : List (Option Armed)) (k : ℕ) (later : Site D V) (stop : Option Armed) → AreArmed g sites armed
+  pub armed_set : (sites : List (Site D V g)) (armed : List (Option Armed)) (k : ℕ) (later : Site D V g) (stop : Option Armed) → AreArmed g sites armed
       → IsArmedAs (server_node later.server) stop (g.stop (site_disk later)) → AreArmed g (set sites k later) (set armed k stop)
   armed_set [] [] k later stop are is = tt
   armed_set [] (a ∷ armed) k later stop are is = absurd are
@@ -152,7 +152,7 @@ module _ {D V : Type 0} (g : Ghosts D) where
   armed_set (x ∷ sites) (a ∷ armed) (suc k) later stop are is = (are.0, armed_set sites armed k later stop are.1 is)
 
   -- another server alone
-  pub armed_still : (sites : List (Site D V)) (armed : List (Option Armed)) (k : ℕ) (later : Site D V) → AreArmed g sites armed
+  pub armed_still : (sites : List (Site D V g)) (armed : List (Option Armed)) (k : ℕ) (later : Site D V g) → AreArmed g sites armed
       → IsArmedAs (server_node later.server) (armed_at armed k) (g.stop (site_disk later)) → AreArmed g (set sites k later) armed
   armed_still [] [] k later are is = tt
   armed_still [] (a ∷ armed) k later are is = absurd are

@@ -25,6 +25,7 @@ use Rattle.cell_sites.specs.declared.sites.Site.{Site}
 use Rattle.cell_sites.specs.Disks.{AreReadBy}
 use Rattle.cell_sites.specs.Places.{IsDownAt}
 use Rattle.cell_sites.specs.Counts.{calls_of}
+use Rattle.cell_sites.specs.Sent.{no_packet, packet_under}
 use Rattle.cell_sites.specs.Sites.{AreArmed, IsModelledBy, helds}
 use Rattle.cell_sites.specs.Sound.{IsSteady, Keeps}
 use Rattle.cell_sites.specs.Told.{CellTold, IsShort}
@@ -38,13 +39,13 @@ use Rattle.cell_sites.proofs.Running.{whole}
 -- ---- other packets
 
 -- the cell with other packets
-abbrev pub with_packets : {D V : Type 0} → OpenCell D V → Traffic → OpenCell D V
+abbrev pub with_packets : {D V : Type 0} {g : Ghosts D} → OpenCell D V g → Traffic → OpenCell D V g
 with_packets running p = record running { packets = p }
 
 abbrev pub with_handed : Cell → List Bool → Cell
 with_handed c handed = record c { handed = handed }
 
-pub stands_with : {D V : Type 0} {gs : Ghosts D} {database : Database} {given : List ℕ} (running : OpenCell D V) (c : Cell) (p : Traffic) (handed : List Bool)
+pub stands_with : {D V : Type 0} {gs : Ghosts D} {database : Database} {given : List ℕ} (running : OpenCell D V gs) (c : Cell) (p : Traffic) (handed : List Bool)
     → IsModelledBy gs database given running c → p.sent ≡ running.packets.sent → handed ≡ p.handed
     → IsModelledBy gs database given (with_packets running p) (with_handed c handed)
 stands_with running c p handed stands sent is =
@@ -57,7 +58,7 @@ stands_with running c p handed stands sent is =
       disks = hold_as _ c (with_handed c handed) _ false _ (same_run c (with_handed c handed) refl refl refl) stands.disks;
     }
 
-pub sound_with : {D V : Type 0} (g : Ghosts D) (bound : ℕ) (running : OpenCell D V) (p : Traffic) → IsSteady g bound running
+pub sound_with : {D V : Type 0} (g : Ghosts D) (bound : ℕ) (running : OpenCell D V g) (p : Traffic) → IsSteady g bound running
     → IsSteady g bound (with_packets running p)
 sound_with g bound running p sound =
     record {
@@ -69,7 +70,7 @@ sound_with g bound running p sound =
       told = sound.told;
     }
 
-pub keeps_with : {D V : Type 0} (db : Database) (running : OpenCell D V) (p : Traffic) → Keeps db running → p.sent ≡ running.packets.sent
+pub keeps_with : {D V : Type 0} {g : Ghosts D} (db : Database) (running : OpenCell D V g) (p : Traffic) → Keeps db running → p.sent ≡ running.packets.sent
     → Keeps db (with_packets running p)
 keeps_with db running p keeps sent =
     record {
@@ -78,7 +79,7 @@ keeps_with db running p keeps sent =
     }
 
 -- what is told of the cell with other packets is told of the cell
-pub told_before : {D V : Type 0} {given : List ℕ} (g : Ghosts D) (script_db : ScriptDatabase) (running after : OpenCell D V) (p : Traffic) (run : Choices
+pub told_before : {D V : Type 0} {given : List ℕ} (g : Ghosts D) (script_db : ScriptDatabase) (running after : OpenCell D V g) (p : Traffic) (run : Choices
     → Run_or_why) (ended : Option Ending) (tb ta : List ℕ) → CellTold g script_db given run ended (with_packets running p) after tb ta
     → CellTold g script_db given run ended running after tb ta
 told_before g script_db running after p run ended tb ta told =
@@ -93,7 +94,7 @@ told_before g script_db running after p run ended tb ta told =
       causes = told.causes;
     }
 
-pub short_before : {D V : Type 0} {database : Database} {given : List ℕ} (g : Ghosts D) (running after : OpenCell D V) (p : Traffic) (run : Choices
+pub short_before : {D V : Type 0} {database : Database} {given : List ℕ} (g : Ghosts D) (running after : OpenCell D V g) (p : Traffic) (run : Choices
     → Run_or_why) (c : Cell) (handed : List Bool) → IsShort g database given run (with_handed c handed) (with_packets running p) after
     → IsShort g database given run c running after
 short_before g running after p run c handed (inl hold) =
@@ -123,13 +124,13 @@ set_same {X} (y ∷ xs) (suc k) x there = ap (λ (l : List X). y ∷ l) (set_sam
 
 -- ---- a server that is down loses the packet
 
-pub lost : {D V : Type 0} {given : List ℕ} (g : Ghosts D) (script_db : ScriptDatabase) (running : OpenCell D V) (c : Cell) (number k : ℕ) (p : Packet)
+pub lost : {D V : Type 0} {given : List ℕ} (g : Ghosts D) (script_db : ScriptDatabase) (running : OpenCell D V g) (c : Cell) (number k : ℕ) (p : Packet)
     (text_before text_after : List ℕ) → IsModelledBy g script_db.database given running c → (down : IsDownAt running k)
     → occasion c.run.world (Delivery number) ≡ Some (k, event.Packet p)
     → text_after ≡ text_before ++ item_text script_db running.hosts.items (Tells (Lost number))
     → CellTold g script_db given (λ choices. Ok (stepped script_db c (first_choice choices) (Delivery number))) None running running text_before text_after
 lost {D} {V} {given} g script_db running c number k p tb ta stands down o told =
-    let site : Site D V = record { clock = down.clock; server = Down down.disk } in
+    let site : Site D V g = record { clock = down.clock; server = Down down.disk } in
     let m = site_at running.sites.items c.run.world.sites k site stands.sites down.there in
     let h : SiteHappened = only_marks m.s (Lost number ∷ []) in
     let armed = set c.armed k (counted_on 0 (armed_at c.armed k)) in
@@ -150,7 +151,7 @@ lost {D} {V} {given} g script_db running c number k p tb ta stands down o told =
     (ap (λ (l : List Packet). record { sent = l; handed = running.packets.handed }) (sym (append-nil running.packets.sent))
     ∙ ap (λ (l : List Bool). record { sent = running.packets.sent ++ []; handed = l }) (sym (append-nil running.packets.handed)))
     m.is
-    (subst (λ (l : List (Site D V)). AreArmed g l armed) (sym same)
+    (subst (λ (l : List (Site D V g)). AreArmed g l armed) (sym same)
     (armed_set g running.sites.items c.armed k site (counted_on 0 (armed_at c.armed k)) stands.armed (ap (counted_on 0) here.0, here.1)))
     (hold_more script_db.database c (cell_after (with_armed c armed) (Step (Delivery number) []) (happened_at c.run.world k h)) given
     (Step (Delivery number) []) goes (helds g running) (helds g running) stands.disks
@@ -159,23 +160,26 @@ lost {D} {V} {given} g script_db running c number k p tb ta stands down o told =
 
 -- ---- a packet that was sent
 
--- the cell from which a packet is handed over, and where it goes
-pub record HandedOver {D V : Type 0} (g : Ghosts D) (database : Database) (given : List ℕ) (running : OpenCell D V) (c : Cell) (p : Traffic) (number k : ℕ)
-    (packet : Packet) : Type 0 where
-  pub stands : IsModelledBy g database given (with_packets running p) (with_handed c (set c.handed (number - 1) true))
-  pub goes : occasion c.run.world (Delivery number) ≡ Some (k, event.Packet packet)
+pub under : (sent : List Packet) (number : ℕ) (packet : Packet) → slice_get sent (number - 1) ≡ Some packet → packet_under sent number ≡ packet
+under sent number packet there = get_or_from_slice_get sent (number - 1) packet no_packet there
 
-pub handed_cell : {D V : Type 0} {gs : Ghosts D} {database : Database} {given : List ℕ} (running : OpenCell D V) (c : Cell) (p : Traffic) (number k : ℕ)
-    (packet sent : Packet) → IsModelledBy gs database given running c → p ≡ handed_over running.packets number → 0 < number → slice_get p.sent (number - 1) ≡
-    Some sent → packet ≡ sent → place_of running.hosts.items packet.to ≡ Some k
-    → HandedOver gs database given running c p number k packet
-handed_cell running c p number k packet sent stands is some there same place =
+-- the cell from which a packet is handed over, and where it goes
+pub record HandedOver {D V : Type 0} (g : Ghosts D) (database : Database) (given : List ℕ) (running : OpenCell D V g) (c : Cell) (p : Traffic)
+    (number k : ℕ) : Type 0 where
+  pub stands : IsModelledBy g database given (with_packets running p) (with_handed c (set c.handed (number - 1) true))
+  pub goes : occasion c.run.world (Delivery number) ≡ Some (k, event.Packet (packet_under p.sent number))
+
+pub handed_cell : {D V : Type 0} {gs : Ghosts D} {database : Database} {given : List ℕ} (running : OpenCell D V gs) (c : Cell) (p : Traffic) (number k : ℕ)
+    (packet : Packet) → IsModelledBy gs database given running c → p ≡ handed_over running.packets number → 0 < number
+    → slice_get p.sent (number - 1) ≡ Some packet → place_of running.hosts.items packet.to ≡ Some k → HandedOver gs database given running c p number k
+handed_cell running c p number k packet stands is some there place =
     record {
       stands = stands_with running c p (set c.handed (number - 1) true) stands (ap (λ (t : Traffic). t.sent) is)
           (ap (λ (h : List Bool). set h (number - 1) true) stands.handed ∙ sym (ap (λ (t : Traffic). t.handed) is));
       goes =
           occasion_of c.run.world number k packet
           (numbered c.run.world number packet some
-          (ap (λ (l : List Packet). slice_get l (number - 1)) (stands.sent ∙ sym (ap (λ (t : Traffic). t.sent) is)) ∙ there ∙ ap Some (sym same)))
-          (ap (λ (h : List Host). place_of h packet.to) stands.hosts ∙ place);
+          (ap (λ (l : List Packet). slice_get l (number - 1)) (stands.sent ∙ sym (ap (λ (t : Traffic). t.sent) is)) ∙ there))
+          (ap (λ (h : List Host). place_of h packet.to) stands.hosts ∙ place)
+          ∙ ap (λ (q : Packet). Some (k, event.Packet q)) (sym (under p.sent number packet there));
     }

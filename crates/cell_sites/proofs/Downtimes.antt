@@ -28,7 +28,7 @@ use Rattle.ubik_node.specs.declared.nodes.Node.{Node}
 use Rattle.ubik_node.specs.Disk.{IsArmed, IsRevived, StandsAs}
 use Rattle.server_state.specs.declared.state.State.{State}
 use Rattle.server_state.specs.State.{member_of, server_of}
-use Rattle.ubik_node.specs.Node.{IsStored, node_of, own_member, up_server}
+use Rattle.ubik_node.specs.Node.{node_of, own_member, up_server}
 use Rattle.cell_sites.specs.declared.cells.OpenCell.{OpenCell}
 use Rattle.cell_sites.specs.declared.openings.OpenEnd.{OpenEnd}
 use Rattle.cell_sites.specs.declared.openings.OpenEnd.TheVariants as opened
@@ -67,12 +67,12 @@ zero_add n = omega arith
 
 -- ---- another server at a place
 
-module _ {D V : Type 0} (g : Ghosts D) (running after : OpenCell D V) (k : ℕ) (site later : Site D V) (there : slice_get running.sites.items k ≡ Some site)
+module _ {D V : Type 0} (g : Ghosts D) (running after : OpenCell D V g) (k : ℕ) (site later : Site D V g) (there : slice_get running.sites.items k ≡ Some site)
     (sites : after.sites.items ≡ set running.sites.items k later) where
   -- no disk failed fewer times
   pub rises_at : g.faults (site_disk site) ≤ g.faults (site_disk later) → AreRises 0 [] (helds g running) (helds g after)
   rises_at kept =
-      subst (λ (l : List (Site D V)). AreRises 0 [] (helds g running) (map (held_at {V = V} g) l)) (sym sites)
+      subst (λ (l : List (Site D V g)). AreRises 0 [] (helds g running) (map (held_at {V = V} g) l)) (sym sites)
       (rises_set g [] 0 k running.sites.items site later there (omega (arith, kept)) (λ j other. refl))
 
   pub many_at : length after.sites.items ≡ length running.sites.items
@@ -96,14 +96,14 @@ armed_so false s before None calls fill stops =
 armed_so false s before (Some a) calls fill stops =
     (omega arith, (fill, ap (λ (b : DiskStop). armed b calls fill) stops.1.1 ∙ ap (λ (n : ℕ). ToStop n fill) (omega arith)))
 
-module _ {D V : Type 0} (g : Ghosts D) (running after : OpenCell D V) (k clock calls : ℕ) (fill : Fill) (node later : Node D V)
+module _ {D V : Type 0} (g : Ghosts D) (running after : OpenCell D V g) (k clock calls : ℕ) (fill : Fill) (node later : Node D V g)
     (there : slice_get running.sites.items k ≡ Some (up_site clock node)) (sites : after.sites.items ≡ set running.sites.items k (up_site clock later))
     (hosts : after.hosts.items ≡ running.hosts.items) (packets : after.packets ≡ running.packets) (disk : IsArmed g calls fill node.store.disk later.store.disk)
-    (same : (later.state ≡ node.state) × (later.halted ≡ node.halted) × (later.last ≡ node.last)) where
+    (same : (later.state ≡ node.state) × (later.store.failed ≡ node.store.failed) × (later.last ≡ node.last)) where
   node_same : node_of later ≡ node_of node
   node_same =
       ap (λ (h : Bool). if h then model.Halted (model.halted_from (up_server later)) else model.Up (up_server later)) same.1
-      ∙ ap (λ (s : State). if node.halted then model.Halted (model.halted_from (server_of s)) else model.Up (server_of s)) same.0
+      ∙ ap (λ (s : State). if node.store.failed then model.Halted (model.halted_from (server_of s)) else model.Up (server_of s)) same.0
 
   pub arm_told : (script_db : ScriptDatabase) (given : List ℕ) (c : Cell) (run : Choices → Run_or_why) (text : List ℕ)
       → IsModelledBy g script_db.database given running c
@@ -122,19 +122,19 @@ module _ {D V : Type 0} (g : Ghosts D) (running after : OpenCell D V) (k clock c
         ends = refl;
         cell = record {
           hosts = stands.hosts ∙ sym hosts;
-          sites = subst (λ (l : List (Site D V)). AreSitesOf l c.run.world.sites) (sym sites)
+          sites = subst (λ (l : List (Site D V g)). AreSitesOf l c.run.world.sites) (sym sites)
               (subst (λ (l : List ModelSite). AreSitesOf (set running.sites.items k (up_site clock later)) l) (set_same c.run.world.sites k site.s site.there)
               (sites_set running.sites.items c.run.world.sites k (up_site clock later) site.s stands.sites
               (record { clock = site.is.clock; node = site.is.node ∙ sym node_same })));
           sent = stands.sent ∙ ap (λ (t : Traffic). t.sent) (sym packets);
           handed = stands.handed ∙ ap (λ (t : Traffic). t.handed) (sym packets);
-          armed = subst (λ (l : List (Site D V)). AreArmed g l now) (sym sites)
+          armed = subst (λ (l : List (Site D V g)). AreArmed g l now) (sym sites)
               (armed_set g running.sites.items c.armed k (up_site clock later) (Some (record { calls = calls; made = 0 })) stands.armed
               (subst (λ (n : model.Node). IsArmedAs n (Some (record { calls = calls; made = 0 })) (g.stop later.store.disk)) (sym node_same)
               (subst (λ (s : DiskStop). IsArmedAs (node_of node) (Some (record { calls = calls; made = 0 })) s) (sym disk.stop)
-              (armed_so node.halted (up_server node) (g.stop node.store.disk) (armed_at c.armed k) calls fill was))));
+              (armed_so node.store.failed (up_server node) (g.stop node.store.disk) (armed_at c.armed k) calls fill was))));
           disks = hold_as script_db.database c (with_armed c now) given false (helds g after) (same_run c (with_armed c now) refl refl refl)
-              (subst (λ (l : List (Site D V)). HoldRun script_db.database given false c (map (held_at {V = V} g) l)) (sym sites)
+              (subst (λ (l : List (Site D V g)). HoldRun script_db.database given false c (map (held_at {V = V} g) l)) (sym sites)
               (hold_still script_db.database c given (helds g running) (map (held_at {V = V} g) (set running.sites.items k (up_site clock later)))
               (reads_set g c.run.world.sites running.sites.items k site.s (up_site clock later) stands.disks.read site.there
               (subst (λ (f : Option Files). IsSomeAnd f (StandsAs site.s.durable)) (sym disk.files) read))
@@ -145,8 +145,8 @@ module _ {D V : Type 0} (g : Ghosts D) (running after : OpenCell D V) (k clock c
         causes = rises_at g running after k (up_site clock node) (up_site clock later) there sites (let f = disk.faults in omega (arith, f));
       }
 
-module _ {D V : Type 0} (g : Ghosts D) (clock calls : ℕ) (fill : Fill) (node later : Node D V) (disk : IsArmed g calls fill node.store.disk later.store.disk)
-    (same : (later.state ≡ node.state) × (later.halted ≡ node.halted) × (later.last ≡ node.last)) where
+module _ {D V : Type 0} (g : Ghosts D) (clock calls : ℕ) (fill : Fill) (node later : Node D V g) (disk : IsArmed g calls fill node.store.disk later.store.disk)
+    (same : (later.state ≡ node.state) × (later.store.failed ≡ node.store.failed) × (later.last ≡ node.last)) where
   -- it stays sound
   pub arm_disk : IsSoundDisk g node.store.disk → IsSoundDisk g later.store.disk
   arm_disk sound =
@@ -159,13 +159,12 @@ module _ {D V : Type 0} (g : Ghosts D) (clock calls : ℕ) (fill : Fill) (node l
         plain = make_if (g.files later.store.disk) at.0 IsPlain is (of_some (g.files node.store.disk) at.0 IsPlain at.1 sound.plain);
       }
 
-  pub arm_node : (m : Member) → IsSoundNode g m clock node → IsStored g later → IsSoundNode g m clock later
-  arm_node m sound stored =
+  pub arm_node : (m : Member) → IsSoundNode g m clock node → IsSoundNode g m clock later
+  arm_node m sound =
       let member : own_member later ≡ m = ap (λ (s : State). member_of s) same.0 ∙ sound.member in
       record {
         last = let l = sound.last in let is = same.2 in omega (arith, l, is);
         member = member;
-        stored = stored;
       }
 
 -- ---- a server that goes down
@@ -194,12 +193,12 @@ revived_sound {D} g old new sound revived =
       plain = make_if (g.files new) there.0 IsPlain there.1 (subst IsPlain (sym same) (of_some (g.files old) at.0 IsPlain at.1 sound.plain));
     }
 
-module _ {D V : Type 0} (g : Ghosts D) (running after : OpenCell D V) (k : ℕ) (down : TakenDown g k running after)
+module _ {D V : Type 0} (g : Ghosts D) (running after : OpenCell D V g) (k : ℕ) (down : TakenDown g k running after)
     (disk : IsSoundDisk g (server_disk down.server)) where
-  abbrev pub before_site : Site D V
+  abbrev pub before_site : Site D V g
   before_site = record { clock = down.clock; server = down.server }
 
-  abbrev pub down_site : Site D V
+  abbrev pub down_site : Site D V g
   down_site = record { clock = down.clock; server = Down down.disk }
 
   pub crash_told : (script_db : ScriptDatabase) (given : List ℕ) (c : Cell) (run : Choices → Run_or_why) (text : List ℕ)
@@ -218,9 +217,9 @@ module _ {D V : Type 0} (g : Ghosts D) (running after : OpenCell D V) (k : ℕ) 
       (let f = down.revived.faults in omega (arith, f)) (λ j other. refl)
       tt text text text (ap (λ (t : Traffic). record { after = record { text = text; sent = t.sent }; ending = None }) (sym down.packets)) (sym (append-nil text))
       down.hosts (down.packets ∙ none_sent running.packets) (record { clock = site.is.clock; node = refl })
-      (subst (λ (l : List (Site D V)). AreArmed g l now) (sym down.sites)
+      (subst (λ (l : List (Site D V g)). AreArmed g l now) (sym down.sites)
       (armed_set g running.sites.items c.armed k down_site None stands.armed (refl, down.revived.unarmed)))
-      (subst (λ (l : List (Site D V)). HoldRun script_db.database given false cell_next (map (held_at {V = V} g) l)) (sym down.sites)
+      (subst (λ (l : List (Site D V g)). HoldRun script_db.database given false cell_next (map (held_at {V = V} g) l)) (sym down.sites)
       (hold_more script_db.database c cell_next given (Crash k) (record
       { opening = refl; events = refl; world = ap (λ (x : Happened). x.world) (sym happened_so) }) (helds g running)
       (map (held_at {V = V} g) (set running.sites.items k down_site)) stands.disks
@@ -240,21 +239,21 @@ module _ {D V : Type 0} (g : Ghosts D) (running after : OpenCell D V) (k : ℕ) 
 -- ---- a server that is opened again
 
 -- a server that is down is sound
-down_sound : {D V : Type 0} (g : Ghosts D) (m : Member) (clock : ℕ) (s : Server D V) → server_node s ≡ model.Down → IsSoundServer g m clock s
+down_sound : {D V : Type 0} (g : Ghosts D) (m : Member) (clock : ℕ) (s : Server D V g) → server_node s ≡ model.Down → IsSoundServer g m clock s
 down_sound g m clock (Down disk) is = tt
-down_sound g m clock (Up n) is = absurd (by n.halted is)
+down_sound g m clock (Up n) is = absurd (by n.store.failed is)
   where
     by : (h : Bool) → (if h then model.Halted (model.halted_from (up_server n)) else model.Up (up_server n)) ≡ model.Down → ⊥
     by true is = cc
     by false is = cc
 
-module _ {D V : Type 0} (g : Ghosts D) (script_db : ScriptDatabase) (running after : OpenCell D V) (k : ℕ)
+module _ {D V : Type 0} (g : Ghosts D) (script_db : ScriptDatabase) (running after : OpenCell D V g) (k : ℕ)
     (result : Result (Unit {0}) NoMemory) (tb ta : List ℕ) (bound : ℕ) (sound : IsSteady g bound running)
     (re : SiteReopened g script_db k result running after tb ta) (stood : (d : Durable) × IsSomeAnd (g.files re.disk) (StandsAs d)) where
-  abbrev pub closed_site : Site D V
+  abbrev pub closed_site : Site D V g
   closed_site = record { clock = re.clock; server = Down re.disk }
 
-  abbrev pub open_site : Site D V
+  abbrev pub open_site : Site D V g
   open_site = record { clock = re.clock; server = re.server }
 
   -- what is known of it whatever its files stand for
@@ -277,11 +276,11 @@ module _ {D V : Type 0} (g : Ghosts D) (script_db : ScriptDatabase) (running aft
 
   -- a server that was opened takes writes
   server_keeps : WritesSpread → (end : OpenEnd) (d : Durable) → ServerIs g (member_at running k) re.clock d end re.disk re.server
-      → KeepsServer script_db.database running.hosts.items running.calls.items re.server
+      → KeepsServer script_db.database running.hosts.items running.calls re.server
   server_keeps law (opened.Up version) d is =
-      opened_keeps script_db.database running.hosts.items running.calls.items law d re.clock is.3 re.server is.0
-  server_keeps law opened.StaysDown d is = closed_keeps script_db.database running.hosts.items running.calls.items re.server is.0
-  server_keeps law opened.NoMemory d is = closed_keeps script_db.database running.hosts.items running.calls.items re.server is
+      opened_keeps script_db.database running.hosts.items running.calls law d re.clock is.3 re.server is.0
+  server_keeps law opened.StaysDown d is = closed_keeps script_db.database running.hosts.items running.calls re.server is.0
+  server_keeps law opened.NoMemory d is = closed_keeps script_db.database running.hosts.items running.calls re.server is
 
   pub reopen_keeps : WritesSpread → Keeps script_db.database running → Keeps script_db.database after
   reopen_keeps law keeps =
@@ -379,7 +378,7 @@ module _ {D V : Type 0} (g : Ghosts D) (script_db : ScriptDatabase) (running aft
       hold_next : HoldRun script_db.database given false cell_next (helds g after)
       hold_next =
           let over = opens_over failed cut in
-          subst (λ (l : List (Site D V)). HoldRun script_db.database given false cell_next (map (held_at {V = V} g) l)) (sym re.sites)
+          subst (λ (l : List (Site D V g)). HoldRun script_db.database given false cell_next (map (held_at {V = V} g) l)) (sym re.sites)
           (hold_more script_db.database c cell_next given (Restart k failed)
           (record { opening = refl; events = refl; world = ap (λ (x : Happened). x.world) (sym happened_so) }) (helds g running)
           (map (held_at {V = V} g) (set running.sites.items k open_site)) stands.disks
@@ -415,7 +414,7 @@ module _ {D V : Type 0} (g : Ghosts D) (script_db : ScriptDatabase) (running aft
           ∙ ap (λ (t : Traffic). record { after = record { text = tb; sent = t.sent }; ending = None }) (sym re.packets)) marks re.hosts
           (re.packets ∙ none_sent running.packets ∙ ap (λ (l : List Shown). sent_all running.packets (packets_of l)) (sym (shown_none failed)))
           (record { clock = clock_same failed ∙ site.is.clock; node = node_next failed ∙ sym node_is })
-          (subst (λ (l : List (Site D V)). AreArmed g l c.armed) (sym re.sites) (armed_still g running.sites.items c.armed k open_site stands.armed arms))
+          (subst (λ (l : List (Site D V g)). AreArmed g l c.armed) (sym re.sites) (armed_still g running.sites.items c.armed k open_site stands.armed arms))
           hold_next
         where
           arms : IsArmedAs (server_node re.server) (armed_at c.armed k) (g.stop (server_disk re.server))
@@ -474,7 +473,7 @@ module _ {D V : Type 0} (g : Ghosts D) (script_db : ScriptDatabase) (running aft
         surplus : re.end ≡ opened.NoMemory → HoldRun script_db.database given true c (helds g after)
         surplus is =
             let over = opens_over true (cut_as opened.NoMemory is) in
-            subst (λ (l : List (Site D V)). HoldRun script_db.database given true c (map (held_at {V = V} g) l)) (sym re.sites)
+            subst (λ (l : List (Site D V g)). HoldRun script_db.database given true c (map (held_at {V = V} g) l)) (sym re.sites)
             (hold_added script_db.database c c given (same_run c c refl refl refl) false true (helds g running)
             (map (held_at {V = V} g) (set running.sites.items k open_site)) stands.disks
             (reads_set g c.run.world.sites running.sites.items k site.s open_site stands.disks.read site.there opens.stands)

@@ -21,10 +21,10 @@ use Rattle.cell_sites.proofs.Counting.{hold_as, same_run}
 use Rattle.cell_sites.proofs.Soundly.{host_count}
 
 -- other packets wait, and nothing else changes
-abbrev pub with_packets : {D V : Type 0} → OpenCell D V → Traffic → OpenCell D V
+abbrev pub with_packets : {D V : Type 0} {g : Ghosts D} → OpenCell D V g → Traffic → OpenCell D V g
 with_packets running packets = record running { packets = packets }
 
-pub packets_told : {D V : Type 0} {given : List ℕ} (g : Ghosts D) (db : ScriptDatabase) (running : OpenCell D V) (c : Cell) (packets : Traffic)
+pub packets_told : {D V : Type 0} {given : List ℕ} (g : Ghosts D) (db : ScriptDatabase) (running : OpenCell D V g) (c : Cell) (packets : Traffic)
     (handed : List Bool) (run : Choices → Run_or_why) (text : List ℕ) →
     ((choices : Choices) → run choices ≡ Ok (resting (record c { handed = handed }))) → packets.sent ≡ running.packets.sent → packets.handed ≡ handed →
     IsModelledBy g db.database given running c → CellTold g db given run None running (with_packets running packets) text text
@@ -48,7 +48,7 @@ packets_told g db running c packets handed run text does sent same stands =
     }
 
 -- one packet
-pub one_handed : {D V : Type 0} {gs : Ghosts D} {database : Database} {given : List ℕ} (running : OpenCell D V) (c : Cell) (packets : Traffic) (n number : ℕ)
+pub one_handed : {D V : Type 0} {gs : Ghosts D} {database : Database} {given : List ℕ} (running : OpenCell D V gs) (c : Cell) (packets : Traffic) (n number : ℕ)
     → packets ≡ handed_over running.packets n → n ≡ number → IsModelledBy gs database given running c → packets.handed ≡ set c.handed (number - 1) true
 one_handed running c packets n number is same stands =
     ap (λ (t : Traffic). t.handed) is
@@ -56,7 +56,7 @@ one_handed running c packets n number is same stands =
     ∙ ap (λ (l : List Bool). set l (number - 1) true) (sym stands.handed)
 
 -- the packets of one host
-pub host_handed : {D V : Type 0} {gs : Ghosts D} {database : Database} {given : List ℕ} (running : OpenCell D V) (c : Cell) (packets : Traffic) (k : ℕ)
+pub host_handed : {D V : Type 0} {gs : Ghosts D} {database : Database} {given : List ℕ} (running : OpenCell D V gs) (c : Cell) (packets : Traffic) (k : ℕ)
     (host : Host) → packets ≡ dropped_all running.packets host → slice_get running.hosts.items k ≡ Some host → IsModelledBy gs database given running c →
     packets.handed ≡ dropped_of (host_at c.run.world.hosts k) c.run.world.packets c.handed
 host_handed running c packets k host is there stands =
@@ -68,7 +68,7 @@ host_handed running c packets k host is there stands =
     ∙ ap (λ (l : List Bool). dropped_of (host_at c.run.world.hosts k) c.run.world.packets l) (sym stands.handed)
 
 -- a server that is up has a host
-pub host_within : {D V : Type 0} (g : Ghosts D) (bound : ℕ) (running : OpenCell D V) (k : ℕ) → IsSteady g bound running
+pub host_within : {D V : Type 0} (g : Ghosts D) (bound : ℕ) (running : OpenCell D V g) (k : ℕ) → IsSteady g bound running
     → IsUpAt running k → k < length running.hosts.items
 host_within g bound running k sound up =
     let within = slice_get_within running.sites.items k _ up.there in

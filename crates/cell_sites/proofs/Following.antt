@@ -52,7 +52,7 @@ first_heard (x ∷ each) all = all.0
 -- ---- the loop
 
 -- What was delivered so far, so many packets with some choices: what more comes to is that, and then what it comes to from here.
-pub record SoFar {D V : Type 0} (g : Ghosts D) (script_db : ScriptDatabase) (given : List ℕ) (most fuel : ℕ) (c : Cell) (start now : OpenCell D V)
+pub record SoFar {D V : Type 0} (g : Ghosts D) (script_db : ScriptDatabase) (given : List ℕ) (most fuel : ℕ) (c : Cell) (start now : OpenCell D V g)
     (text_before text : List ℕ) : Type 0 where
   pub cell : Cell
   pub stands : IsModelledBy g script_db.database given now cell
@@ -68,7 +68,7 @@ pub record SoFar {D V : Type 0} (g : Ghosts D) (script_db : ScriptDatabase) (giv
   pub causes : AreRises 0 items (helds g start) (helds g now)
   pub hosts : now.hosts.items ≡ start.hosts.items
 
-pub record Follows {D V : Type 0} (g : Ghosts D) (script_db : ScriptDatabase) (most fuel : ℕ) (start now : OpenCell D V)
+pub record Follows {D V : Type 0} (g : Ghosts D) (script_db : ScriptDatabase) (most fuel : ℕ) (start now : OpenCell D V g)
     (text_before text : List ℕ) : Type 0 where
   pub runs : (given : List ℕ) (c : Cell) → IsModelledBy g script_db.database given start c → SoFar g script_db given most fuel c start now text_before text
   pub sound : (bounds : Bounds) → IsSound g script_db.database bounds start → IsSound g script_db.database bounds now
@@ -79,7 +79,7 @@ no_rise : (k : ℕ) (disks : List Held) → AreRises k [] disks disks
 no_rise k [] = tt
 no_rise k (disk ∷ disks) = (omega arith, no_rise (k + 1) disks)
 
-pub follows_none : {D V : Type 0} (g : Ghosts D) (script_db : ScriptDatabase) (most fuel : ℕ) (start : OpenCell D V) (text : List ℕ)
+pub follows_none : {D V : Type 0} (g : Ghosts D) (script_db : ScriptDatabase) (most fuel : ℕ) (start : OpenCell D V g) (text : List ℕ)
     → fuel ≡ most → Follows g script_db most fuel start start text text
 follows_none g script_db most fuel start text same =
     record {
@@ -105,7 +105,7 @@ follows_none g script_db most fuel start text same =
 -- ---- one more packet
 
 -- with some choice of its step, whatever that told
-module _ {D V : Type 0} (g : Ghosts D) (script_db : ScriptDatabase) (given : List ℕ) (most fuel : ℕ) (c : Cell) (start now : OpenCell D V)
+module _ {D V : Type 0} (g : Ghosts D) (script_db : ScriptDatabase) (given : List ℕ) (most fuel : ℕ) (c : Cell) (start now : OpenCell D V g)
     (tb text : List ℕ) (so : SoFar g script_db given most fuel c start now tb text) (number : ℕ)
     (waits : first_waiting 1 so.cell.handed ≡ Some number) (choice : Choice) (ran : Cell_run) (is : delivered script_db so.cell choice number ≡ ran) where
   -- what one more packet comes to
@@ -120,7 +120,7 @@ module _ {D V : Type 0} (g : Ghosts D) (script_db : ScriptDatabase) (given : Lis
       ∙ ap (λ (o : Option ℕ). joined_run so.items (all_delivered script_db (suc rest) so.cell (choice ∷ more) o)) waits
       ∙ ap (λ (r : Cell_run). joined_run so.items (unless_ended r r.ending (all_delivered script_db rest r.cell more (first_waiting 1 r.cell.handed)))) is
 
-module _ {D V : Type 0} (g : Ghosts D) (script_db : ScriptDatabase) (given : List ℕ) (most fuel : ℕ) (c : Cell) (start now later : OpenCell D V)
+module _ {D V : Type 0} (g : Ghosts D) (script_db : ScriptDatabase) (given : List ℕ) (most fuel : ℕ) (c : Cell) (start now later : OpenCell D V g)
     (tb text after : List ℕ) (so : SoFar g script_db given most (suc fuel) c start now tb text) (number : ℕ)
     (waits : first_waiting 1 so.cell.handed ≡ Some number) (ended : Option Ending)
     (told : CellTold g script_db given (λ choices. Ok (delivered script_db so.cell (first_choice choices) number)) ended now later text after) where
@@ -181,7 +181,7 @@ module _ {D V : Type 0} (g : Ghosts D) (script_db : ScriptDatabase) (given : Lis
       }
 
 -- no packet waits any more, or there is no fuel left
-pub followed : {D V : Type 0} (g : Ghosts D) (script_db : ScriptDatabase) (given : List ℕ) (most fuel : ℕ) (c : Cell) (start now : OpenCell D V)
+pub followed : {D V : Type 0} (g : Ghosts D) (script_db : ScriptDatabase) (given : List ℕ) (most fuel : ℕ) (c : Cell) (start now : OpenCell D V g)
     (tb text : List ℕ) (so : SoFar g script_db given most fuel c start now tb text)
     → most ≡ MAX_PACKETS → all_delivered script_db fuel so.cell [] (first_waiting 1 so.cell.handed) ≡ resting so.cell
     → CellTold g script_db given (λ choices. Ok (all_delivered script_db choices.most c choices.each (first_waiting 1 c.handed))) None start now tb text
@@ -219,11 +219,11 @@ is_waiting k (true ∷ handed) number waits =
     let later = is_waiting (k + 1) handed number waits in (omega (arith, later.0), omega (arith, later.1))
 
 -- sound cells of as many servers have the same hosts
-pub same_hosts : {D V : Type 0} (g : Ghosts D) (bound other : ℕ) (now later : OpenCell D V) → IsSteady g bound now
+pub same_hosts : {D V : Type 0} (g : Ghosts D) (bound other : ℕ) (now later : OpenCell D V g) → IsSteady g bound now
     → IsSteady g other later → length later.sites.items ≡ length now.sites.items → later.hosts.items ≡ now.hosts.items
 same_hosts g bound other now later sound sounds same = sounds.hosts ∙ ap hosts_of same ∙ sym sound.hosts
 
-module _ {D V : Type 0} (g : Ghosts D) (script_db : ScriptDatabase) (most n fuel : ℕ) (bounds : Bounds) (start now later : OpenCell D V)
+module _ {D V : Type 0} (g : Ghosts D) (script_db : ScriptDatabase) (most n fuel : ℕ) (bounds : Bounds) (start now later : OpenCell D V g)
     (tb text after : List ℕ) (follows : Follows g script_db most n start now tb text) (less : n ≡ suc fuel) (sound : IsSound g script_db.database bounds start)
     (number : ℕ) (waits : first_waiting 1 now.packets.handed ≡ Some number) where
   before : (given : List ℕ) (c : Cell) → IsModelledBy g script_db.database given start c → SoFar g script_db given most (suc fuel) c start now tb text
@@ -260,7 +260,7 @@ module _ {D V : Type 0} (g : Ghosts D) (script_db : ScriptDatabase) (most n fuel
       ending refl t.cell
 
 -- none waits any more
-pub all_followed : {D V : Type 0} (g : Ghosts D) (script_db : ScriptDatabase) (most fuel : ℕ) (start now : OpenCell D V)
+pub all_followed : {D V : Type 0} (g : Ghosts D) (script_db : ScriptDatabase) (most fuel : ℕ) (start now : OpenCell D V g)
     (tb text : List ℕ) → Follows g script_db most fuel start now tb text
     → most ≡ MAX_PACKETS → first_waiting 1 now.packets.handed ≡ None → (given : List ℕ) (c : Cell) → IsModelledBy g script_db.database given start c
     → CellTold g script_db given (λ choices. Ok (all_delivered script_db choices.most c choices.each (first_waiting 1 c.handed))) None start now tb text
@@ -269,7 +269,7 @@ all_followed g script_db most fuel start now tb text follows whole none given c 
     followed g script_db given most fuel c start now tb text so whole (none_left script_db fuel so.cell (ap (first_waiting 1) so.stands.handed ∙ none))
 
 -- as many were handed over as a script may send
-pub fuel_followed : {D V : Type 0} (g : Ghosts D) (script_db : ScriptDatabase) (most fuel : ℕ) (start now : OpenCell D V)
+pub fuel_followed : {D V : Type 0} (g : Ghosts D) (script_db : ScriptDatabase) (most fuel : ℕ) (start now : OpenCell D V g)
     (tb text : List ℕ) → Follows g script_db most fuel start now tb text
     → most ≡ MAX_PACKETS → fuel ≡ zero → (given : List ℕ) (c : Cell) → IsModelledBy g script_db.database given start c
     → CellTold g script_db given (λ choices. Ok (all_delivered script_db choices.most c choices.each (first_waiting 1 c.handed))) None start now tb text
@@ -289,7 +289,7 @@ last_of r next None is =
 last_of r next (Some ending) is = (refl, refl)
 
 -- The disks hold what the deliveries before it left, or what it left besides.
-pub short_there : {D V : Type 0} (g : Ghosts D) (script_db : ScriptDatabase) (most fuel : ℕ) (start now later : OpenCell D V)
+pub short_there : {D V : Type 0} (g : Ghosts D) (script_db : ScriptDatabase) (most fuel : ℕ) (start now later : OpenCell D V g)
     (tb text : List ℕ) → Follows g script_db most fuel start now tb text → (number : ℕ) → first_waiting 1 now.packets.handed ≡ Some number
     → AreRises 0 [] (helds g now) (helds g later)
     → ((given : List ℕ) (c : Cell) → IsModelledBy g script_db.database given now c

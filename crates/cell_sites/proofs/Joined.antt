@@ -132,15 +132,15 @@ found_made end is short = let never : ended.Made ≡ ended.NoMemory = sym is ∙
 pub found_halts : (end : SiteEnd) → end ≡ ended.Halts → end ≢ ended.NoMemory
 found_halts end is short = let never : ended.Halts ≡ ended.NoMemory = sym is ∙ short in cc
 
-module _ {D V : Type 0} (g : Ghosts D) (script_db : ScriptDatabase) (before mid after : OpenCell D V) (law : Laws) (k : ℕ)
+module _ {D V : Type 0} (g : Ghosts D) (script_db : ScriptDatabase) (before mid after : OpenCell D V g) (law : Laws) (k : ℕ)
     (e : NodeEvent) (end : SiteEnd) (bound : ℕ) (sound : IsSteady g bound before) (keeps : Keeps script_db.database before)
-    (brought : IsBrought (member_at before k) e) (asks : AsksOf before.calls.items e) (ss : SiteStepped g script_db.database k e end before mid) (hosts : after.hosts.items ≡ mid.hosts.items)
+    (brought : IsBrought (member_at before k) e) (asks : AsksOf before.calls e) (ss : SiteStepped g script_db.database k e end before mid) (hosts : after.hosts.items ≡ mid.hosts.items)
     (sites : after.sites.items ≡ mid.sites.items) where
   at : IsHere g bound before k ss.clock ss.node
   at = here g bound before k ss.clock ss.node sound ss.there
 
   -- the site after the step
-  abbrev pub later_site : Site D V
+  abbrev pub later_site : Site D V g
   later_site = record { clock = ss.clock; server = ss.server }
 
   all_sites : after.sites.items ≡ set before.sites.items k later_site
@@ -151,7 +151,7 @@ module _ {D V : Type 0} (g : Ghosts D) (script_db : ScriptDatabase) (before mid 
 
   pub rises : AreRises 0 [] (helds g before) (helds g after)
   rises =
-      subst (λ (l : List (Site D V)). AreRises 0 [] (helds g before) (map (held_at {V = V} g) l)) (sym all_sites)
+      subst (λ (l : List (Site D V g)). AreRises 0 [] (helds g before) (map (held_at {V = V} g) l)) (sym all_sites)
       (rises_set g [] 0 k before.sites.items (up_site ss.clock ss.node) later_site ss.there (let kept = faults in omega (arith, kept)) (λ j other. refl))
 
   pub as_many : length after.sites.items ≡ length before.sites.items
@@ -200,7 +200,7 @@ module _ {D V : Type 0} (g : Ghosts D) (script_db : ScriptDatabase) (before mid 
           → Becomes g x ss.later ss.out ss.server mid.outputs → All (IsCellPacket before.hosts.items) (filter_map packet_in mid.outputs)
       by ended.Made step becomes = of_left ss.out becomes.1 (ends step.ends)
         where
-          ends : (step.end ≡ Done) ⊎ ((step.end ≡ Halted) × (ss.node.halted ≡ true)) → All (IsCellPacket before.hosts.items) (filter_map packet_in ss.out)
+          ends : (step.end ≡ Done) ⊎ ((step.end ≡ Halted) × (ss.node.store.failed ≡ true)) → All (IsCellPacket before.hosts.items) (filter_map packet_in ss.out)
           ends (inl done) =
               made ss.out (node_of ss.node) (node_of ss.later) ss.node.store.disk ss.later.store.disk refl
               (subst (λ (x : StepEnd). Steps g script_db.database (member_at before k) x e ss.clock (node_of ss.node) (node_of ss.later) ss.out
@@ -229,36 +229,36 @@ module _ {D V : Type 0} (g : Ghosts D) (script_db : ScriptDatabase) (before mid 
       sound_after g other before after k (up_site ss.clock ss.node) later_site still ss.there refl kept.0 kept.1 all_sites (hosts ∙ ss.hosts) empty
 
   -- the server takes writes still
-  server_keeps : KeepsServer script_db.database before.hosts.items before.calls.items ss.server
+  server_keeps : KeepsServer script_db.database before.hosts.items before.calls ss.server
   server_keeps = by end ss.step ss.becomes
     where
-      as_later : KeepsServer {D = D} {V = V} script_db.database before.hosts.items before.calls.items (Up ss.later) → ss.server ≡ Up ss.later
-          → KeepsServer script_db.database before.hosts.items before.calls.items ss.server
-      as_later keeps is = as_keeps script_db.database before.hosts.items before.calls.items ss.server (Up ss.later) is keeps
+      as_later : KeepsServer {D = D} {V = V} script_db.database before.hosts.items before.calls (Up ss.later) → ss.server ≡ Up ss.later
+          → KeepsServer script_db.database before.hosts.items before.calls ss.server
+      as_later keeps is = as_keeps script_db.database before.hosts.items before.calls ss.server (Up ss.later) is keeps
 
       -- of a halted server nothing is said
-      halted_keeps : ss.later.halted ≡ true → KeepsServer {D = D} {V = V} script_db.database before.hosts.items before.calls.items (Up ss.later)
+      halted_keeps : ss.later.store.failed ≡ true → KeepsServer {D = D} {V = V} script_db.database before.hosts.items before.calls (Up ss.later)
       halted_keeps halted =
-          up_keeps script_db.database before.hosts.items before.calls.items ss.later (λ up. absurd (false≢true (sym up ∙ halted)))
+          up_keeps script_db.database before.hosts.items before.calls ss.later (λ up. absurd (false≢true (sym up ∙ halted)))
 
       made : (x : model.Node) → node_of ss.node ≡ x
           → Steps g script_db.database (member_at before k) Done e ss.clock x (node_of ss.later) ss.out ss.node.store.disk ss.later.store.disk
-          → KeepsNode script_db.database before.hosts.items before.calls.items ss.later
+          → KeepsNode script_db.database before.hosts.items before.calls ss.later
       made model.Down is steps = absurd steps
       made (model.Halted h) is steps = absurd steps
       made (model.Up s) is (short, makes) =
           let t = step_of script_db.database (member_at before k) s ss.clock e short in
           let step = step_is script_db.database before k ss.clock ss.node keeps ss.there law.spreads at.me at.moment e brought s is short in
           let same = (is_up ss.later t.server makes.server).1 in
-          let line = line_stands script_db.database before.calls.items (unanswered s) e t.shown (unanswered t.server)
+          let line = line_stands script_db.database before.calls (unanswered s) e t.shown (unanswered t.server)
           (up_line script_db.database before k ss.clock ss.node keeps ss.there s is) asks step.line in
           record {
             takes = subst (IsKeeping script_db.database (length before.hosts.items)) (sym same) step.server;
-            line = subst (λ (u : model.Server). AllStandUnder before.calls.items (unanswered u)) (sym same) line.rest;
+            line = subst (λ (u : model.Server). AllStandUnder before.calls (unanswered u)) (sym same) line.rest;
           }
 
       -- a server that stays as it is
-      rested : node_of ss.later ≡ node_of ss.node → ss.later.halted ≡ false → KeepsNode script_db.database before.hosts.items before.calls.items ss.later
+      rested : node_of ss.later ≡ node_of ss.node → ss.later.store.failed ≡ false → KeepsNode script_db.database before.hosts.items before.calls ss.later
       rested same up =
           let s = up_server ss.later in
           let is : node_of ss.later ≡ model.Up s = ap (λ (b : Bool). if b then model.Halted (model.halted_from s) else model.Up s) up in
@@ -268,13 +268,13 @@ module _ {D V : Type 0} (g : Ghosts D) (script_db : ScriptDatabase) (before mid 
           }
 
       by : (x : SiteEnd) → NodeStepped g script_db.database (member_at before k) ss.clock e x ss.node ss.later ss.out
-          → Becomes g x ss.later ss.out ss.server mid.outputs → KeepsServer script_db.database before.hosts.items before.calls.items ss.server
+          → Becomes g x ss.later ss.out ss.server mid.outputs → KeepsServer script_db.database before.hosts.items before.calls ss.server
       by ended.Made step becomes = as_later (ends step.ends) becomes.0
         where
-          ends : (step.end ≡ Done) ⊎ ((step.end ≡ Halted) × (ss.node.halted ≡ true))
-              → KeepsServer {D = D} {V = V} script_db.database before.hosts.items before.calls.items (Up ss.later)
+          ends : (step.end ≡ Done) ⊎ ((step.end ≡ Halted) × (ss.node.store.failed ≡ true))
+              → KeepsServer {D = D} {V = V} script_db.database before.hosts.items before.calls (Up ss.later)
           ends (inl done) =
-              up_keeps script_db.database before.hosts.items before.calls.items ss.later (λ up. made (node_of ss.node) refl
+              up_keeps script_db.database before.hosts.items before.calls ss.later (λ up. made (node_of ss.node) refl
               (subst (λ (x : StepEnd). Steps g script_db.database (member_at before k) x e ss.clock (node_of ss.node) (node_of ss.later) ss.out
               ss.node.store.disk ss.later.store.disk) done step.steps))
           ends (inr (halted, was)) =
@@ -286,12 +286,12 @@ module _ {D V : Type 0} (g : Ghosts D) (script_db : ScriptDatabase) (before mid 
           as_later (halted_keeps (halts g script_db.database (member_at before k) e ss.clock (node_of ss.node) ss.later ss.out ss.node.store.disk
           step.failed step.steps)) becomes.0
       by ended.Stops step becomes =
-          as_keeps script_db.database before.hosts.items before.calls.items ss.server (Down becomes.0.0) becomes.0.1
-          (down_keeps script_db.database before.hosts.items before.calls.items becomes.0.0)
+          as_keeps script_db.database before.hosts.items before.calls ss.server (Down becomes.0.0) becomes.0.1
+          (down_keeps script_db.database before.hosts.items before.calls becomes.0.0)
       by ended.NoMemory step becomes =
-          as_later (up_keeps script_db.database before.hosts.items before.calls.items ss.later (rested (came_short step.steps).same)) becomes.0
+          as_later (up_keeps script_db.database before.hosts.items before.calls ss.later (rested (came_short step.steps).same)) becomes.0
 
-  pub keeps_still : after.packets ≡ sent_all mid.packets (filter_map packet_in mid.outputs) → after.calls.items ≡ mid.calls.items
+  pub keeps_still : after.packets ≡ sent_all mid.packets (filter_map packet_in mid.outputs) → after.calls ≡ mid.calls
       → Keeps script_db.database after
   keeps_still packets calls =
       keeps_set script_db.database before after keeps (hosts ∙ ss.hosts) k later_site (filter_map packet_in mid.outputs) all_sites (calls ∙ ss.calls)
@@ -342,7 +342,7 @@ module _ {D V : Type 0} (g : Ghosts D) (script_db : ScriptDatabase) (before mid 
     holds_still : IsReadBy site.s (held g (server_disk ss.server)) → g.steps (server_disk ss.server) ≡ g.steps ss.node.store.disk
         → HoldRun script_db.database given false c (helds g after)
     holds_still is same =
-        subst (λ (l : List (Site D V)). HoldRun script_db.database given false c (map (held_at {V = V} g) l)) (sym all_sites)
+        subst (λ (l : List (Site D V g)). HoldRun script_db.database given false c (map (held_at {V = V} g) l)) (sym all_sites)
         (hold_still script_db.database c given (helds g before) (map (held_at {V = V} g) (set before.sites.items k later_site))
         (reads_set g c.run.world.sites before.sites.items k site.s later_site stands.disks.read site.there is)
         (moved_set g (λ j x y. y.steps ≡ x.steps) 0 k before.sites.items (up_site ss.clock ss.node) later_site ss.there same (λ j x other. refl)) stands.disks)
@@ -350,13 +350,13 @@ module _ {D V : Type 0} (g : Ghosts D) (script_db : ScriptDatabase) (before mid 
     comes : (H : List Bool → Type 0) → H [] → Picks H → Comes H
     comes H none picks = by end ss.step ss.becomes refl
       where
-        as_made : (x : SiteEnd) (server : Server D V) (left : List Output) → end ≡ x → ss.server ≡ server → mid.outputs ≡ left
+        as_made : (x : SiteEnd) (server : Server D V g) (left : List Output) → end ≡ x → ss.server ≡ server → mid.outputs ≡ left
             → StepMade g script_db c before k trigger H (end_marks k x) (up_site ss.clock ss.node) (record { clock = ss.clock; server = server }) left
             → Comes H
         as_made x server left is same outputs m =
             made (subst (λ (y : SiteEnd). StepMade g script_db c before k trigger H (end_marks k y) (up_site ss.clock ss.node) later_site mid.outputs)
             (sym is)
-            (subst (λ (y : Server D V). StepMade g script_db c before k trigger H (end_marks k x) (up_site ss.clock ss.node)
+            (subst (λ (y : Server D V g). StepMade g script_db c before k trigger H (end_marks k x) (up_site ss.clock ss.node)
             (record { clock = ss.clock; server = y }) mid.outputs) (sym same)
             (subst (λ (y : List Output). StepMade g script_db c before k trigger H (end_marks k x) (up_site ss.clock ss.node)
             (record { clock = ss.clock; server = server }) y) (sym outputs) m)))
@@ -371,7 +371,7 @@ module _ {D V : Type 0} (g : Ghosts D) (script_db : ScriptDatabase) (before mid 
             → Becomes g x ss.later ss.out ss.server mid.outputs → end ≡ x → Comes H
         by ended.Made step becomes is = ends step.ends
           where
-            ends : (step.end ≡ Done) ⊎ ((step.end ≡ Halted) × (ss.node.halted ≡ true)) → Comes H
+            ends : (step.end ≡ Done) ⊎ ((step.end ≡ Halted) × (ss.node.store.failed ≡ true)) → Comes H
             ends (inl done) =
                 let d = done_by g script_db given before c stands law k e trigger o site.s site.there ss.clock ss.node ss.there site.is.clock site.is.node
                 at.me at.moment keeps brought asks H none at.sound at.disk read ss.later ss.out ss.node.store.disk ss.later.store.disk
@@ -399,9 +399,9 @@ module _ {D V : Type 0} (g : Ghosts D) (script_db : ScriptDatabase) (before mid 
             let reads = (came_short step.steps).reads in
             let same = reads.files (λ never. never) in
             rests is (holds_still
-            (subst (λ (y : Server D V). IsReadBy site.s (held g (server_disk y))) (sym becomes.0)
+            (subst (λ (y : Server D V g). IsReadBy site.s (held g (server_disk y))) (sym becomes.0)
             (subst (λ (f : Option Files). IsSomeAnd f (StandsAs site.s.durable)) (sym same) read))
-            (ap (λ (y : Server D V). g.steps (server_disk y)) becomes.0 ∙ reads.steps))
+            (ap (λ (y : Server D V g). g.steps (server_disk y)) becomes.0 ∙ reads.steps))
 
     -- ---- what the step comes to
 
@@ -411,7 +411,7 @@ module _ {D V : Type 0} (g : Ghosts D) (script_db : ScriptDatabase) (before mid 
 
     hold_made : (H : List Bool → Type 0) (m : made_here H) → HoldRun script_db.database given false (cell_made H m) (helds g after)
     hold_made H m =
-        subst (λ (l : List (Site D V)). HoldRun script_db.database given false (cell_made H m) (map (held_at {V = V} g) l)) (sym all_sites)
+        subst (λ (l : List (Site D V g)). HoldRun script_db.database given false (cell_made H m) (map (held_at {V = V} g) l)) (sym all_sites)
         (hold_more script_db.database c (cell_made H m) given m.ev (record
         { opening = refl; events = refl; world = ap (λ (h : Happened). h.world) (sym m.happens_so) }) (helds g before)
         (map (held_at {V = V} g) (set before.sites.items k later_site)) stands.disks
@@ -454,12 +454,12 @@ module _ {D V : Type 0} (g : Ghosts D) (script_db : ScriptDatabase) (before mid 
         (sends ∙ ap (λ (t : Traffic). sent_all t (filter_map packet_in mid.outputs)) ss.packets
         ∙ ap (λ (l : List Packet). sent_all before.packets l) (ap (λ (l : List Output). filter_map packet_in l) (sym m.outputs) ∙ packets_in m.h.shown))
         m.stood
-        (subst (λ (l : List (Site D V)). AreArmed g l m.armed) (sym all_sites) m.arms)
+        (subst (λ (l : List (Site D V g)). AreArmed g l m.armed) (sym all_sites) m.arms)
         (hold_made Heard m)
 
     -- the outputs told are those of the model
     pub told_line : (halts : Bool) → Tells_halt k end halts → (text_before text_after : List ℕ)
-        → ((shown : List Shown) → outputs_of shown ≡ mid.outputs → All (AnswersOf before.calls.items) shown
+        → ((shown : List Shown) → outputs_of shown ≡ mid.outputs → All (AnswersOf before.calls) shown
         → WholeTold script_db mid.hosts.items k halts (record { text = text_before; sent = mid.packets.sent }) shown text_after after.packets.sent)
         → end ≢ ended.NoMemory → All IsNotShort mid.outputs → after.packets ≡ sent_all mid.packets (filter_map packet_in mid.outputs)
         → CellTold g script_db given steps_so None before after text_before text_after
@@ -509,7 +509,7 @@ module _ {D V : Type 0} (g : Ghosts D) (script_db : ScriptDatabase) (before mid 
 
     -- a packet passed a limit
     pub limit_line : (ending : Ending) (text_before text_after : List ℕ)
-        → ((shown : List Shown) → outputs_of shown ≡ mid.outputs → All (AnswersOf before.calls.items) shown
+        → ((shown : List Shown) → outputs_of shown ≡ mid.outputs → All (AnswersOf before.calls) shown
         → told_of script_db mid.hosts.items k (record { text = text_before; sent = mid.packets.sent }) shown ≡ record
         { after = record { text = text_after; sent = after.packets.sent }; ending = Some ending })
         → end ≢ ended.NoMemory → All IsNotShort mid.outputs

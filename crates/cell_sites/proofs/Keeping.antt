@@ -1,5 +1,6 @@
 -- Servers that take writes, and packets of the cell: that it stays so.
 use Rattle.std.proofs.Common.{if◌then◌else◌, ◌≡◌, ◌⊎◌, inl, inr, ◌++◌, ℕ, zero, suc, Bool, true, false, Some, List, [], ◌∷◌, length, map, set, refl, sym, ap, subst, ◌∙◌}
+use Rattle.disk_base.specs.declared.disks.Disk.{Ghosts}
 use Rattle.std.specs.Prelude.{All, slice_get}
 use Rattle.std.proofs.lemmas.Bool.{false≢true}
 use Rattle.std.proofs.lemmas.List.Elements.{All-append, All-nil}
@@ -43,22 +44,22 @@ got_map f (z ∷ xs) (suc j) x is = got_map f xs j x is
 
 -- ---- servers
 
-module _ {D V : Type 0} (db : Database) (hosts : List Host) (calls : List (List ℕ)) where
+module _ {D V : Type 0} {g : Ghosts D} (db : Database) (hosts : List Host) (calls : List (List ℕ)) where
   -- one that is down
-  pub down_keeps : (disk : D) → KeepsServer {D = D} {V = V} db hosts calls (Down disk)
+  pub down_keeps : (disk : D) → KeepsServer {D = D} {V = V} {g = g} db hosts calls (Down disk)
   down_keeps disk node is up = let never : Down disk ≡ Up node = is in absurd cc
 
   -- one that is up
-  pub up_keeps : (later : Node D V) → (later.halted ≡ false → KeepsNode db hosts calls later) → KeepsServer db hosts calls (Up later)
+  pub up_keeps : (later : Node D V g) → (later.store.failed ≡ false → KeepsNode db hosts calls later) → KeepsServer db hosts calls (Up later)
   up_keeps later keeps node is up =
       let same : later ≡ node = cc in
-      subst (KeepsNode db hosts calls) same (keeps (ap (λ (n : Node D V). n.halted) same ∙ up))
+      subst (KeepsNode db hosts calls) same (keeps (ap (λ (n : Node D V g). n.store.failed) same ∙ up))
 
-  pub as_keeps : (s t : Server D V) → s ≡ t → KeepsServer db hosts calls t → KeepsServer db hosts calls s
+  pub as_keeps : (s t : Server D V g) → s ≡ t → KeepsServer db hosts calls t → KeepsServer db hosts calls s
   as_keeps s t is keeps = subst (KeepsServer db hosts calls) (sym is) keeps
 
   -- one with the same state
-  pub same_keeps : (node later : Node D V) → KeepsServer db hosts calls (Up node) → up_server later ≡ up_server node → later.halted ≡ node.halted
+  pub same_keeps : (node later : Node D V g) → KeepsServer db hosts calls (Up node) → up_server later ≡ up_server node → later.store.failed ≡ node.store.failed
       → KeepsServer db hosts calls (Up later)
   same_keeps node later keeps same halted =
       up_keeps later (λ up.
@@ -69,7 +70,7 @@ module _ {D V : Type 0} (db : Database) (hosts : List Host) (calls : List (List 
       })
 
   -- one that was just opened, or stays down
-  pub opened_keeps : WritesSpread → (d : Durable) (clock : ℕ) → IsVersion d.version → (s : Server D V)
+  pub opened_keeps : WritesSpread → (d : Durable) (clock : ℕ) → IsVersion d.version → (s : Server D V g)
       → server_node s ≡ model.Up (model.opened_server (length hosts) d clock) → KeepsServer db hosts calls s
   opened_keeps law d clock version (Down disk) is = down_keeps disk
   opened_keeps law d clock version (Up later) is =
@@ -80,9 +81,9 @@ module _ {D V : Type 0} (db : Database) (hosts : List Host) (calls : List (List 
         line = subst (λ (s : model.Server). AllStandUnder calls (unanswered s)) (sym same) tt;
       })
 
-  pub closed_keeps : (s : Server D V) → server_node s ≡ model.Down → KeepsServer db hosts calls s
+  pub closed_keeps : (s : Server D V g) → server_node s ≡ model.Down → KeepsServer db hosts calls s
   closed_keeps (Down disk) is = down_keeps disk
-  closed_keeps (Up later) is = up_keeps later (λ up. absurd (by later.halted is))
+  closed_keeps (Up later) is = up_keeps later (λ up. absurd (by later.store.failed is))
     where
       by : (h : Bool) → (if h then model.Halted (model.halted_from (up_server later)) else model.Up (up_server later)) ≡ model.Down → ⊥
       by true is = cc
@@ -90,7 +91,7 @@ module _ {D V : Type 0} (db : Database) (hosts : List Host) (calls : List (List 
 
 -- ---- cells
 
-module _ {D V : Type 0} (db : Database) (before after : OpenCell D V) (keeps : Keeps db before) (hosts : after.hosts.items ≡ before.hosts.items) where
+module _ {D V : Type 0} {g : Ghosts D} (db : Database) (before after : OpenCell D V g) (keeps : Keeps db before) (hosts : after.hosts.items ≡ before.hosts.items) where
   packets_on : (new : List Packet) → after.packets ≡ sent_all before.packets new → All (IsCellPacket before.hosts.items) new
       → All (IsCellPacket after.hosts.items) after.packets.sent
   packets_on new sent all =
@@ -98,37 +99,37 @@ module _ {D V : Type 0} (db : Database) (before after : OpenCell D V) (keeps : K
       (subst (λ (t : Traffic). All (IsCellPacket before.hosts.items) t.sent) (sym sent)
       (All-append (IsCellPacket before.hosts.items) before.packets.sent new keeps.packets all))
 
-  as_here : (calls : after.calls.items ≡ before.calls.items) (s : Server D V) → KeepsServer db before.hosts.items before.calls.items s
-      → KeepsServer db after.hosts.items after.calls.items s
+  as_here : (calls : after.calls ≡ before.calls) (s : Server D V g) → KeepsServer db before.hosts.items before.calls s
+      → KeepsServer db after.hosts.items after.calls s
   as_here calls s is =
       subst (λ (l : List (List ℕ)). KeepsServer db after.hosts.items l s) (sym calls)
-      (subst (λ (h : List Host). KeepsServer db h before.calls.items s) (sym hosts) is)
+      (subst (λ (h : List Host). KeepsServer db h before.calls s) (sym hosts) is)
 
   -- another server takes the place of one
-  pub keeps_set : (k : ℕ) (later : Site D V) (new : List Packet) → after.sites.items ≡ set before.sites.items k later
-      → after.calls.items ≡ before.calls.items → after.packets ≡ sent_all before.packets new
-      → KeepsServer db before.hosts.items before.calls.items later.server → All (IsCellPacket before.hosts.items) new → Keeps db after
+  pub keeps_set : (k : ℕ) (later : Site D V g) (new : List Packet) → after.sites.items ≡ set before.sites.items k later
+      → after.calls ≡ before.calls → after.packets ≡ sent_all before.packets new
+      → KeepsServer db before.hosts.items before.calls later.server → All (IsCellPacket before.hosts.items) new → Keeps db after
   keeps_set k later new sites calls sent server all =
       record {
         servers = λ j site there. as_here calls site.server
-            (by j site (got_set before.sites.items k later j site (subst (λ (l : List (Site D V)). slice_get l j ≡ Some site) sites there)));
+            (by j site (got_set before.sites.items k later j site (subst (λ (l : List (Site D V g)). slice_get l j ≡ Some site) sites there)));
         packets = packets_on new sent all;
       }
     where
-      by : (j : ℕ) (site : Site D V) → (site ≡ later) ⊎ (slice_get before.sites.items j ≡ Some site)
-          → KeepsServer db before.hosts.items before.calls.items site.server
-      by j site (inl same) = subst (λ (s : Site D V). KeepsServer db before.hosts.items before.calls.items s.server) (sym same) server
+      by : (j : ℕ) (site : Site D V g) → (site ≡ later) ⊎ (slice_get before.sites.items j ≡ Some site)
+          → KeepsServer db before.hosts.items before.calls site.server
+      by j site (inl same) = subst (λ (s : Site D V g). KeepsServer db before.hosts.items before.calls s.server) (sym same) server
       by j site (inr there) = keeps.servers j site there
 
   -- each server stays as it is
-  pub keeps_map : (f : Site D V → Site D V) → ((site : Site D V) → (f site).server ≡ site.server) → after.sites.items ≡ map f before.sites.items
-      → after.calls.items ≡ before.calls.items → after.packets ≡ before.packets → Keeps db after
+  pub keeps_map : (f : Site D V g → Site D V g) → ((site : Site D V g) → (f site).server ≡ site.server) → after.sites.items ≡ map f before.sites.items
+      → after.calls ≡ before.calls → after.packets ≡ before.packets → Keeps db after
   keeps_map f same sites calls packets =
       record {
         servers = λ j site there.
-            let was = got_map f before.sites.items j site (subst (λ (l : List (Site D V)). slice_get l j ≡ Some site) sites there) in
+            let was = got_map f before.sites.items j site (subst (λ (l : List (Site D V g)). slice_get l j ≡ Some site) sites there) in
             as_here calls site.server
-            (subst (KeepsServer db before.hosts.items before.calls.items) (sym (ap (λ (s : Site D V). s.server) was.2 ∙ same was.0))
+            (subst (KeepsServer db before.hosts.items before.calls) (sym (ap (λ (s : Site D V g). s.server) was.2 ∙ same was.0))
             (keeps.servers j was.0 was.1));
         packets =
             subst (λ (h : List Host). All (IsCellPacket h) after.packets.sent) (sym hosts)
@@ -136,16 +137,16 @@ module _ {D V : Type 0} (db : Database) (before after : OpenCell D V) (keeps : K
       }
 
   -- one more call was kept
-  pub keeps_call : (call : List ℕ) → after.sites.items ≡ before.sites.items → after.calls.items ≡ before.calls.items ++ call ∷ []
+  pub keeps_call : (call : List ℕ) → after.sites.items ≡ before.sites.items → after.calls ≡ before.calls ++ call ∷ []
       → after.packets ≡ before.packets → Keeps db after
   keeps_call call sites calls packets =
       record {
         servers = λ j site there node is up.
-            let was = keeps.servers j site (subst (λ (l : List (Site D V)). slice_get l j ≡ Some site) sites there) node is up in
+            let was = keeps.servers j site (subst (λ (l : List (Site D V g)). slice_get l j ≡ Some site) sites there) node is up in
             record {
               takes = subst (λ (h : List Host). IsKeeping db (length h) (up_server node)) (sym hosts) was.takes;
               line = subst (λ (l : List (List ℕ)). AllStandUnder l (unanswered (up_server node))) (sym calls)
-                  (all_stand_on before.calls.items call (unanswered (up_server node)) was.line);
+                  (all_stand_on before.calls call (unanswered (up_server node)) was.line);
             };
         packets =
             subst (λ (h : List Host). All (IsCellPacket h) after.packets.sent) (sym hosts)

@@ -75,7 +75,7 @@ needs_told (body.PieceKept poll version next) tells told = told
 needs_told (body.Commit old new) tells told = told
 
 -- what a step needs
-pub needs_met : {D V : Type 0} (g : Ghosts D) (db : Database) (m : Member) (node : Node D V) (disk : IsSoundDisk g node.store.disk) (e : NodeEvent) (now : ℕ)
+pub needs_met : {D V : Type 0} (g : Ghosts D) (db : Database) (m : Member) (node : Node D V g) (disk : IsSoundDisk g node.store.disk) (e : NodeEvent) (now : ℕ)
     → Needs db m (node_of node) e now (g.files node.store.disk)
 needs_met g db m node disk e now = by (node_of node) e
   where
@@ -88,7 +88,7 @@ needs_met g db m node disk e now = by (node_of node) e
     by (model.Up s) (event.Ask id call) = λ evaluated. disk.told
 
 -- where the images of the server stand for states of the database, so do those of the node
-pub holds_met : {D V : Type 0} (standing : Standing) (node : Node D V)
+pub holds_met : {D V : Type 0} {g : Ghosts D} (standing : Standing) (node : Node D V g)
     → ((s : model.Server) → node_of node ≡ model.Up s → IsMeantImage standing s.image × IsMeantImage standing (announced_image s))
     → HoldsStates standing (node_of node)
 holds_met standing node meant = by (node_of node) refl
@@ -100,7 +100,7 @@ holds_met standing node meant = by (node_of node) refl
 
 -- ---- a step
 
-module _ {D V : Type 0} (db : Database) (running : OpenCell D V) (k clock : ℕ) (node : Node D V) (keeps : Keeps db running)
+module _ {D V : Type 0} {g : Ghosts D} (db : Database) (running : OpenCell D V g) (k clock : ℕ) (node : Node D V g) (keeps : Keeps db running)
     (there : slice_get running.sites.items k ≡ Some (up_site clock node)) where
   -- the server that is up takes writes
   pub up_keeping : (s : model.Server) → node_of node ≡ model.Up s → IsKeeping db (length running.hosts.items) s
@@ -109,10 +109,10 @@ module _ {D V : Type 0} (db : Database) (running : OpenCell D V) (k clock : ℕ)
       subst (IsKeeping db (length running.hosts.items)) was.1 (keeps.servers k (up_site clock node) there node refl was.0).takes
 
   -- and the calls that it has not answered are calls of the cell
-  pub up_line : (s : model.Server) → node_of node ≡ model.Up s → AllStandUnder running.calls.items (unanswered s)
+  pub up_line : (s : model.Server) → node_of node ≡ model.Up s → AllStandUnder running.calls (unanswered s)
   up_line s up =
       let was = is_up node s up in
-      subst (λ (u : model.Server). AllStandUnder running.calls.items (unanswered u)) was.1
+      subst (λ (u : model.Server). AllStandUnder running.calls (unanswered u)) was.1
       (keeps.servers k (up_site clock node) there node refl was.0).line
 
   pub step_is : WritesSpread → k < length running.hosts.items → IsMoment clock → (e : NodeEvent) → IsBrought (member_at running k) e

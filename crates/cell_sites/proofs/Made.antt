@@ -83,8 +83,8 @@ laws_of spreads memory = record { spreads = spreads; memory = memory }
 
 -- The event of the world that a step is, with the choices that bring it, and what it makes of the disk. `H` is said of the replies for want
 -- of memory in it, where the disk serves it.
-pub record StepMade {D V : Type 0} (g : Ghosts D) (script_db : ScriptDatabase) (c : Cell) (running : OpenCell D V) (k : ℕ) (trigger : Trigger)
-    (H : List Bool → Type 0) (marks : List Happening) (before after : Site D V) (out : List Output) : Type 0 where
+pub record StepMade {D V : Type 0} (g : Ghosts D) (script_db : ScriptDatabase) (c : Cell) (running : OpenCell D V g) (k : ℕ) (trigger : Trigger)
+    (H : List Bool → Type 0) (marks : List Happening) (before after : Site D V g) (out : List Output) : Type 0 where
   pub ev : Event
   pub h : SiteHappened
   pub choices : List Choice
@@ -93,7 +93,7 @@ pub record StepMade {D V : Type 0} (g : Ghosts D) (script_db : ScriptDatabase) (
   pub is : stepped script_db c (choice_of choices) trigger ≡ happened (with_armed c armed) ev (happened_at c.run.world k h)
   pub happens_so : happens script_db.database c.run.world ev ≡ happened_at c.run.world k h
   pub outputs : outputs_of h.shown ≡ out
-  pub answers : All (AnswersOf running.calls.items) h.shown
+  pub answers : All (AnswersOf running.calls) h.shown
   pub sends : All (IsCellPacket running.hosts.items) (packets_of h.shown)
   pub stood : IsSiteOf after h.site
   pub marked : h.marks ≡ marks
@@ -119,12 +119,12 @@ refusals_rest event.BeaconTurn hosts = All-nil _
 refusals_rest event.RecoverTurn hosts = All-nil _
 refusals_rest (event.Ask id call) hosts = All-nil _
 
-module _ {D V : Type 0} (g : Ghosts D) (script_db : ScriptDatabase) (given : List ℕ) (before : OpenCell D V) (c : Cell)
+module _ {D V : Type 0} (g : Ghosts D) (script_db : ScriptDatabase) (given : List ℕ) (before : OpenCell D V g) (c : Cell)
     (stands : IsModelledBy g script_db.database given before c) (law : Laws) (k : ℕ) (e : NodeEvent) (trigger : Trigger)
     (o : occasion c.run.world trigger ≡ Some (k, e)) (site : ModelSite) (there : slice_get c.run.world.sites k ≡ Some site) (clock : ℕ)
-    (node : Node D V) (placed : slice_get before.sites.items k ≡ Some (up_site clock node)) (clocks : site.clock ≡ clock) (stood : site.node ≡ node_of node)
+    (node : Node D V g) (placed : slice_get before.sites.items k ≡ Some (up_site clock node)) (clocks : site.clock ≡ clock) (stood : site.node ≡ node_of node)
     (me : k < length before.hosts.items) (moment : IsMoment clock) (keeps : Keeps script_db.database before) (brought : IsBrought (member_at before k) e)
-    (asks : AsksOf before.calls.items e) (H : List Bool → Type 0) (none : H [])
+    (asks : AsksOf before.calls e) (H : List Bool → Type 0) (none : H [])
     (was : IsSoundNode g (member_at before k) clock node) (disk : IsSoundDisk g node.store.disk) (read : IsReadBy site (held g node.store.disk)) where
   -- the server in its cell, as the model has it
   same_member : member c.run.world k ≡ member_at before k
@@ -176,13 +176,13 @@ module _ {D V : Type 0} (g : Ghosts D) (script_db : ScriptDatabase) (given : Lis
   entries_none s up short j other = entries_are s up short j ∙ calls_other j k s.version (model_of s short).calls other
 
   -- a server that was up, and the step that it made
-  pub record DoneBy (later : Node D V) (out : List Output) (b a : D) : Type 0 where
+  pub record DoneBy (later : Node D V g) (out : List Output) (b a : D) : Type 0 where
     pub s : model.Server
     pub short : List Bool
     pub up : node_of node ≡ model.Up s
     pub makes : Makes (made_of s short) (node_of later) out (Serves g (durable_in s) b a)
 
-  pub done_by : (later : Node D V) (out : List Output) (b a : D)
+  pub done_by : (later : Node D V g) (out : List Output) (b a : D)
       → Steps g script_db.database (member_at before k) Done e clock (node_of node) (node_of later) out b a → DoneBy later out b a
   done_by later out b a steps = by (node_of node) refl steps
     where
@@ -193,7 +193,7 @@ module _ {D V : Type 0} (g : Ghosts D) (script_db : ScriptDatabase) (given : Lis
 
   -- ---- a step that the disk served: it is also the one with these replies for want of memory
 
-  module _ (later : Node D V) (out : List Output) (done : DoneBy later out node.store.disk later.store.disk) (short : List Bool) (holds : H short)
+  module _ (later : Node D V g) (out : List Output) (done : DoneBy later out node.store.disk later.store.disk) (short : List Bool) (holds : H short)
       (same : made_of done.s done.short ≡ made_of done.s short) (calls : Calls g node later Done)
       (sound_later : StaysSound g (member_at before k) clock later) where
     abbrev t : Stepped
@@ -219,14 +219,14 @@ module _ {D V : Type 0} (g : Ghosts D) (script_db : ScriptDatabase) (given : Lis
     runs : IsStopped (after_changes (calls_on_all done.s.version t.calls) (g.stop node.store.disk)) → ⊥
     runs stopped = by (calls.1.stopped (subst IsStopped (sym stop_is) stopped))
       where
-        by : IsStopped (g.stop node.store.disk) ⊎ ((Done ≡ Halted) × (node.halted ≡ false)) → ⊥
+        by : IsStopped (g.stop node.store.disk) ⊎ ((Done ≡ Halted) × (node.store.failed ≡ false)) → ⊥
         by (inl before_it) = (files done.s done.up).runs before_it
         by (inr never) = let is : Done ≡ Halted = never.0 in cc
 
     -- what it shows answers calls of the cell
-    answered : All (AnswersOf before.calls.items) (made_of done.s short).shown
+    answered : All (AnswersOf before.calls) (made_of done.s short).shown
     answered =
-        (line_stands script_db.database before.calls.items (unanswered done.s) e (made_of done.s short).shown (unanswered (made_of done.s short).server)
+        (line_stands script_db.database before.calls (unanswered done.s) e (made_of done.s short).shown (unanswered (made_of done.s short).server)
         (up_line script_db.database before k clock node keeps placed done.s done.up) asks (step_so done.s done.up short).line).answers
 
     pub made_whole : StepMade g script_db c before k trigger H [] (up_site clock node) (up_site clock later) out
@@ -248,7 +248,7 @@ module _ {D V : Type 0} (g : Ghosts D) (script_db : ScriptDatabase) (given : Lis
               ∙ ap (happened (with_armed c (set c.armed k (counted_on n armed))) (Step trigger short)) happened_so;
           happens_so = happened_so;
           outputs = sym (done.makes.outputs ∙ ap (λ (x : Stepped). outputs_of x.shown) t_is);
-          answers = subst (λ (x : Stepped). All (AnswersOf before.calls.items) x.shown) (sym (model_step s short)) answered;
+          answers = subst (λ (x : Stepped). All (AnswersOf before.calls) x.shown) (sym (model_step s short)) answered;
           sends = subst (λ (x : Stepped). All (IsCellPacket before.hosts.items) (packets_of x.shown)) (sym (model_step s short))
               (step_so s done.up short).packets;
           stood = record { clock = clocks; node = sym later_up };
@@ -267,7 +267,7 @@ module _ {D V : Type 0} (g : Ghosts D) (script_db : ScriptDatabase) (given : Lis
 
   -- ---- a step of a server that was halted
 
-  pub made_rested : (later : Node D V) (out : List Output) → node.halted ≡ true
+  pub made_rested : (later : Node D V g) (out : List Output) → node.store.failed ≡ true
       → Steps g script_db.database (member_at before k) Halted e clock (node_of node) (node_of later) out node.store.disk later.store.disk
       → StepMade g script_db c before k trigger H [] (up_site clock node) (up_site clock later) out
   made_rested later out halts steps =
@@ -286,7 +286,7 @@ module _ {D V : Type 0} (g : Ghosts D) (script_db : ScriptDatabase) (given : Lis
         is = stepped_halted script_db c trigger k e site o there h (stood ∙ halted) ∙ ap (happened (with_armed c armed) (Step trigger [])) happened_so;
         happens_so = happened_so;
         outputs = sym is.1;
-        answers = refusals_answer e before.calls.items;
+        answers = refusals_answer e before.calls;
         sends = refusals_rest e before.hosts.items;
         stood = record { clock = clocks; node = stood ∙ halted ∙ sym is.0 };
         marked = refl;
@@ -299,7 +299,7 @@ module _ {D V : Type 0} (g : Ghosts D) (script_db : ScriptDatabase) (given : Lis
 
   -- ---- a step in which the disk failed
 
-  module _ (out : List Output) (failed later : D) (up : node.halted ≡ false) (after : model.Node)
+  module _ (out : List Output) (failed later : D) (up : node.store.failed ≡ false) (after : model.Node)
       (steps : Steps g script_db.database (member_at before k) Halted e clock (node_of node) after out node.store.disk failed)
       (revived : IsRevived g failed later) (told : IsSome (g.files later)) where
     abbrev pub s : model.Server
@@ -338,7 +338,7 @@ module _ {D V : Type 0} (g : Ghosts D) (script_db : ScriptDatabase) (given : Lis
     cut_none j other = none_cut (calls_of j (happens script_db.database c.run.world (Step trigger unheard)).entries) made (entries_none s is_up_here unheard j other)
 
     -- without a stop: the server is halted
-    pub made_fault : (halted : Node D V) → halted.store.disk ≡ later → node_of halted ≡ after
+    pub made_fault : (halted : Node D V g) → halted.store.disk ≡ later → node_of halted ≡ after
         → StepMade g script_db c before k trigger H (end_marks k ended.Halts) (up_site clock node) (up_site clock halted) out
     made_fault halted place node_is =
         let happened_so = fault_happens script_db.database c.run.world trigger k e site o there unheard s made (stood ∙ is_up_here) in
@@ -352,7 +352,7 @@ module _ {D V : Type 0} (g : Ghosts D) (script_db : ScriptDatabase) (given : Lis
               ∙ ap (happened c (Fault trigger unheard made)) happened_so;
           happens_so = happened_so;
           outputs = sym is_so.1;
-          answers = refusals_answer e before.calls.items;
+          answers = refusals_answer e before.calls;
           sends = refusals_rest e before.hosts.items;
           stood = record { clock = clocks; node = sym (node_is ∙ is_so.0) };
           marked = refl;
@@ -364,7 +364,7 @@ module _ {D V : Type 0} (g : Ghosts D) (script_db : ScriptDatabase) (given : Lis
         }
 
     -- with a stop: it is down, and shows nothing
-    pub made_stop : (calls : (most : ℕ) × CallsAtMost g most node.store.disk failed ((Halted ≡ Halted) × (node.halted ≡ false))) → IsStopped (g.stop failed)
+    pub made_stop : (calls : (most : ℕ) × CallsAtMost g most node.store.disk failed ((Halted ≡ Halted) × (node.store.failed ≡ false))) → IsStopped (g.stop failed)
         → StepMade g script_db c before k trigger H (end_marks k ended.Stops) (up_site clock node) (record { clock = clock; server = Down later }) []
     made_stop calls stopped =
         let happened_so = stop_happens script_db.database c.run.world trigger k e site o there unheard s made (stood ∙ is_up_here) in

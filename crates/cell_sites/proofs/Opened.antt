@@ -57,7 +57,7 @@ length_snoc [] x = refl
 length_snoc (y ∷ xs) x = let rest = length_snoc xs x in omega (arith, rest)
 
 -- as many servers were opened as it was told of
-pub opened_length : {D V : Type 0} (sites : List (Site D V)) (n clock : ℕ) (failed : List Bool) → AreSitesOf sites (map (first_site n clock) failed)
+pub opened_length : {D V : Type 0} {g : Ghosts D} (sites : List (Site D V g)) (n clock : ℕ) (failed : List Bool) → AreSitesOf sites (map (first_site n clock) failed)
     → length sites ≡ length failed
 opened_length sites n clock failed are =
     sym (sites_length sites (map (first_site n clock) failed) are) ∙ length-map failed (first_site n clock)
@@ -83,7 +83,7 @@ fresh_told g disk empty = told_at (g.files disk) no_files (StandsAs no_database)
 -- ---- one server
 
 -- it was opened on no database, or stays down and tells so
-pub record OneOpened {D V : Type 0} (g : Ghosts D) (db : ScriptDatabase) (hosts : List Host) (me clock : ℕ) (disk : D) (s : Server D V)
+pub record OneOpened {D V : Type 0} (g : Ghosts D) (db : ScriptDatabase) (hosts : List Host) (me clock : ℕ) (disk : D) (s : Server D V g)
     (text_before text_after : List ℕ) : Type 0 where
   pub fails : Bool
   pub node : server_node s ≡ (first_site (length hosts) clock fails).node
@@ -109,12 +109,12 @@ never_down : (halted : Bool) (h : model.HaltedServer) (u : model.Server) → (if
 never_down true h u same = let never : model.Halted h ≡ model.Down = same in cc
 never_down false h u same = let never : model.Up u ≡ model.Down = same in cc
 
-down_is : {D V : Type 0} (g : Ghosts D) (hosts : List Host) (me clock : ℕ) (s : Server D V) → server_node s ≡ model.Down
+down_is : {D V : Type 0} (g : Ghosts D) (hosts : List Host) (me clock : ℕ) (s : Server D V g) → server_node s ≡ model.Down
     → IsSoundServer g (record { hosts = hosts; me = me }) clock s
 down_is g hosts me clock (server.Down disk) is = tt
-down_is g hosts me clock (server.Up n) is = absurd (never_down n.halted (model.halted_from (up_server n)) (up_server n) is)
+down_is g hosts me clock (server.Up n) is = absurd (never_down n.store.failed (model.halted_from (up_server n)) (up_server n) is)
 
-module _ {D V : Type 0} (g : Ghosts D) (db : ScriptDatabase) (hosts : List Host) (me clock : ℕ) (disk : D) (s : Server D V) (text_before text_after : List ℕ)
+module _ {D V : Type 0} (g : Ghosts D) (db : ScriptDatabase) (hosts : List Host) (me clock : ℕ) (disk : D) (s : Server D V g) (text_before text_after : List ℕ)
     (empty : g.files disk ≡ Some no_files) (unarmed : g.stop disk ≡ Unarmed) where
   pub one_opened : (end : OpenEnd) → ServerOpens g (record { hosts = hosts; me = me }) clock no_database end disk s
       → end ≢ opened.NoMemory
@@ -152,7 +152,7 @@ rises_short : (failed : Bool) (rise : ℕ) → OpensFirst failed rise → OpensF
 rises_short true rise opens = opens
 rises_short false rise opens = let is = opens.2 in (opens.0, opens.1, omega (arith, is))
 
-pub one_emptied : {D V : Type 0} (g : Ghosts D) (hosts : List Host) (me clock : ℕ) (disk : D) (s : Server D V) (end : OpenEnd)
+pub one_emptied : {D V : Type 0} (g : Ghosts D) (hosts : List Host) (me clock : ℕ) (disk : D) (s : Server D V g) (end : OpenEnd)
     → g.files disk ≡ Some no_files
     → ServerOpens g (record { hosts = hosts; me = me }) clock no_database end disk s → IsEmptied g disk (server_disk s)
 one_emptied g hosts me clock disk s end empty one = record {
@@ -181,18 +181,18 @@ counts_push (f ∷ failed) [] disks fails before disk are is = absurd are
 counts_push (f ∷ failed) (b ∷ given) [] fails before disk are is = absurd are
 counts_push (f ∷ failed) (b ∷ given) (x ∷ disks) fails before disk are is = (are.0, counts_push failed given disks fails before disk are.1 is)
 
-unarmed_push : {D V : Type 0} (g : Ghosts D) (sites : List (Site D V)) (site : Site D V) → AreUnarmed g sites → g.stop (site_disk site) ≡ Unarmed
+unarmed_push : {D V : Type 0} (g : Ghosts D) (sites : List (Site D V g)) (site : Site D V g) → AreUnarmed g sites → g.stop (site_disk site) ≡ Unarmed
     → AreUnarmed g (sites ++ site ∷ [])
 unarmed_push g [] site are is = (is, tt)
 unarmed_push g (x ∷ sites) site are is = (are.0, unarmed_push g sites site are.1 is)
 
-pub next_opened : {D V : Type 0} (g : Ghosts D) (db : ScriptDatabase) (clock : ℕ) (given : List D) (running : OpenCell D V)
-    (before told after : List ℕ) (disk : D) (s : Server D V) (sites : Vec (Site D V) Global) → IsMoment clock → sites.items ≡ running.sites.items ++ record
+pub next_opened : {D V : Type 0} (g : Ghosts D) (db : ScriptDatabase) (clock : ℕ) (given : List D) (running : OpenCell D V g)
+    (before told after : List ℕ) (disk : D) (s : Server D V g) (sites : Vec (Site D V g) Global) → IsMoment clock → sites.items ≡ running.sites.items ++ record
     { clock = clock; server = s } ∷ [] → OneOpened g db running.hosts.items (length running.sites.items) clock disk s told after → ArePartOpened g
     db clock given running before told → ArePartOpened g db clock (given ++ disk ∷ []) (record running { sites = sites }) before after
 next_opened {D} {V} g db clock given running before told after disk s sites moment pushed one p =
     let items = running.sites.items in
-    let site : Site D V = record { clock = clock; server = s } in
+    let site : Site D V g = record { clock = clock; server = s } in
     let first = first_site (length running.hosts.items) clock in
     let failed = p.failed in
     let count = opened_length items (length running.hosts.items) clock failed p.sites in
@@ -200,14 +200,14 @@ next_opened {D} {V} g db clock given running before told after disk s sites mome
     let hosts = running.hosts.items in
     let more = map Tells (first_seen (length failed) (one.fails ∷ [])) in
     let now : helds g running ++ held g (server_disk s) ∷ [] ≡ helds g (record running { sites = sites }) =
-    sym (ap (map (λ (x : Site D V). held g (site_disk x))) pushed ∙ map-append (λ (x : Site D V). held g (site_disk x)) items (site ∷ [])) in
+    sym (ap (map (λ (x : Site D V g). held g (site_disk x))) pushed ∙ map-append (λ (x : Site D V g). held g (site_disk x)) items (site ∷ [])) in
     record {
       failed = failed ++ one.fails ∷ [];
       each = let x = length_snoc failed one.fails in let y = length_snoc given disk in omega (arith, x, y, each);
-      sites = subst (λ (l : List (Site D V)). AreSitesOf l (map first (failed ++ one.fails ∷ []))) (sym pushed)
+      sites = subst (λ (l : List (Site D V g)). AreSitesOf l (map first (failed ++ one.fails ∷ []))) (sym pushed)
           (subst (λ (l : List ModelSite). AreSitesOf (items ++ site ∷ []) l) (sym (map-append first failed (one.fails ∷ [])))
           (sites_push items (map first failed) site (first one.fails) p.sites (record { clock = refl; node = sym one.node })));
-      sound = subst (λ (l : List (Site D V)). AreSound g hosts 0 clock l) (sym pushed)
+      sound = subst (λ (l : List (Site D V g)). AreSound g hosts 0 clock l) (sym pushed)
           (sound_push g hosts 0 clock items site p.sound
           (subst (λ (n : ℕ). IsSoundSite g (record { hosts = hosts; me = n }) clock site) (omega arith)
           (record { moment = moment; within = omega arith; server = one.sound; disk = one.disk_sound })));
@@ -234,24 +234,24 @@ next_opened {D} {V} g db clock given running before told after disk s sites mome
           (sym (map-append g.steps given (disk ∷ [])))
           (counts_push failed (counts_of g given) (helds g running) one.fails (g.steps disk) (held g (server_disk s)) p.counts
           (one.opening, one.opens, one.steps)));
-      unarmed = subst (λ (l : List (Site D V)). AreUnarmed g l) (sym pushed) (unarmed_push g items site p.unarmed one.unarmed);
+      unarmed = subst (λ (l : List (Site D V g)). AreUnarmed g l) (sym pushed) (unarmed_push g items site p.unarmed one.unarmed);
       blocks = p.blocks;
     }
 
-pub next_added : {D V : Type 0} (g : Ghosts D) (clock : ℕ) (running : OpenCell D V) (disk : D) (s : Server D V) (sites : Vec (Site D V) Global)
+pub next_added : {D V : Type 0} (g : Ghosts D) (clock : ℕ) (running : OpenCell D V g) (disk : D) (s : Server D V g) (sites : Vec (Site D V g) Global)
     → sites.items ≡ running.sites.items ++ record { clock = clock; server = s } ∷ [] → IsEmptied g disk (server_disk s)
     → IsAdded g disk running (record running { sites = sites })
 next_added {D} {V} g clock running disk s sites pushed kept =
     record {
       kept = server_disk s;
-      disks = ap (map (λ (x : Site D V). site_disk x)) pushed ∙ map-append (λ (x : Site D V). site_disk x) running.sites.items
+      disks = ap (map (λ (x : Site D V g). site_disk x)) pushed ∙ map-append (λ (x : Site D V g). site_disk x) running.sites.items
           (record { clock = clock; server = s } ∷ []);
       emptied = kept;
     }
 
 -- the same where hosts and place are those that were handed over, and the call did not fail
-pub next_opened_at : {D V T E : Type 0} (r : Result T E) (g : Ghosts D) (db : ScriptDatabase) (clock : ℕ) (running : OpenCell D V)
-    (told after : List ℕ) (disk : D) (s : Server D V) (end : OpenEnd) (sites : Vec (Site D V) Global) (hosts : List Host) (me : ℕ) → hosts ≡ running.hosts.items
+pub next_opened_at : {D V T E : Type 0} (r : Result T E) (g : Ghosts D) (db : ScriptDatabase) (clock : ℕ) (running : OpenCell D V g)
+    (told after : List ℕ) (disk : D) (s : Server D V g) (end : OpenEnd) (sites : Vec (Site D V g) Global) (hosts : List Host) (me : ℕ) → hosts ≡ running.hosts.items
     → me ≡ length running.sites.items → IsMoment clock → sites.items ≡ running.sites.items ++ record { clock = clock; server = s } ∷ []
     → g.files disk ≡ Some no_files → g.stop disk ≡ Unarmed → ServerOpens g (record { hosts = hosts; me = me }) clock no_database end disk s
     → OnOk r ((end ≢ opened.NoMemory) × (after ≡ told ++ marks_text (opened_marks me end)))
@@ -271,17 +271,17 @@ first_version : IsVersion no_database.version
 first_version = record { epoch = omega arith; counter = omega arith }
 
 -- a server that was just opened takes writes, where it does not stay down
-module _ {D V : Type 0} (db : Database) (hosts : List Host) (calls : List (List ℕ)) (law : WritesSpread) (clock : ℕ) where
-  one_keeps : (failed : Bool) (site : Site D V) → IsSiteOf site (first_site (length hosts) clock failed) → KeepsServer db hosts calls site.server
+module _ {D V : Type 0} {g : Ghosts D} (db : Database) (hosts : List Host) (calls : List (List ℕ)) (law : WritesSpread) (clock : ℕ) where
+  one_keeps : (failed : Bool) (site : Site D V g) → IsSiteOf site (first_site (length hosts) clock failed) → KeepsServer db hosts calls site.server
   one_keeps true site is = closed_keeps db hosts calls site.server (sym is.node)
   one_keeps false site is = opened_keeps db hosts calls law no_database clock first_version site.server (sym is.node)
 
-  first_keeps : (sites : List (Site D V)) (failed : List Bool) (j : ℕ) (site : Site D V) → AreSitesOf sites (map (first_site (length hosts) clock) failed)
+  first_keeps : (sites : List (Site D V g)) (failed : List Bool) (j : ℕ) (site : Site D V g) → AreSitesOf sites (map (first_site (length hosts) clock) failed)
       → slice_get sites j ≡ Some site → KeepsServer db hosts calls site.server
   first_keeps [] failed j site are there = cc
   first_keeps (x ∷ sites) [] j site are there = absurd are
   first_keeps (x ∷ sites) (f ∷ failed) zero site are there =
-      let same : x ≡ site = cc in subst (λ (y : Site D V). KeepsServer db hosts calls y.server) same (one_keeps f x are.0)
+      let same : x ≡ site = cc in subst (λ (y : Site D V g). KeepsServer db hosts calls y.server) same (one_keeps f x are.0)
   first_keeps (x ∷ sites) (f ∷ failed) (suc j) site are there = first_keeps sites failed j site are.1 there
 
 first_clock : (n clock : ℕ) (failed : List Bool) (k : ℕ) → k < length (clocks_of (map (first_site n clock) failed))
@@ -296,7 +296,7 @@ armed_none model.Down stop is = (refl, is)
 armed_none (model.Halted h) stop is = tt
 armed_none (model.Up s) stop is = is
 
-all_unarmed : {D V : Type 0} (g : Ghosts D) (sites : List (Site D V)) → AreUnarmed g sites → AreArmed g sites (replicate (length sites) None)
+all_unarmed : {D V : Type 0} (g : Ghosts D) (sites : List (Site D V g)) → AreUnarmed g sites → AreArmed g sites (replicate (length sites) None)
 all_unarmed g [] are = tt
 all_unarmed g (site ∷ sites) are = (armed_none (server_node site.server) (g.stop (site_disk site)) are.0, all_unarmed g sites are.1)
 
@@ -321,7 +321,7 @@ first_counts db c k (f ∷ failed) (b ∷ given) (x ∷ disks) none are = (
   first_counts db c (k + 1) failed given disks none are.1,
 )
 
-pub all_opened : {D V : Type 0} (g : Ghosts D) (db : ScriptDatabase) (clock : ℕ) (k : Kind) (given : List D) (running : OpenCell D V)
+pub all_opened : {D V : Type 0} (g : Ghosts D) (db : ScriptDatabase) (clock : ℕ) (k : Kind) (given : List D) (running : OpenCell D V g)
     (before after : List ℕ) → CellsGoOn → WritesSpread → IsMoment clock → HasRoom running → length given ≡ length running.hosts.items
     → ArePartOpened g db clock given running before after → IsOpened g db clock k given running before after
 all_opened {D} {V} g db clock k given running before after law spreads moment room same p =
@@ -364,7 +364,7 @@ all_opened {D} {V} g db clock k given running before after law spreads moment ro
         };
         keeps = record {
           servers = λ j site there.
-              first_keeps db.database hosts running.calls.items spreads clock items failed j site p.sites there;
+              first_keeps db.database hosts running.calls spreads clock items failed j site p.sites there;
           packets = subst (λ (t : Traffic). All (IsCellPacket hosts) t.sent) (sym p.packets) (All-nil (IsCellPacket hosts));
         };
         calls = ap length p.calls;

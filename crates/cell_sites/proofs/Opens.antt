@@ -32,7 +32,7 @@ use Rattle.ubik_types.specs.Version.{IsVersion}
 use Rattle.cell_sites.proofs.Versions.{version_is}
 use Rattle.ubik_node.specs.declared.nodes.Node.{Node}
 use Rattle.ubik_node.specs.Disk.{StandsAs}
-use Rattle.ubik_node.specs.Node.{node_of, own_member, up_server, IsStored}
+use Rattle.ubik_node.specs.Node.{node_of, own_member, up_server}
 use Rattle.cell_sites.specs.OpenedServer.{OpensDisk, ServerIs, ServerOpens, is_cut_short}
 use Rattle.cell_sites.specs.declared.openings.OpenEnd.{OpenEnd}
 use Rattle.cell_sites.specs.declared.openings.OpenEnd.TheVariants as opened
@@ -149,32 +149,32 @@ pub up_is : (halted : Bool) (s t : model.Server) → (if halted then model.Halte
 up_is true s t is = let never : model.Halted (model.halted_from s) ≡ model.Up t = is in absurd cc
 up_is false s t is = (refl, cc)
 
-module _ {D V : Type 0} (g : Ghosts D) (n : Node D V) (stored : IsStored g n) (went : n.halted ≡ false) where
+module _ {D V : Type 0} (g : Ghosts D) (n : Node D V g) (went : n.store.failed ≡ false) where
   -- its disk stands for its version and image
   pub node_stands : IsSome (g.files n.store.disk) → IsSomeAnd (g.files n.store.disk) (StandsAs (durable n.state.version n.state.image))
   node_stands some =
-      rested_all (g.files n.store.disk) n.store.version n.state.version n.state.image (stored.version went) some
-      (stored.sound.ready (stored.failed ∙ went)).rests (stored.image went)
+      rested_all (g.files n.store.disk) n.store.version n.state.version n.state.image (n.stored.version went) some
+      (n.stored.sound.ready went).rests (n.stored.image went)
 
   -- which is one
   pub node_version : IsSome (g.files n.store.disk) → IsVersion n.state.version
   node_version some =
       let t = told_files (g.files n.store.disk) some in
       let rests = of_told (g.files n.store.disk) t.fs (λ fs. IsAtRest n.store.version (image_of fs.database) fs) t.is
-      (stored.sound.ready (stored.failed ∙ went)).rests in
-      subst IsVersion (stored.version went) (version_is t.fs.database n.store.version rests.label)
+      (n.stored.sound.ready went).rests in
+      subst IsVersion (n.stored.version went) (version_is t.fs.database n.store.version rests.label)
 
   pub node_settled : IsSettled (g.files n.store.disk) (g.may_leave n.store.disk)
-  node_settled = (stored.sound.ready (stored.failed ∙ went)).settled
+  node_settled = (n.stored.sound.ready went).settled
 
 -- what a crash leaves is so, and so is what is read
 pub plain_read : {D : Type 0} (g : Ghosts D) (disk : D) → Narrows IsPlain (g.may_leave disk) → IfSome (g.files disk) IsPlain
 plain_read g disk leaves = told (g.files disk) IsPlain (λ fs is. leaves fs (g.may_be_read disk fs is))
 
-module _ {D V : Type 0} (g : Ghosts D) (hosts cell : List Host) (me clock : ℕ) (disk : D) (n : Node D V) (d e : Durable)
+module _ {D V : Type 0} (g : Ghosts D) (hosts cell : List Host) (me clock : ℕ) (disk : D) (n : Node D V g) (d e : Durable)
     (sound : IsSoundDisk g disk) (stands : IsSomeAnd (g.files disk) (StandsAs d)) (opening : IsOpening g disk n.store.disk ⊥)
     (same : cell ≡ hosts) (up : node_of n ≡ model.Up (model.opened_server (length cell) e clock)) (read : IfSome (g.files disk) (StandsAs e))
-    (mine : own_member n ≡ record { hosts = cell; me = me }) (stored : IsStored g n) (kept : IsSome (g.files disk) → IsSome (g.files n.store.disk))
+    (mine : own_member n ≡ record { hosts = cell; me = me }) (kept : IsSome (g.files disk) → IsSome (g.files n.store.disk))
     (steps : IfSome (g.files disk) (λ fs. (calls : ℕ) → OpensIn fs calls → g.steps n.store.disk ≡ g.steps disk + calls)) (last : n.last ≡ clock) where
   abbrev pub m : Member
   m = record { hosts = hosts; me = me }
@@ -185,9 +185,9 @@ module _ {D V : Type 0} (g : Ghosts D) (hosts cell : List Host) (me clock : ℕ)
   is_d : e ≡ d
   is_d = one_durable there.fs d e (stood g disk n.store.disk ⊥ d sound stands opening) (of_told (g.files disk) there.fs (StandsAs e) there.is read)
 
-  server_up : (n.halted ≡ false) × (up_server n ≡ model.opened_server (length hosts) d clock)
+  server_up : (n.store.failed ≡ false) × (up_server n ≡ model.opened_server (length hosts) d clock)
   server_up =
-      let at = up_is n.halted (up_server n) (model.opened_server (length cell) e clock) up in
+      let at = up_is n.store.failed (up_server n) (model.opened_server (length cell) e clock) up in
       (at.0, at.1 ∙ ap (λ (l : List Host). model.opened_server (length l) e clock) same ∙ ap (λ (x : Durable). model.opened_server (length hosts) x clock) is_d)
 
   some : IsSome (g.files n.store.disk)
@@ -197,14 +197,14 @@ module _ {D V : Type 0} (g : Ghosts D) (hosts cell : List Host) (me clock : ℕ)
   holds =
       let s = server_up.1 in
       subst (λ (x : Durable). IsSomeAnd (g.files n.store.disk) (StandsAs x))
-      (ap (λ (u : model.Server). durable u.version u.image) s) (node_stands g n stored server_up.0 some)
+      (ap (λ (u : model.Server). durable u.version u.image) s) (node_stands g n server_up.0 some)
 
   pub opened_up : (version : Version) → version ≡ (up_server n).version → ServerOpens g m clock d (opened.Up version) disk (server.Up n)
   opened_up version is = record {
     stands = holds;
     sound = record {
       told = some;
-      settled = node_settled g n stored server_up.0;
+      settled = node_settled g n server_up.0;
       plain = plain_read g n.store.disk (leaves_plain g disk n.store.disk ⊥ d sound stands opening);
     };
     calls =
@@ -227,9 +227,8 @@ module _ {D V : Type 0} (g : Ghosts D) (hosts cell : List Host) (me clock : ℕ)
       record {
         last = omega (arith, last);
         member = mine ∙ ap (λ (l : List Host). record { hosts = l; me = me }) same;
-        stored = stored;
       },
-      subst IsVersion (ap (λ (u : model.Server). u.version) server_up.1) (node_version g n stored server_up.0 some),
+      subst IsVersion (ap (λ (u : model.Server). u.version) server_up.1) (node_version g n server_up.0 some),
     );
   }
 

@@ -29,21 +29,21 @@ use Rattle.cell_sites.proofs.Agreeing.{AreMarks, agrees, few_faults, seen}
 
 module _ {D V : Type 0} (g : Ghosts D) where
   -- what the disk of a site reads as
-  abbrev pub held_at : Site D V → Held
+  abbrev pub held_at : Site D V g → Held
   held_at site = held g (site_disk site)
 
-  pub rises_set : (items : List TraceItem) (p k : ℕ) (sites : List (Site D V)) (site later : Site D V) → slice_get sites k ≡ Some site
+  pub rises_set : (items : List TraceItem) (p k : ℕ) (sites : List (Site D V g)) (site later : Site D V g) → slice_get sites k ≡ Some site
       → (held_at site).faults + fault_count (p + k) items ≤ (held_at later).faults → ((j : ℕ) → j ≢ p + k → fault_count j items ≡ 0)
       → AreRises p items (map held_at sites) (map held_at (set sites k later))
   rises_set items p k [] site later there rises others = cc
   rises_set items p zero (x ∷ sites) site later there rises others =
       let same : x ≡ site = cc in
       let here : p + 0 ≡ p = omega arith in
-      let first : (held_at x).faults ≡ (held_at site).faults = ap (λ (s : Site D V). (held_at s).faults) same in
+      let first : (held_at x).faults ≡ (held_at site).faults = ap (λ (s : Site D V g). (held_at s).faults) same in
       let count : fault_count (p + 0) items ≡ fault_count p items = ap (λ (n : ℕ). fault_count n items) here in
       (omega (arith, rises, first, count), rest (p + 1) sites (omega arith))
     where
-      rest : (q : ℕ) (more : List (Site D V)) → p < q → AreRises q items (map held_at more) (map held_at more)
+      rest : (q : ℕ) (more : List (Site D V g)) → p < q → AreRises q items (map held_at more) (map held_at more)
       rest q [] past = tt
       rest q (s ∷ more) past = (let none = others q (λ e. omega (arith, e)) in omega (arith, none), rest (q + 1) more (omega arith))
   rises_set items p (suc k) (x ∷ sites) site later there rises others =
@@ -55,19 +55,19 @@ module _ {D V : Type 0} (g : Ghosts D) where
       )
 
   -- a site that became another one moves its disk alone
-  pub moved_set : (R : ℕ → Held → Held → Type 0) (p k : ℕ) (sites : List (Site D V)) (site later : Site D V) → slice_get sites k ≡ Some site
+  pub moved_set : (R : ℕ → Held → Held → Type 0) (p k : ℕ) (sites : List (Site D V g)) (site later : Site D V g) → slice_get sites k ≡ Some site
       → R (p + k) (held_at site) (held_at later) → ((j : ℕ) (x : Held) → j ≢ p + k → R j x x)
       → AreMoved R p (map held_at sites) (map held_at (set sites k later))
   moved_set R p k [] site later there one others = cc
   moved_set R p zero (x ∷ sites) site later there one others =
       let same : site ≡ x = cc in
       let here : p + 0 ≡ p = omega arith in (
-        subst (λ (y : Site D V). R p (held_at y) (held_at later)) same (subst (λ (n : ℕ). R n (held_at site) (held_at later)) here one),
+        subst (λ (y : Site D V g). R p (held_at y) (held_at later)) same (subst (λ (n : ℕ). R n (held_at site) (held_at later)) here one),
         rest (p + 1) sites
             (omega arith),
       )
     where
-      rest : (q : ℕ) (more : List (Site D V)) → p < q → AreMoved R q (map held_at more) (map held_at more)
+      rest : (q : ℕ) (more : List (Site D V g)) → p < q → AreMoved R q (map held_at more) (map held_at more)
       rest q [] past = tt
       rest q (s ∷ more) past = (others q (held_at s) (λ e. omega (arith, e)), rest (q + 1) more (omega arith))
   moved_set R p (suc k) (x ∷ sites) site later there one others =
@@ -77,7 +77,7 @@ module _ {D V : Type 0} (g : Ghosts D) where
             (λ j y other. others j y (λ e. other (e ∙ here))),
       )
 
-  pub reads_set : (ss : List ModelSite) (sites : List (Site D V)) (k : ℕ) (s : ModelSite) (later : Site D V) → AreReadBy ss (map held_at sites)
+  pub reads_set : (ss : List ModelSite) (sites : List (Site D V g)) (k : ℕ) (s : ModelSite) (later : Site D V g) → AreReadBy ss (map held_at sites)
       → slice_get ss k ≡ Some s → IsReadBy s (held_at later) → AreReadBy ss (map held_at (set sites k later))
   reads_set [] sites k s later read there is = cc
   reads_set (x ∷ ss) [] k s later read there is = absurd read
@@ -85,7 +85,7 @@ module _ {D V : Type 0} (g : Ghosts D) where
       let same : s ≡ x = cc in (subst (λ (z : ModelSite). IsReadBy z (held_at later)) same is, read.1)
   reads_set (x ∷ ss) (y ∷ sites) (suc k) s later read there is = (read.0, reads_set ss sites k s later read.1 there is)
 
-  pub reads_both : (ss : List ModelSite) (sites : List (Site D V)) (k : ℕ) (s : ModelSite) (later : Site D V) → AreReadBy ss (map held_at sites)
+  pub reads_both : (ss : List ModelSite) (sites : List (Site D V g)) (k : ℕ) (s : ModelSite) (later : Site D V g) → AreReadBy ss (map held_at sites)
       → IsReadBy s (held_at later) → AreReadBy (set ss k s) (map held_at (set sites k later))
   reads_both [] [] k s later read is = tt
   reads_both [] (y ∷ sites) k s later read is = absurd read
@@ -100,11 +100,11 @@ abbrev pub whole_choices : List Choice → Choices
 whole_choices choices = record { each = choices; most = MAX_PACKETS }
 
 -- a line of a cell whose disks are armed so
-module _ {D V : Type 0} (g : Ghosts D) (script_db : ScriptDatabase) (given : List ℕ) (before after : OpenCell D V) (c : Cell)
+module _ {D V : Type 0} (g : Ghosts D) (script_db : ScriptDatabase) (given : List ℕ) (before after : OpenCell D V g) (c : Cell)
     (stands : IsModelledBy g script_db.database given before c) (k : ℕ) (ev : Event) (h : SiteHappened) (armed : List (Option Armed))
     (run : Choices → Run_or_why) (choices : List Choice) (is : run (whole_choices choices) ≡ Ok (happened (with_armed c armed) ev (happened_at c.run.world k
     h)))
-    (marks : AreMarks h.marks) (site later : Site D V) (there : slice_get before.sites.items k ≡ Some site)
+    (marks : AreMarks h.marks) (site later : Site D V g) (there : slice_get before.sites.items k ≡ Some site)
     (sites : after.sites.items ≡ set before.sites.items k later) (rises : g.faults (site_disk site) + fault_count k (map Tells h.marks) ≤ g.faults
     (site_disk later)) (others : (j : ℕ) → j ≢ k → fault_count j (map Tells h.marks) ≡ 0) where
   -- the cell after it
@@ -127,7 +127,7 @@ module _ {D V : Type 0} (g : Ghosts D) (script_db : ScriptDatabase) (given : Lis
   pub causes : AreRises 0 told_in.items (helds g before) (helds g after)
   causes =
       let here = few k in
-      subst (λ (l : List (Site D V)). AreRises 0 told_in.items (helds g before) (map (held_at {V = V} g) l)) (sym sites)
+      subst (λ (l : List (Site D V g)). AreRises 0 told_in.items (helds g before) (map (held_at {V = V} g) l)) (sym sites)
       (rises_set g told_in.items 0 k before.sites.items site later there
       (let first : fault_count (0 + k) told_in.items ≡ fault_count k told_in.items = ap (λ (n : ℕ). fault_count n told_in.items) (zero_add k) in omega
       (arith, rises, here, first))
@@ -156,7 +156,7 @@ module _ {D V : Type 0} (g : Ghosts D) (script_db : ScriptDatabase) (given : Lis
         ends = ap (λ (w : Within). w.ending) as_seen ∙ agree.ending ∙ ended;
         cell = record {
           hosts = stands.hosts ∙ sym hosts;
-          sites = subst (λ (l : List (Site D V)). AreSitesOf l (set c.run.world.sites k h.site)) (sym sites)
+          sites = subst (λ (l : List (Site D V g)). AreSitesOf l (set c.run.world.sites k h.site)) (sym sites)
               (sites_set before.sites.items c.run.world.sites k later h.site stands.sites stood);
           sent = ap (λ (l : List Packet). l ++ packets_of h.shown) stands.sent ∙ sym (ap (λ (t : Traffic). t.sent) packets);
           handed =

@@ -95,7 +95,7 @@ take_each (suc n) v (made ∷ calls) =
 -- ---- a server that is up
 
 -- what its files are
-pub record FilesAt {D V : Type 0} (g : Ghosts D) (node : Node D V) (s : model.Server) : Type 0 where
+pub record FilesAt {D V : Type 0} (g : Ghosts D) (node : Node D V g) (s : model.Server) : Type 0 where
   pub files : Files
   pub is : g.files node.store.disk ≡ Some files
   pub stands : StandsAs (durable_in s) files
@@ -103,16 +103,16 @@ pub record FilesAt {D V : Type 0} (g : Ghosts D) (node : Node D V) (s : model.Se
   pub label : has_label files.database ≡ not (version_eq s.version zero_version)
   pub runs : IsStopped (g.stop node.store.disk) → ⊥
 
-pub files_at : {D V : Type 0} (g : Ghosts D) (m : Member) (clock : ℕ) (node : Node D V) (s : model.Server) → IsSoundNode g m clock node
+pub files_at : {D V : Type 0} (g : Ghosts D) (m : Member) (clock : ℕ) (node : Node D V g) (s : model.Server) → IsSoundNode g m clock node
     → IsSoundDisk g node.store.disk → node_of node ≡ model.Up s → FilesAt g node s
 files_at {D} {V} g m clock node s sound disk up =
     let is_it = is_up node s up in
     let there = some_of (g.files node.store.disk) disk.told in
-    let ready = sound.stored.sound.ready (sound.stored.failed ∙ is_it.0) in
-    let version : node.store.version ≡ s.version = sound.stored.version is_it.0 ∙ ap (λ (u : model.Server). u.version) is_it.1 in
+    let ready = node.stored.sound.ready is_it.0 in
+    let version : node.store.version ≡ s.version = node.stored.version is_it.0 ∙ ap (λ (u : model.Server). u.version) is_it.1 in
     let rests = subst (λ (v : Version). IsAtRest v (image_of there.0.database) there.0) version
     (of_some (g.files node.store.disk) there.0 (λ fs. IsAtRest node.store.version (image_of fs.database) fs) there.1 ready.rests) in
-    let image : image_of there.0.database ≡ s.image = image_at (g.files node.store.disk) there.0 node.state.image there.1 (sound.stored.image is_it.0)
+    let image : image_of there.0.database ≡ s.image = image_at (g.files node.store.disk) there.0 node.state.image there.1 (node.stored.image is_it.0)
     ∙ ap (λ (u : model.Server). u.image) is_it.1 in
     let plain = of_some (g.files node.store.disk) there.0 IsPlain there.1 disk.plain in
     record {
@@ -131,7 +131,7 @@ files_at {D} {V} g m clock node s sound disk up =
 -- ---- a step that was made
 
 -- its durable calls made just these changing calls
-pub served_rise : {D V : Type 0} (g : Ghosts D) (node : Node D V) (s : model.Server) (new : D) (calls : List Made) → FilesAt g node s → AllLater calls
+pub served_rise : {D V : Type 0} (g : Ghosts D) (node : Node D V g) (s : model.Server) (new : D) (calls : List Made) → FilesAt g node s → AllLater calls
     → Serves g (durable_in s) node.store.disk new calls → g.steps new ≡ g.steps node.store.disk + calls_on_all s.version calls
 served_rise {D} g node s new calls at labels serves =
     of_some (g.files node.store.disk) at.files (λ fs. g.steps new ≡ g.steps node.store.disk + calls_made (has_label fs.database) calls) at.is serves.steps
@@ -177,7 +177,7 @@ pub record Failed {D : Type 0} (g : Ghosts D) (s : model.Server) (old later : D)
   pub steps : g.steps later ≡ g.steps old + rise
   pub cut : IsCutShort (each_on s.version calls) (if took then whole + 1 else whole) rise
 
-module _ {D V : Type 0} (g : Ghosts D) (node : Node D V) (s : model.Server) (failed later : D) (calls : List Made) (at : FilesAt g node s) (labels : AllLater
+module _ {D V : Type 0} (g : Ghosts D) (node : Node D V g) (s : model.Server) (failed later : D) (calls : List Made) (at : FilesAt g node s) (labels : AllLater
     calls)
     (fails : FailsIn g (durable_in s) node.store.disk failed calls) where
   abbrev old : D

@@ -25,7 +25,7 @@ get_set (x ∷ xs) (suc k) y z there = get_set xs k y z there
 pub some_same : {X : Type 0} (a b : X) → Some a ≡ Some b → a ≡ b
 some_same a b is = cc
 
-module _ {D V : Type 0} (g : Ghosts D) (db : Database) (k : ℕ) (e : NodeEvent) (end : SiteEnd) (before mid : OpenCell D V)
+module _ {D V : Type 0} (g : Ghosts D) (db : Database) (k : ℕ) (e : NodeEvent) (end : SiteEnd) (before mid : OpenCell D V g)
     (up : UpStepped g db k e end before mid) where
   becomes_up : (x : SiteEnd) → x ≢ ended.Stops → Becomes g x up.later mid.outputs (Up up.later) mid.outputs
   becomes_up ended.Made other = (refl, refl)
@@ -57,15 +57,15 @@ module _ {D V : Type 0} (g : Ghosts D) (db : Database) (k : ℕ) (e : NodeEvent)
       let many : length mid.sites.items ≡ length before.sites.items = ap length up.sites ∙ length-set before.sites.items k (up_site up.clock up.later) in
       omega (arith, there, many)
 
-  pub goes_down : end ≡ ended.Stops → (quiet after : OpenCell D V) → quiet.sites.items ≡ mid.sites.items → quiet.hosts.items ≡ mid.hosts.items
-      → quiet.packets ≡ mid.packets → quiet.calls.items ≡ mid.calls.items → quiet.outputs ≡ [] → TakenDown g k quiet after → SiteStepped g db k e end before after
+  pub goes_down : end ≡ ended.Stops → (quiet after : OpenCell D V g) → quiet.sites.items ≡ mid.sites.items → quiet.hosts.items ≡ mid.hosts.items
+      → quiet.packets ≡ mid.packets → quiet.calls ≡ mid.calls → quiet.outputs ≡ [] → TakenDown g k quiet after → SiteStepped g db k e end before after
   goes_down is quiet after sites hosts packets calls none down =
       let was : Some (up_site up.clock up.later) ≡ Some (record { clock = down.clock; server = down.server }) =
       sym (get_set before.sites.items k (up_site up.clock up.later) (up_site up.clock up.node) up.there)
-      ∙ ap (λ (l : List (Site D V)). slice_get l k) (sym (sites ∙ up.sites)) ∙ down.there in
+      ∙ ap (λ (l : List (Site D V g)). slice_get l k) (sym (sites ∙ up.sites)) ∙ down.there in
       let same = some_same (up_site up.clock up.later) (record { clock = down.clock; server = down.server }) was in
-      let server : down.server ≡ Up up.later = ap (λ (s : Site D V). s.server) (sym same) in
-      let clock : down.clock ≡ up.clock = ap (λ (s : Site D V). s.clock) (sym same) in
+      let server : down.server ≡ Up up.later = ap (λ (s : Site D V g). s.server) (sym same) in
+      let clock : down.clock ≡ up.clock = ap (λ (s : Site D V g). s.clock) (sym same) in
       record {
         clock = up.clock;
         node = up.node;
@@ -75,9 +75,9 @@ module _ {D V : Type 0} (g : Ghosts D) (db : Database) (k : ℕ) (e : NodeEvent)
         step = up.step;
         server = Down down.disk;
         becomes = subst (λ (x : SiteEnd). Becomes g x up.later mid.outputs (Down down.disk) after.outputs) (sym is)
-            ((down.disk, refl, subst (λ (s : Server D V). IsRevived g (server_disk s) down.disk) server down.revived), down.outputs ∙ none);
+            ((down.disk, refl, subst (λ (s : Server D V g). IsRevived g (server_disk s) down.disk) server down.revived), down.outputs ∙ none);
         sites = down.sites ∙ ap (λ (n : ℕ). set quiet.sites.items k (record { clock = n; server = Down down.disk })) clock
-            ∙ ap (λ (l : List (Site D V)). set l k (record { clock = up.clock; server = Down down.disk })) (sites ∙ up.sites)
+            ∙ ap (λ (l : List (Site D V g)). set l k (record { clock = up.clock; server = Down down.disk })) (sites ∙ up.sites)
             ∙ set-set before.sites.items k (up_site up.clock up.later) (record { clock = up.clock; server = Down down.disk });
         hosts = down.hosts ∙ hosts ∙ up.hosts;
         packets = down.packets ∙ packets ∙ up.packets;

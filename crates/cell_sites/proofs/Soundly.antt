@@ -24,19 +24,19 @@ use Rattle.cell_sites.proofs.AtPlace.{sound_at, sound_set}
 use Rattle.cell_sites.proofs.Hosts.{length-hosts_of}
 
 -- as many hosts as sites
-pub host_count : {D V : Type 0} (g : Ghosts D) (bound : ℕ) (running : OpenCell D V) → IsSteady g bound running
+pub host_count : {D V : Type 0} (g : Ghosts D) (bound : ℕ) (running : OpenCell D V g) → IsSteady g bound running
     → length running.hosts.items ≡ length running.sites.items
 host_count g bound running sound = ap length sound.hosts ∙ length-hosts_of (length running.sites.items)
 
 -- what is known of the server at a place that is up
-pub record IsHere {D V : Type 0} (g : Ghosts D) (bound : ℕ) (running : OpenCell D V) (k clock : ℕ) (node : Node D V) : Type 0 where
+pub record IsHere {D V : Type 0} (g : Ghosts D) (bound : ℕ) (running : OpenCell D V g) (k clock : ℕ) (node : Node D V g) : Type 0 where
   pub moment : IsMoment clock
   pub within : clock ≤ bound
   pub sound : IsSoundNode g (member_at running k) clock node
   pub disk : IsSoundDisk g node.store.disk
   pub me : k < length running.hosts.items
 
-pub here : {D V : Type 0} (g : Ghosts D) (bound : ℕ) (running : OpenCell D V) (k clock : ℕ) (node : Node D V)
+pub here : {D V : Type 0} (g : Ghosts D) (bound : ℕ) (running : OpenCell D V g) (k clock : ℕ) (node : Node D V g)
     → IsSteady g bound running → slice_get running.sites.items k ≡ Some (up_site clock node) → IsHere g bound running k clock node
 here g bound running k clock node sound there =
     let site = sound_at g running.hosts.items 0 bound running.sites.items k (up_site clock node) sound.sites there in
@@ -52,15 +52,15 @@ here g bound running k clock node sound there =
     }
 
 -- a clock that stays
-pub clocks_set : {D V : Type 0} (sites : List (Site D V)) (k : ℕ) (site later : Site D V) → slice_get sites k ≡ Some site → later.clock ≡ site.clock
+pub clocks_set : {D V : Type 0} {g : Ghosts D} (sites : List (Site D V g)) (k : ℕ) (site later : Site D V g) → slice_get sites k ≡ Some site → later.clock ≡ site.clock
     → clocks_in (set sites k later) ≡ clocks_in sites
 clocks_set [] k site later there same = cc
-clocks_set {D} {V} (x ∷ sites) zero site later there same =
-    let e : x ≡ site = cc in ap (λ (n : ℕ). n ∷ clocks_in sites) (same ∙ sym (ap (λ (s : Site D V). s.clock) e))
+clocks_set {D} {V} {g} (x ∷ sites) zero site later there same =
+    let e : x ≡ site = cc in ap (λ (n : ℕ). n ∷ clocks_in sites) (same ∙ sym (ap (λ (s : Site D V g). s.clock) e))
 clocks_set (x ∷ sites) (suc k) site later there same = ap (λ (l : List ℕ). x.clock ∷ l) (clocks_set sites k site later there same)
 
 -- the cell stays sound, where another sound server takes the place of one
-pub sound_after : {D V : Type 0} (g : Ghosts D) (bound : ℕ) (before after : OpenCell D V) (k : ℕ) (site later : Site D V)
+pub sound_after : {D V : Type 0} (g : Ghosts D) (bound : ℕ) (before after : OpenCell D V g) (k : ℕ) (site later : Site D V g)
     → IsSteady g bound before → slice_get before.sites.items k ≡ Some site → later.clock ≡ site.clock
     → IsSoundServer g (member_at before k) later.clock later.server → IsSoundDisk g (site_disk later)
     → after.sites.items ≡ set before.sites.items k later → after.hosts.items ≡ before.hosts.items → after.outputs ≡ [] → IsSteady g bound after
@@ -78,9 +78,9 @@ sound_after {D} {V} g bound before after k site later sound there clock is disk 
       hosts = hosts ∙ sound.hosts ∙ ap hosts_of (sym many);
       sites =
           subst (λ (h : List Host). AreSound g h 0 bound after.sites.items) (sym hosts)
-          (subst (λ (l : List (Site D V)). AreSound g before.hosts.items 0 bound l) (sym sites)
+          (subst (λ (l : List (Site D V g)). AreSound g before.hosts.items 0 bound l) (sym sites)
           (sound_set g before.hosts.items 0 bound before.sites.items k later sound.sites one));
-      near = ap (λ (l : List (Site D V)). are_near (clocks_in l)) sites ∙ ap are_near (clocks_set before.sites.items k site later there clock) ∙ sound.near;
+      near = ap (λ (l : List (Site D V g)). are_near (clocks_in l)) sites ∙ ap are_near (clocks_set before.sites.items k site later there clock) ∙ sound.near;
       told = empty;
     }
 
@@ -91,25 +91,25 @@ none_sent t =
     ∙ ap (λ (l : List Bool). record { sent = t.sent ++ []; handed = l }) (sym (append-nil t.handed))
 
 -- the disk of a site is sound
-pub disk_here : {D V : Type 0} (g : Ghosts D) (bound : ℕ) (running : OpenCell D V) (k : ℕ) (site : Site D V)
+pub disk_here : {D V : Type 0} (g : Ghosts D) (bound : ℕ) (running : OpenCell D V g) (k : ℕ) (site : Site D V g)
     → IsSteady g bound running → slice_get running.sites.items k ≡ Some site → IsSoundDisk g (site_disk site)
 disk_here g bound running k site sound there = (sound_at g running.hosts.items 0 bound running.sites.items k site sound.sites there).disk
 
 -- the site at a place, as an index reads it
-pub found_up : {D V : Type 0} (running : OpenCell D V) (k : ℕ) (site : Site D V) (node : Node D V) → IsUpAt running k → site ≡ get_or running.sites.items k site
+pub found_up : {D V : Type 0} {g : Ghosts D} (running : OpenCell D V g) (k : ℕ) (site : Site D V g) (node : Node D V g) → IsUpAt running k → site ≡ get_or running.sites.items k site
     → site.server ≡ Up node → slice_get running.sites.items k ≡ Some (up_site site.clock node)
-found_up {D} {V} running k site node up value is =
+found_up {D} {V} {g} running k site node up value is =
     let lt = slice_get_within running.sites.items k (up_site up.clock up.node) up.there in
     slice_get_read running.sites.items (length running.sites.items) k site refl lt value
-    ∙ ap (λ (s : Server D V). Some (record { clock = site.clock; server = s })) is
+    ∙ ap (λ (s : Server D V g). Some (record { clock = site.clock; server = s })) is
 
 -- it is not down
-pub not_down : {D V : Type 0} (running : OpenCell D V) (k : ℕ) (site : Site D V) (disk : D) → IsUpAt running k → site ≡ get_or running.sites.items k site
+pub not_down : {D V : Type 0} {g : Ghosts D} (running : OpenCell D V g) (k : ℕ) (site : Site D V g) (disk : D) → IsUpAt running k → site ≡ get_or running.sites.items k site
     → site.server ≡ Down disk → ⊥
-not_down {D} {V} running k site disk up value is =
+not_down {D} {V} {g} running k site disk up value is =
     let lt = slice_get_within running.sites.items k (up_site up.clock up.node) up.there in
     let there = slice_get_read running.sites.items (length running.sites.items) k site refl lt value in
     let same : Some site ≡ Some (up_site up.clock up.node) = sym there ∙ up.there in
     let one : site ≡ up_site up.clock up.node = cc in
-    let server : Up up.node ≡ Down disk = sym (ap (λ (s : Site D V). s.server) one) ∙ is in
+    let server : Up up.node ≡ Down disk = sym (ap (λ (s : Site D V g). s.server) one) ∙ is in
     cc

@@ -1,5 +1,5 @@
 -- The calls that were asked in a cell, and which of them an output answers.
-use Rattle.std.specs.Prelude.{◌≡◌, ◌<◌, ◌≤◌, ◌-◌, ℕ, List, [], length, slice_index_or}
+use Rattle.std.specs.Prelude.{◌≡◌, ◌<◌, ◌≤◌, ◌+◌, ◌-◌, ℕ, List, [], Some, length, slice_get, slice_index_or}
 use Rattle.std.specs.List.{AllByRecursion}
 use Rattle.cell_model.specs.declared.events.NodeEvent.{NodeEvent}
 use Rattle.cell_model.specs.declared.events.NodeEvent.TheVariants as event
@@ -36,3 +36,12 @@ AllStandUnder calls waiting = AllByRecursion (λ (w : Waiting). StandsUnder call
 abbrev pub AsksOf : List (List ℕ) → NodeEvent → Type 0
 AsksOf calls (event.Ask id call) = StandsUnder calls id call
 AsksOf calls _ = Unit {0}
+
+-- the call that comes in an event
+abbrev pub call_in : NodeEvent → List ℕ
+call_in (event.Ask id call) = call
+call_in _ = []
+
+-- each of these events asks a call, the first under id 1
+abbrev pub AreAsked : List NodeEvent → Type 0
+AreAsked events = (k : ℕ) (e : NodeEvent) → slice_get events k ≡ Some e → e ≡ event.Ask (k + 1) (call_in e)

@@ -1,5 +1,5 @@
 pub mod Calls
-pub mod Copies
+pub mod Causes
 pub mod Counts
 pub mod Disks
 pub mod Opened
@@ -7,6 +7,7 @@ pub mod OpenedServer
 pub mod Packets
 pub mod Places
 pub mod Reopened
+pub mod Sent
 pub mod Sites
 pub mod Sound
 pub mod Stepped

@@ -19,7 +19,7 @@ use Rattle.cell_sites.specs.Traffic.{no_traffic}
 use Rattle.cell_sites.specs.declared.cells.OpenCell.{OpenCell}
 
 -- the hosts of a cell of 1 to 20 servers, and room for all of these
-pub record HasRoom {D V : Type 0} (running : OpenCell D V) : Type 0 where
+pub record HasRoom {D V : Type 0} {g : Ghosts D} (running : OpenCell D V g) : Type 0 where
   pub some : 1 ≤ length running.hosts.items
   pub few : length running.hosts.items ≤ MAXSERVERS
   pub hosts : running.hosts.items ≡ hosts_of (length running.hosts.items)
@@ -41,13 +41,13 @@ AreFirstCounts (failed ∷ more) (before ∷ given) (disk ∷ disks) =
 AreFirstCounts _ _ _ = ⊥
 
 -- none of these disks is to stop
-abbrev pub AreUnarmed : {D V : Type 0} → Ghosts D → List (Site D V) → Type 0
+abbrev pub AreUnarmed : {D V : Type 0} (g : Ghosts D) → List (Site D V g) → Type 0
 AreUnarmed g [] = Unit {0}
 AreUnarmed g (site ∷ sites) = (g.stop (site_disk site) ≡ Unarmed) × AreUnarmed g sites
 
 -- The first servers of a cell were opened over these disks, at a clock; where a disk failed in that, its server is down. What is told of
 -- that was added to a text, and each fault is one of its disk.
-pub record ArePartOpened {D V : Type 0} (g : Ghosts D) (db : ScriptDatabase) (clock : ℕ) (given : List D) (running : OpenCell D V)
+pub record ArePartOpened {D V : Type 0} (g : Ghosts D) (db : ScriptDatabase) (clock : ℕ) (given : List D) (running : OpenCell D V g)
     (text_before text_after : List ℕ) : Type 0 where
   pub failed : List Bool
   pub each : length failed ≡ length given
@@ -55,7 +55,7 @@ pub record ArePartOpened {D V : Type 0} (g : Ghosts D) (db : ScriptDatabase) (cl
   pub sound : AreSound g running.hosts.items 0 clock running.sites.items
   pub packets : running.packets ≡ no_traffic
   pub outputs : running.outputs ≡ []
-  pub calls : running.calls.items ≡ []
+  pub calls : running.calls ≡ []
   pub told : text_after ≡ text_before ++ trace db running.hosts.items (opening_items failed)
   pub causes : AreRises 0 (opening_items failed) (all_held g given) (helds g running)
   pub read : AreReadBy (map (first_site (length running.hosts.items) clock) failed) (helds g running)
@@ -64,13 +64,13 @@ pub record ArePartOpened {D V : Type 0} (g : Ghosts D) (db : ScriptDatabase) (cl
   pub blocks : db.database.block ≢ 0
 
 -- one more disk has its place in the cell, and stands for no database still
-pub record IsAdded {D V : Type 0} (g : Ghosts D) (disk : D) (before after : OpenCell D V) : Type 0 where
+pub record IsAdded {D V : Type 0} (g : Ghosts D) (disk : D) (before after : OpenCell D V g) : Type 0 where
   pub kept : D
   pub disks : disks_of after ≡ disks_of before ++ kept ∷ []
   pub emptied : IsEmptied g disk kept
 
 -- A cell was opened, whose servers have these disks: it is that of some choices of where a disk fails.
-pub record IsOpened {D V : Type 0} (g : Ghosts D) (db : ScriptDatabase) (clock : ℕ) (k : Kind) (given : List D) (running : OpenCell D V)
+pub record IsOpened {D V : Type 0} (g : Ghosts D) (db : ScriptDatabase) (clock : ℕ) (k : Kind) (given : List D) (running : OpenCell D V g)
     (text_before text_after : List ℕ) : Type 0 where
   pub choices : List Choice
   pub heard : AllByRecursion IsHeard choices

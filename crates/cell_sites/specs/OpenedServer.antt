@@ -42,7 +42,7 @@ pub record OpensDisk {D : Type 0} (g : Ghosts D) (failed : Bool) (before after :
   pub is : g.steps after ≡ g.steps before + rise
 
 -- which server stands there then: it was opened on a durable state; or it stays down, since the disk failed or memory ran out
-abbrev pub ServerIs : {D V : Type 0} → Ghosts D → Member → (clock : ℕ) → Durable → OpenEnd → D → Server D V → Type 0
+abbrev pub ServerIs : {D V : Type 0} (g : Ghosts D) → Member → (clock : ℕ) → Durable → OpenEnd → D → Server D V g → Type 0
 ServerIs g m clock d (opened.Up version) disk server =
     (server_node server ≡ Up (opened_server (length m.hosts) d clock)) × (version ≡ d.version) × IsSoundServer g m clock server × IsVersion d.version
 ServerIs g m clock d opened.StaysDown disk server = (server_node server ≡ Down) × (g.faults disk < g.faults (server_disk server))
@@ -50,7 +50,7 @@ ServerIs g m clock d opened.NoMemory disk server = server_node server ≡ Down
 
 -- A server was opened over a disk whose files stand for a durable state, done or not: they stand for it still.
 pub record ServerOpens {D V : Type 0} (g : Ghosts D) (m : Member) (clock : ℕ) (d : Durable) (end : OpenEnd) (disk : D)
-    (server : Server D V) : Type 0 where
+    (server : Server D V g) : Type 0 where
   pub stands : IsSomeAnd (g.files (server_disk server)) (StandsAs d)
   pub sound : IsSoundDisk g (server_disk server)
   pub calls : OpensDisk g (is_cut_short end) disk (server_disk server)

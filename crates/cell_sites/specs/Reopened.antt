@@ -23,17 +23,17 @@ reopened_marks k opened.NoMemory = []
 
 -- The server at a place, which was down, was opened over its disk; nothing else of the cell changed.
 pub record SiteReopened {D V : Type 0} (g : Ghosts D) (db : ScriptDatabase) (k : ℕ) (result : Result (Unit {0}) NoMemory)
-    (before after : OpenCell D V) (text_before text_after : List ℕ) : Type 0 where
+    (before after : OpenCell D V g) (text_before text_after : List ℕ) : Type 0 where
   pub clock : ℕ
   pub disk : D
   pub there : slice_get before.sites.items k ≡ Some (record { clock = clock; server = server.Down disk })
   pub end : OpenEnd
-  pub server : Server D V
+  pub server : Server D V g
   pub opens : (d : Durable) → IsSomeAnd (g.files disk) (StandsAs d) → ServerOpens g (member_at before k) clock d end disk server
   pub sites : after.sites.items ≡ set before.sites.items k (record { clock = clock; server = server })
   pub hosts : after.hosts.items ≡ before.hosts.items
   pub packets : after.packets ≡ before.packets
-  pub calls : after.calls.items ≡ before.calls.items
+  pub calls : after.calls ≡ before.calls
   pub outputs : after.outputs ≡ before.outputs
   pub told : result ≡ Ok tt → (end ≢ opened.NoMemory)
       × (text_after ≡ text_before ++ trace db before.hosts.items (map Tells (reopened_marks k end)))

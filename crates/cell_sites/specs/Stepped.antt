@@ -23,32 +23,32 @@ use Rattle.cell_sites.specs.Sites.{server_disk}
 use Rattle.cell_sites.specs.Sound.{IsSoundDisk, IsSoundNode}
 
 -- the server at a place of the cell
-abbrev pub member_at : {D V : Type 0} → OpenCell D V → ℕ → Member
+abbrev pub member_at : {D V : Type 0} {g : Ghosts D} → OpenCell D V g → ℕ → Member
 member_at running k = record { hosts = running.hosts.items; me = k }
 
 -- a server that is up, at its clock
-abbrev pub up_site : {D V : Type 0} → ℕ → Node D V → Site D V
+abbrev pub up_site : {D V : Type 0} {g : Ghosts D} → ℕ → Node D V g → Site D V g
 up_site clock node = record { clock = clock; server = Up node }
 
 -- a server stays sound over a sound disk
-pub record StaysSound {D V : Type 0} (g : Ghosts D) (m : Member) (clock : ℕ) (later : Node D V) : Type 0 where
+pub record StaysSound {D V : Type 0} (g : Ghosts D) (m : Member) (clock : ℕ) (later : Node D V g) : Type 0 where
   pub node : IsSoundNode g m clock later
   pub disk : IsSoundDisk g later.store.disk
 
 -- the step was made, or the server was halted before
-pub record IsMade {D V : Type 0} (g : Ghosts D) (db : Database) (m : Member) (clock : ℕ) (event : NodeEvent) (node later : Node D V)
+pub record IsMade {D V : Type 0} (g : Ghosts D) (db : Database) (m : Member) (clock : ℕ) (event : NodeEvent) (node later : Node D V g)
     (out : List Output) : Type 0 where
   pub end : StepEnd
-  pub ends : (end ≡ Done) ⊎ ((end ≡ Halted) × (node.halted ≡ true))
+  pub ends : (end ≡ Done) ⊎ ((end ≡ Halted) × (node.store.failed ≡ true))
   pub steps : Steps g db m end event clock (node_of node) (node_of later) out node.store.disk later.store.disk
   pub calls : Calls g node later end
   pub sound : StaysSound g m clock later
 
 -- the disk failed in it without a stop, and its files were opened anew
-pub record IsHalted {D V : Type 0} (g : Ghosts D) (db : Database) (m : Member) (clock : ℕ) (event : NodeEvent) (node later : Node D V)
+pub record IsHalted {D V : Type 0} (g : Ghosts D) (db : Database) (m : Member) (clock : ℕ) (event : NodeEvent) (node later : Node D V g)
     (out : List Output) : Type 0 where
   pub failed : D
-  pub was : node.halted ≡ false
+  pub was : node.store.failed ≡ false
   pub steps : Steps g db m Halted event clock (node_of node) (node_of later) out node.store.disk failed
   pub running : ¬ IsStopped (g.stop failed)
   pub fault : g.faults node.store.disk < g.faults failed
@@ -57,8 +57,8 @@ pub record IsHalted {D V : Type 0} (g : Ghosts D) (db : Database) (m : Member) (
 
 -- the disk stopped in it, and is as it stopped: a server can be opened over what a crash leaves of it
 pub record IsStoppedIn {D V : Type 0} (g : Ghosts D) (db : Database) (m : Member) (clock : ℕ) (event : NodeEvent)
-    (node later : Node D V) (out : List Output) : Type 0 where
-  pub was : node.halted ≡ false
+    (node later : Node D V g) (out : List Output) : Type 0 where
+  pub was : node.store.failed ≡ false
   pub steps : Steps g db m Halted event clock (node_of node) (node_of later) out node.store.disk later.store.disk
   pub calls : Calls g node later Halted
   pub stopped : IsStopped (g.stop later.store.disk)
@@ -66,13 +66,13 @@ pub record IsStoppedIn {D V : Type 0} (g : Ghosts D) (db : Database) (m : Member
   pub fault : g.faults node.store.disk < g.faults later.store.disk
 
 -- memory ran out in it, and nothing changed
-pub record IsShortIn {D V : Type 0} (g : Ghosts D) (db : Database) (m : Member) (clock : ℕ) (event : NodeEvent) (node later : Node D V)
+pub record IsShortIn {D V : Type 0} (g : Ghosts D) (db : Database) (m : Member) (clock : ℕ) (event : NodeEvent) (node later : Node D V g)
     (out : List Output) : Type 0 where
   pub steps : Steps g db m NoMemory event clock (node_of node) (node_of later) out node.store.disk later.store.disk
   pub sound : StaysSound g m clock later
 
 -- A server made a step of the rules at its clock, with these outputs, by how it ended for the cell.
-abbrev pub NodeStepped : {D V : Type 0} → Ghosts D → Database → Member → (clock : ℕ) → NodeEvent → SiteEnd → (node later : Node D V) → List Output
+abbrev pub NodeStepped : {D V : Type 0} (g : Ghosts D) → Database → Member → (clock : ℕ) → NodeEvent → SiteEnd → (node later : Node D V g) → List Output
     → Type 0
 NodeStepped g db m clock event ended.Made node later out = IsMade g db m clock event node later out
 NodeStepped g db m clock event ended.Halts node later out = IsHalted g db m clock event node later out
@@ -81,48 +81,48 @@ NodeStepped g db m clock event ended.NoMemory node later out = IsShortIn g db m 
 
 -- The server at a place made such a step, and is there still, whatever its disk did; nothing else of the cell changed.
 pub record UpStepped {D V : Type 0} (g : Ghosts D) (db : Database) (k : ℕ) (event : NodeEvent) (end : SiteEnd)
-    (before after : OpenCell D V) : Type 0 where
+    (before after : OpenCell D V g) : Type 0 where
   pub clock : ℕ
-  pub node : Node D V
+  pub node : Node D V g
   pub there : slice_get before.sites.items k ≡ Some (up_site clock node)
-  pub later : Node D V
+  pub later : Node D V g
   pub step : NodeStepped g db (member_at before k) clock event end node later after.outputs
   pub sites : after.sites.items ≡ set before.sites.items k (up_site clock later)
   pub hosts : after.hosts.items ≡ before.hosts.items
   pub packets : after.packets ≡ before.packets
-  pub calls : after.calls.items ≡ before.calls.items
+  pub calls : after.calls ≡ before.calls
 
 -- what becomes of a server after its step, and of what it put out: where its disk stopped, it is down, its disk is revived, and it puts
 -- nothing out
-abbrev pub Becomes : {D V : Type 0} → Ghosts D → SiteEnd → Node D V → List Output → Server D V → List Output → Type 0
+abbrev pub Becomes : {D V : Type 0} (g : Ghosts D) → SiteEnd → Node D V g → List Output → Server D V g → List Output → Type 0
 Becomes g ended.Stops later out server left = ((disk : _) × (server ≡ Down disk) × IsRevived g later.store.disk disk) × (left ≡ [])
 Becomes g _ later out server left = (server ≡ Up later) × (left ≡ out)
 
 -- The server at a place made such a step; nothing else of the cell changed.
 pub record SiteStepped {D V : Type 0} (g : Ghosts D) (db : Database) (k : ℕ) (event : NodeEvent) (end : SiteEnd)
-    (before after : OpenCell D V) : Type 0 where
+    (before after : OpenCell D V g) : Type 0 where
   pub clock : ℕ
-  pub node : Node D V
+  pub node : Node D V g
   pub there : slice_get before.sites.items k ≡ Some (up_site clock node)
-  pub later : Node D V
+  pub later : Node D V g
   pub out : List Output
   pub step : NodeStepped g db (member_at before k) clock event end node later out
-  pub server : Server D V
+  pub server : Server D V g
   pub becomes : Becomes g end later out server after.outputs
   pub sites : after.sites.items ≡ set before.sites.items k (record { clock = clock; server = server })
   pub hosts : after.hosts.items ≡ before.hosts.items
   pub packets : after.packets ≡ before.packets
-  pub calls : after.calls.items ≡ before.calls.items
+  pub calls : after.calls ≡ before.calls
 
 -- the server at a place was taken down, and its disk revived; nothing else of the cell changed
-pub record TakenDown {D V : Type 0} (g : Ghosts D) (k : ℕ) (before after : OpenCell D V) : Type 0 where
+pub record TakenDown {D V : Type 0} (g : Ghosts D) (k : ℕ) (before after : OpenCell D V g) : Type 0 where
   pub clock : ℕ
-  pub server : Server D V
+  pub server : Server D V g
   pub there : slice_get before.sites.items k ≡ Some (record { clock = clock; server = server })
   pub disk : D
   pub revived : IsRevived g (server_disk server) disk
   pub sites : after.sites.items ≡ set before.sites.items k (record { clock = clock; server = Down disk })
   pub hosts : after.hosts.items ≡ before.hosts.items
   pub packets : after.packets ≡ before.packets
-  pub calls : after.calls.items ≡ before.calls.items
+  pub calls : after.calls ≡ before.calls
   pub outputs : after.outputs ≡ before.outputs

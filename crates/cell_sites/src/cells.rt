@@ -17,16 +17,18 @@ ghost use Rattle.cell_sites.specs.Opened.{ArePartOpened, HasRoom, IsAdded, IsOpe
 ghost use Rattle.cell_sites.specs.Sites.{disks_of};
 ghost use Rattle.cell_sites.specs.declared.cells.OpenCell.{OpenCell as AnOpenCell};
 
+use crate::calls::Calls;
 use crate::openings::{OpenEnd, open_server};
 use crate::packets::Packets;
 use crate::sites::Site;
+use crate::turns::Turns;
 use cell_runs::{Mark, tell_mark};
 use db_image::{DraftWords, VecImage};
-use disk_base::StopDisk;
+use disk_base::{Disk, StopDisk};
 use script_laws::law_cells_go_on;
 use std::alloc::Global;
 use ubik_node::Outputs;
-use ubik_types::{Bytes, Host, NoMemory};
+use ubik_types::{Host, NoMemory};
 use write_laws::law_writes_spread;
 
 /// The host of the first server of a cell, 10.0.0.1. The others follow it.
@@ -35,14 +37,14 @@ const FIRST_HOST: u32 = 167_772_161;
 /// A cell that stands: its servers with their clocks and disks, and the packets between them. It runs one line of a script after
 /// the other. Servers are numbered from 1, as packets are.
 #[derive(Drop)]
-pub struct OpenCell<D: StopDisk, V: DraftWords> {
+pub struct OpenCell<D: Disk, V> {
     pub alloc: Global,
     pub hosts: Vec<Host>,
     pub sites: Vec<Site<D, V>>,
     pub packets: Packets,
     pub outputs: Outputs,
-    /// The calls that were asked, in their order. The id of a call is its place, counted from 1.
-    pub calls: Vec<Bytes>,
+    pub calls: Calls,
+    pub turns: Turns,
 }
 
 impl<D: StopDisk, V: DraftWords> OpenCell<D, V> {
@@ -67,7 +69,8 @@ impl<D: StopDisk, V: DraftWords> OpenCell<D, V> {
             sites,
             packets,
             outputs,
-            calls: Vec::new(alloc),
+            calls: Calls::new(alloc),
+            turns: Turns::new(),
         })
     }
 
@@ -152,7 +155,7 @@ fn tell_opened(server: u32, end: OpenEnd, text: &mut String) -> Result<(), NoMem
 
 /// A cell all of whose servers were opened stands for the opened cell of some choices.
 pub fn law_cell_opened<D: StopDisk, V: DraftWords>()
-    ensures { (db : ScriptDatabase) (clock : ℕ) (k : Kind) (given : List D) (running : AnOpenCell D V) (text_before text_after : List ℕ) →
+    ensures { (db : ScriptDatabase) (clock : ℕ) (k : Kind) (given : List D) (running : AnOpenCell D V D.Disk) (text_before text_after : List ℕ) →
         IsMoment clock → HasRoom running → length given ≡ length running.hosts.items →
         ArePartOpened D.Disk db clock given running text_before text_after →
         IsOpened D.Disk db clock k given running text_before text_after }

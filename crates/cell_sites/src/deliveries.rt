@@ -8,22 +8,19 @@ ghost use Rattle.cell_runs.specs.ScriptDatabase.{script_database};
 ghost use Rattle.cell_runs.specs.Script.{Cell, first_choice, delivered, run_in};
 ghost use Rattle.cell_script.specs.declared.lines.Line.TheVariants as line;
 ghost use Rattle.cell_script.specs.declared.lines.Why.{Why as AWhy};
-ghost use Rattle.cell_sites.specs.Copies.{HasNoBytes, IsVoteOrWrite};
 ghost use Rattle.cell_sites.specs.Disks.{AreRises, AreSettled};
 ghost use Rattle.cell_sites.specs.Sites.{IsModelledBy, disks_of, helds};
 ghost use Rattle.cell_sites.specs.Sound.{Bounds, IsSound};
 ghost use Rattle.cell_sites.specs.Told.{CellTold, IsRefused, IsShort};
 
+use crate::causes::Cause;
 use crate::cells::OpenCell;
 use crate::faults::LineFault;
 use cell_runs::{MAX_PACKETS, Mark, tell_mark};
 use db_image::DraftWords;
 use disk_base::StopDisk;
 use script_laws::law_cells_go_on;
-use std::alloc::Global;
-use ubik_calls::{Body, Packet};
-use ubik_node::NodeEvent;
-use ubik_types::{Host, NoMemory, bytes_of};
+use ubik_types::Host;
 
 impl<D: StopDisk, V: DraftWords> OpenCell<D, V> {
     /// Hands the packet of a number to its receiver, whether it waits or not. A server that is down loses it.
@@ -113,12 +110,12 @@ impl<D: StopDisk, V: DraftWords> OpenCell<D, V> {
     {
         law_cells_go_on();
         self.packets.hand_over(number);
-        let packet = copy_of(self.alloc, self.packets.packet(number))?;
-        let Some(k) = place_of(&self.hosts, packet.to) else {
+        let to = self.packets.packet(number).to;
+        let Some(k) = place_of(&self.hosts, to) else {
             unreachable!();
         };
         if self.is_up(k) {
-            return self.step(k, NodeEvent::Packet(packet), text);
+            return self.step(k, Cause::Packet(number), text);
         }
         let packet = number;
         tell_mark(text, Mark::Lost { packet })?;
@@ -131,116 +128,4 @@ fn place_of(hosts: &[Host], host: Host) -> Option<usize>
     ensures { result ≡ place_of hosts.now host }
 {
     hosts.iter().position(|other| other.0 == host.0)
-}
-
-/// A copy of a packet, and of the bytes that it carries.
-fn copy_of(alloc: Global, packet: &Packet) -> Result<Packet, NoMemory>
-    ensures { IfOk result (λ copy. copy ≡ packet.now) }
-{
-    let body = match &packet.body {
-        Body::Piece {
-            poll,
-            version,
-            total,
-            offset,
-            bytes,
-        } => Body::Piece {
-            poll: *poll,
-            version: *version,
-            total: *total,
-            offset: *offset,
-            bytes: bytes_of(alloc, bytes.as_slice())?,
-        },
-        Body::SendPiece {
-            poll,
-            version,
-            total,
-            offset,
-            bytes,
-        } => Body::SendPiece {
-            poll: *poll,
-            version: *version,
-            total: *total,
-            offset: *offset,
-            bytes: bytes_of(alloc, bytes.as_slice())?,
-        },
-        Body::PutPiece { new, number, bytes } => Body::PutPiece {
-            new: *new,
-            number: *number,
-            bytes: bytes_of(alloc, bytes.as_slice())?,
-        },
-        body => copy_without_bytes(body),
-    };
-    Ok(Packet {
-        from: packet.from,
-        to: packet.to,
-        body,
-    })
-}
-
-/// A copy of a body that carries no bytes.
-fn copy_without_bytes(body: &Body) -> Body
-    requires { HasNoBytes body.now }
-    ensures { result ≡ body.now }
-{
-    match *body {
-        Body::GetVersion { poll } => Body::GetVersion { poll },
-        Body::VersionIs { poll, version } => Body::VersionIs { poll, version },
-        Body::GetPiece {
-            poll,
-            version,
-            offset,
-        } => Body::GetPiece {
-            poll,
-            version,
-            offset,
-        },
-        Body::PieceKept {
-            poll,
-            version,
-            next,
-        } => Body::PieceKept {
-            poll,
-            version,
-            next,
-        },
-        Body::SetVersion { poll, old, new } => Body::SetVersion { poll, old, new },
-        Body::VersionKept { version } => Body::VersionKept { version },
-        _ => copy_of_vote_or_write(body),
-    }
-}
-
-/// A copy of a body of votes, or of one of writes that carries no bytes.
-fn copy_of_vote_or_write(body: &Body) -> Body
-    requires { IsVoteOrWrite body.now }
-    ensures { result ≡ body.now }
-{
-    match *body {
-        Body::Beacon {
-            start,
-            claim,
-            ready,
-            version,
-        } => Body::Beacon {
-            start,
-            claim,
-            ready,
-            version,
-        },
-        Body::Vote { start, yes } => Body::Vote { start, yes },
-        Body::Begin {
-            old,
-            new,
-            pieces,
-            len,
-        } => Body::Begin {
-            old,
-            new,
-            pieces,
-            len,
-        },
-        Body::Commit { old, new } => Body::Commit { old, new },
-        Body::Abort { new } => Body::Abort { new },
-        _ => unreachable!(),
-    }
 }

@@ -2,6 +2,8 @@
 ghost use Rattle.std.specs.Prelude.{◌≡◌, ◌<◌, ◌≤◌, ◌+◌, ◌-◌, ◌++◌, ◌∷◌, [], true, false, length};
 ghost use Rattle.std.specs.Prelude.{set, slice_get, slice_index_or, OnOk, OnErr, Some, None, IfOk, map, ℕ, Bool, List};
 ghost use Rattle.std.specs.Option.{option_map};
+ghost use Rattle.cell_model.specs.declared.events.NodeEvent.TheVariants as event;
+ghost use Rattle.cell_sites.specs.Sent.{packet_under};
 ghost use Rattle.cell_sites.specs.Swept.{HasSwept};
 ghost use Rattle.cell_sites.specs.SweptTo.{swept_to, AreSwept, AreWithin};
 ghost use Rattle.ubik_calls.specs.Length.{HasShortBytes, packet_length};
@@ -9,10 +11,12 @@ ghost use Rattle.cell_runs.specs.declared.endings.Ending.TheVariants.{Limit};
 ghost use Rattle.ubik_calls.specs.declared.packets.Packet.{Packet};
 ghost use Rattle.cell_runs.specs.Script.{bytes_of, dropped_of, first_waiting, is_of_host, passed_by};
 
+use crate::sent::Sent;
 use cell_runs::{MAX_PACKET_BYTES, MAX_PACKETS, Which};
 use std::alloc::Global;
 use std::marker::Model;
 use ubik_calls::{Packet, packet_len};
+use ubik_node::NodeEvent;
 use ubik_types::{Host, NoMemory};
 
 /// Up to which place no packet to or from a host waits.
@@ -27,7 +31,7 @@ pub struct Swept {
 /// host the place below which none of its packets waits.
 #[derive(Drop)]
 pub struct Packets {
-    sent: Vec<Packet>,
+    sent: Vec<Sent>,
     handed: Vec<bool>,
     bytes: u64,
     low: usize,
@@ -98,7 +102,7 @@ impl Packets {
     {
         let bytes = self.bytes + packet_len(&packet);
         self.handed.push(false)?;
-        if self.sent.push(packet).is_err() {
+        if self.sent.push(Sent::new(packet)).is_err() {
             let _ = self.handed.pop();
             return Err(NoMemory);
         }
@@ -112,7 +116,16 @@ impl Packets {
         requires sent { number ≤ length self.now.sent }
         ensures { slice_get self.now.sent (number - 1) ≡ Some result.now }
     {
-        &self.sent[number as usize - 1]
+        self.sent[number as usize - 1].packet()
+    }
+
+    /// The same packet as the event that it is where it arrives.
+    pub fn event(&self, number: u32) -> &NodeEvent
+        requires some { 0 < number }
+        requires sent { number ≤ length self.now.sent }
+        ensures { result.now ≡ event.Packet (packet_under self.now.sent number) }
+    {
+        self.sent[number as usize - 1].event()
     }
 
     /// The packet of a number waits no longer.
@@ -179,14 +192,14 @@ fn swept_below(swept: &[Swept], host: Host) -> usize
 }
 
 /// Packets to and from a host wait no longer, from a place on.
-fn drop_from(sent: &[Packet], handed: &mut [bool], host: Host, from: usize)
+fn drop_from(sent: &[Sent], handed: &mut [bool], host: Host, from: usize)
     requires each { length handed.old ≡ length sent.now }
     requires within { from ≤ length sent.now }
     requires before { HasSwept sent.now handed.old host from }
     ensures { handed.new ≡ dropped_of host sent.now handed.old }
 {
     for k in from..sent.len() {
-        let packet = &sent[k];
+        let packet = sent[k].packet();
         if packet.from.0 == host.0 || packet.to.0 == host.0 {
             handed[k] = true;
         }

@@ -3,12 +3,12 @@ ghost use Rattle.std.specs.Prelude.{◌≡◌};
 ghost use Rattle.cell_sites.specs.Sites.{server_disk};
 
 use db_image::DraftWords;
-use disk_base::StopDisk;
+use disk_base::{Disk, StopDisk};
 use ubik_node::Node;
 
 /// A server, with its disk.
 #[derive(Drop)]
-pub enum Server<D: StopDisk, V: DraftWords> {
+pub enum Server<D: Disk, V> {
     /// It is down.
     Down(D),
     /// It is up, or halted.
@@ -29,7 +29,7 @@ impl<D: StopDisk, V: DraftWords> Server<D, V> {
 
 /// A server with its clock, in seconds.
 #[derive(Drop)]
-pub struct Site<D: StopDisk, V: DraftWords> {
+pub struct Site<D: Disk, V> {
     pub clock: u32,
     pub server: Server<D, V>,
 }

@@ -6,6 +6,7 @@ ghost use Rattle.cell_model.specs.World.{Trigger, occasion, packet_in};
 ghost use Rattle.cell_sites.specs.Telling.{IsNotShort, MayBeTold, WholeTold, told_of};
 ghost use Rattle.cell_sites.specs.Traffic.{sent_all};
 ghost use Rattle.cell_sites.specs.Calls.{AnswersOf, AsksOf};
+ghost use Rattle.cell_sites.specs.Causes.{IsThere, event_at};
 ghost use Rattle.cell_runs.specs.declared.endings.Ending.TheVariants as ending;
 ghost use Rattle.cell_runs.specs.declared.endings.Which.{Which as AWhich};
 ghost use Rattle.cell_runs.specs.ScriptDatabase.{script_database};
@@ -24,6 +25,7 @@ ghost use Rattle.ubik_node.specs.Node.{HoldsStates, Needs, node_of, own_member};
 ghost use Rattle.write_laws.specs.Keeping.{IsBrought};
 ghost use Rattle.ubik_types.specs.Moment.{IsMoment};
 
+use crate::causes::{Cause, event_of};
 use crate::cells::OpenCell;
 use crate::faults::LineFault;
 use crate::sites::Server;
@@ -35,7 +37,7 @@ use flight_laws::law_writes_stand;
 use recovery_laws::law_images_stand;
 use script_laws::law_cells_go_on;
 use ubik_node::{Node, NodeEvent, Outputs, StepEnd};
-use ubik_types::{Bytes, NoMemory, bytes_of};
+use ubik_types::{Bytes, NoMemory};
 use write_laws::{law_replies_tell_memory, law_writes_spread};
 
 impl<D: StopDisk, V: DraftWords> OpenCell<D, V> {
@@ -66,7 +68,7 @@ impl<D: StopDisk, V: DraftWords> OpenCell<D, V> {
     {
         law_cells_go_on();
         let k = self.place_up(server)?;
-        self.step(k, NodeEvent::BeaconTurn, text)
+        self.step(k, Cause::BeaconTurn, text)
     }
 
     /// A recovery turn of a server.
@@ -96,7 +98,7 @@ impl<D: StopDisk, V: DraftWords> OpenCell<D, V> {
     {
         law_cells_go_on();
         let k = self.place_up(server)?;
-        self.step(k, NodeEvent::RecoverTurn, text)
+        self.step(k, Cause::RecoverTurn, text)
     }
 
     /// A call at a server. Its id is the number of calls that were asked, this one with them.
@@ -108,7 +110,7 @@ impl<D: StopDisk, V: DraftWords> OpenCell<D, V> {
         text: &mut String,
     ) -> Result<(), LineFault>
         requires sound { (bounds : Bounds) × IsSound D.Disk V.standing.database bounds self.old }
-        requires next { id ≡ length self.old.calls.items + 1 }
+        requires next { id ≡ length self.old.calls + 1 }
         ensures told { result ≡ Ok tt → (given : List ℕ) (c : Cell) → IsModelledBy D.Disk V.standing.database given self.old c →
             CellTold D.Disk (script_database V.standing.database V.words) given
             (λ choices. asked_at (script_database V.standing.database V.words) c (first_choice choices) id call (Some server))
@@ -133,59 +135,59 @@ impl<D: StopDisk, V: DraftWords> OpenCell<D, V> {
     {
         law_cells_go_on();
         let k = self.place_up(server)?;
-        let asked = bytes_of(self.alloc, call.as_slice())?;
-        self.keep(call)?;
-        self.step(k, NodeEvent::Ask { id, call: asked }, text)
+        self.keep(id, call)?;
+        self.step(k, Cause::Call(id), text)
     }
 
     /// Keeps a call, which may be answered long after.
-    fn keep(&mut self, call: Bytes) -> Result<(), NoMemory>
-        ensures kept { OnOk result (self.new.calls.items ≡ self.old.calls.items ++ call ∷ []) }
+    fn keep(&mut self, id: u32, call: Bytes) -> Result<(), NoMemory>
+        requires { id ≡ length self.old.calls + 1 }
+        ensures kept { OnOk result (self.new.calls ≡ self.old.calls ++ call ∷ []) }
         ensures same { self.new ≡ record self.old { calls = self.new.calls } }
     {
-        self.calls.push(call)?;
-        Ok(())
+        self.calls.push(id, call)
     }
 
     /// A step of a server that is up, at its clock.
     pub(crate) fn step(
         &mut self,
         k: usize,
-        event: NodeEvent,
+        cause: Cause,
         text: &mut String,
     ) -> Result<(), LineFault>
         requires sound { (bounds : Bounds) × IsSound D.Disk V.standing.database bounds self.old }
         requires up { IsUpAt self.old k }
-        requires brought { IsBrought (member_at self.old k) event }
-        requires asks { AsksOf self.old.calls.items event }
+        requires there { IsThere self.old cause }
+        requires brought { IsBrought (member_at self.old k) (event_at self.old cause) }
+        requires asks { AsksOf self.old.calls (event_at self.old cause) }
         ensures told { result ≡ Ok tt →
             (given : List ℕ) (c : Cell) (trigger : Trigger) → IsModelledBy D.Disk V.standing.database given self.old c →
-            occasion c.run.world trigger ≡ Some (k, event) →
+            occasion c.run.world trigger ≡ Some (k, event_at self.old cause) →
             CellTold D.Disk (script_database V.standing.database V.words) given
             (λ choices. Ok (stepped (script_database V.standing.database V.words) c (first_choice choices) trigger))
             None self.old self.new (string_bytes text.old) (string_bytes text.new) }
         ensures limit { (which : AWhich) → result ≡ Err (LineFault.Limit which) →
             (given : List ℕ) (c : Cell) (trigger : Trigger) → IsModelledBy D.Disk V.standing.database given self.old c →
-            occasion c.run.world trigger ≡ Some (k, event) →
+            occasion c.run.world trigger ≡ Some (k, event_at self.old cause) →
             CellTold D.Disk (script_database V.standing.database V.words) given
             (λ choices. Ok (stepped (script_database V.standing.database V.words) c (first_choice choices) trigger))
             (Some (ending.Limit which)) self.old self.new (string_bytes text.old) (string_bytes text.new) }
         ensures refused { (why : AWhy) → result ≢ Err (LineFault.Refused why) }
         ensures short { result ≡ Err LineFault.NoMemory →
             (given : List ℕ) (c : Cell) (trigger : Trigger) → IsModelledBy D.Disk V.standing.database given self.old c →
-            occasion c.run.world trigger ≡ Some (k, event) →
+            occasion c.run.world trigger ≡ Some (k, event_at self.old cause) →
             IsShort D.Disk V.standing.database given
             (λ choices. Ok (stepped (script_database V.standing.database V.words) c (first_choice choices) trigger)) c self.old self.new }
         ensures steady { result ≡ Ok tt → (bound : ℕ) → IsSteady D.Disk bound self.old → IsSteady D.Disk bound self.new }
         ensures keeps { result ≡ Ok tt → Keeps V.standing.database self.new }
-        ensures calls { self.new.calls.items ≡ self.old.calls.items }
+        ensures calls { self.new.calls ≡ self.old.calls }
         ensures never_falls { AreRises 0 [] (helds D.Disk self.old) (helds D.Disk self.new) }
         ensures settled { AreSettled D.Disk (disks_of self.new) }
         ensures same { length self.new.sites.items ≡ length self.old.sites.items }
     {
         law_writes_spread();
         law_replies_tell_memory();
-        match self.step_site(k, event) {
+        match self.step_site(k, cause) {
             SiteEnd::NoMemory => Err(LineFault::NoMemory),
             SiteEnd::Made => self.tell_step(k, false, text),
             SiteEnd::Halts => self.tell_step(k, true, text),
@@ -201,11 +203,11 @@ impl<D: StopDisk, V: DraftWords> OpenCell<D, V> {
     fn tell_step(&mut self, k: usize, halts: bool, text: &mut String) -> Result<(), LineFault>
         requires place { k < 20 }
         requires short { All MayBeTold self.old.outputs }
-        ensures told { result ≡ Ok tt → (shown : List Shown) → outputs_of shown ≡ self.old.outputs → All (AnswersOf self.old.calls.items) shown →
+        ensures told { result ≡ Ok tt → (shown : List Shown) → outputs_of shown ≡ self.old.outputs → All (AnswersOf self.old.calls) shown →
             WholeTold (script_database V.standing.database V.words) self.old.hosts.items k halts
             (record { text = string_bytes text.old; sent = self.old.packets.sent }) shown (string_bytes text.new) self.new.packets.sent }
         ensures limit { (which : AWhich) → result ≡ Err (LineFault.Limit which) →
-            (shown : List Shown) → outputs_of shown ≡ self.old.outputs → All (AnswersOf self.old.calls.items) shown →
+            (shown : List Shown) → outputs_of shown ≡ self.old.outputs → All (AnswersOf self.old.calls) shown →
             told_of (script_database V.standing.database V.words) self.old.hosts.items k
             (record { text = string_bytes text.old; sent = self.old.packets.sent }) shown
             ≡ record { after = record { text = string_bytes text.new; sent = self.new.packets.sent }; ending = Some (ending.Limit which) } }
@@ -215,7 +217,7 @@ impl<D: StopDisk, V: DraftWords> OpenCell<D, V> {
         ensures emptied { result ≡ Ok tt → self.new.outputs ≡ [] }
         ensures hosts { self.new.hosts.items ≡ self.old.hosts.items }
         ensures sites { self.new.sites.items ≡ self.old.sites.items }
-        ensures calls { self.new.calls.items ≡ self.old.calls.items }
+        ensures calls { self.new.calls ≡ self.old.calls }
     {
         if lacks_memory(&self.outputs) {
             return Err(LineFault::NoMemory);
@@ -237,13 +239,14 @@ impl<D: StopDisk, V: DraftWords> OpenCell<D, V> {
 
     /// A step of a server that is up, at its clock, which leaves what it put out. Where its disk fails, the files are opened anew; where that
     /// stopped, the server is down, and what it put out is dropped.
-    fn step_site(&mut self, k: usize, event: NodeEvent) -> SiteEnd
+    fn step_site(&mut self, k: usize, cause: Cause) -> SiteEnd
         requires sound { (bounds : Bounds) × IsSound D.Disk V.standing.database bounds self.old }
         requires up { IsUpAt self.old k }
-        requires brought { IsBrought (member_at self.old k) event }
-        ensures { SiteStepped D.Disk V.standing.database k event result self.old self.new }
+        requires there { IsThere self.old cause }
+        requires brought { IsBrought (member_at self.old k) (event_at self.old cause) }
+        ensures { SiteStepped D.Disk V.standing.database k (event_at self.old cause) result self.old self.new }
     {
-        let end = self.step_up(k, event);
+        let end = self.step_up(k, cause);
         if let SiteEnd::Stops = end {
             drop_outputs(&mut self.outputs);
             self.take_down(k);
@@ -252,14 +255,16 @@ impl<D: StopDisk, V: DraftWords> OpenCell<D, V> {
     }
 
     /// The step alone: a server whose disk stopped is up still.
-    fn step_up(&mut self, k: usize, event: NodeEvent) -> SiteEnd
+    fn step_up(&mut self, k: usize, cause: Cause) -> SiteEnd
         requires sound { (bounds : Bounds) × IsSound D.Disk V.standing.database bounds self.old }
         requires up { IsUpAt self.old k }
-        requires brought { IsBrought (member_at self.old k) event }
-        ensures { UpStepped D.Disk V.standing.database k event result self.old self.new }
+        requires there { IsThere self.old cause }
+        requires brought { IsBrought (member_at self.old k) (event_at self.old cause) }
+        ensures { UpStepped D.Disk V.standing.database k (event_at self.old cause) result self.old self.new }
     {
         law_images_stand::<V>();
         law_writes_stand::<V>();
+        let event = event_of(cause, &self.packets, &self.calls, &self.turns);
         let site = &mut self.sites[k];
         let clock = site.clock;
         let Server::Up(node) = &mut site.server else {
@@ -293,22 +298,22 @@ pub enum SiteEnd {
 fn step_node<D: StopDisk, V: DraftWords>(
     node: &mut Node<D, V>,
     clock: u32,
-    event: NodeEvent,
+    event: &NodeEvent,
     out: &mut Outputs,
 ) -> SiteEnd
     requires moment { IsMoment clock }
     requires place { (own_member node.old).me < cell_size (own_member node.old) }
     requires sound { IsSoundNode D.Disk (own_member node.old) clock node.old }
-    requires built { IsBuilt event }
-    requires cuts { CutsNone V.standing.database (own_member node.old) event clock (node_of node.old) }
-    requires needs { Needs V.standing.database (own_member node.old) (node_of node.old) event clock (D.files node.old.store.disk) }
+    requires built { IsBuilt event.now }
+    requires cuts { CutsNone V.standing.database (own_member node.old) event.now clock (node_of node.old) }
+    requires needs { Needs V.standing.database (own_member node.old) (node_of node.old) event.now clock (D.files node.old.store.disk) }
     requires holds { HoldsStates V.standing (node_of node.old) }
     requires disk { IsSoundDisk D.Disk node.old.store.disk }
     requires empty { out.old ≡ [] }
-    ensures { NodeStepped D.Disk V.standing.database (own_member node.old) clock event result node.old node.new out.new }
+    ensures { NodeStepped D.Disk V.standing.database (own_member node.old) clock event.now result node.old node.new out.new }
 {
     let was_halted = node.halted();
-    match node.step(clock, event, out) {
+    match node.step_on(clock, event, out) {
         StepEnd::Done => SiteEnd::Made,
         StepEnd::NoMemory => SiteEnd::NoMemory,
         StepEnd::Halted if was_halted => SiteEnd::Made,

@@ -11,6 +11,7 @@ ghost use Rattle.cell_sites.specs.Calls.{AnswersOf, call_for};
 ghost use Rattle.cell_sites.specs.Telling.{IsNotShort, MayBeTold, passed_after, passed_in, told_of, with_shown};
 ghost use Rattle.cell_sites.specs.Traffic.{sent_all, sent_maybe};
 
+use crate::calls::Calls;
 use crate::faults::LineFault;
 use crate::packets::Packets;
 use cell_model::Output;
@@ -18,7 +19,7 @@ use cell_runs::tell_output;
 use db_image::DraftWords;
 use ubik_calls::Reply;
 use ubik_node::Outputs;
-use ubik_types::{Bytes, Host, NoMemory};
+use ubik_types::{Host, NoMemory};
 
 /// Whether some reply among these is for want of memory.
 pub fn lacks_memory(out: &Outputs) -> bool
@@ -53,7 +54,7 @@ pub fn tell_outputs<V: DraftWords>(
     text: &mut String,
     hosts: &[Host],
     server: u32,
-    calls: &[Bytes],
+    calls: &Calls,
     out: &mut Outputs,
     packets: &mut Packets,
 ) -> Result<(), LineFault>
@@ -81,7 +82,7 @@ fn tell_one<V: DraftWords>(
     text: &mut String,
     hosts: &[Host],
     server: u32,
-    calls: &[Bytes],
+    calls: &Calls,
     output: Output,
     packets: &mut Packets,
 ) -> Result<(), LineFault>
@@ -106,16 +107,13 @@ fn tell_one<V: DraftWords>(
 }
 
 /// The call that an output answers; no bytes where it is no reply.
-fn call_for<'a>(calls: &'a [Bytes], output: &Output) -> &'a [u8]
+fn call_for<'a>(calls: &'a Calls, output: &Output) -> &'a [u8]
     ensures { result.now ≡ call_for calls.now output.now }
 {
     let Output::Reply { id, .. } = output else {
         return &[];
     };
-    match calls.get((*id as usize).saturating_sub(1)) {
-        Some(call) => call.as_slice(),
-        None => &[],
-    }
+    calls.call(*id)
 }
 
 /// Whether an output may be told: its packet passes no limit.

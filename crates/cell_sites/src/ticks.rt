@@ -65,7 +65,7 @@ impl<D: StopDisk, V: DraftWords> OpenCell<D, V> {
 
 /// The clocks of these servers go forward.
 fn tick_sites<D: StopDisk, V: DraftWords>(sites: &mut [Site<D, V>], seconds: u32)
-    requires { (k : ℕ) (site : ASite D V) → slice_get sites.old k ≡ Some site → site.clock + seconds ≤ MAX_MOMENT }
+    requires { (k : ℕ) (site : ASite D V D.Disk) → slice_get sites.old k ≡ Some site → site.clock + seconds ≤ MAX_MOMENT }
     ensures { sites.new ≡ map (ticked_on seconds) sites.old }
 {
     for site in sites.iter_mut() {

@@ -27,7 +27,7 @@ use Rattle.ubik_cell.specs.LineRuns.{CellDone, KeepsCell}
 
 -- ---- what stays sound
 
-sites_raised : {D V : Type 0} (g : Ghosts D) (hosts : List Host) (place bound later : ℕ) (sites : List (Site D V)) → bound ≤ later
+sites_raised : {D V : Type 0} (g : Ghosts D) (hosts : List Host) (place bound later : ℕ) (sites : List (Site D V g)) → bound ≤ later
     → AreSound g hosts place bound sites → AreSound g hosts place later sites
 sites_raised g hosts place bound later [] more sound = tt
 sites_raised g hosts place bound later (site ∷ sites) more sound = (
@@ -36,7 +36,7 @@ sites_raised g hosts place bound later (site ∷ sites) more sound = (
 )
 
 -- at a later clock
-pub raised : {D V : Type 0} (g : Ghosts D) (db : Database) (bounds : Bounds) (later : ℕ) (running : OpenCell D V) → bounds.clock ≤ later
+pub raised : {D V : Type 0} (g : Ghosts D) (db : Database) (bounds : Bounds) (later : ℕ) (running : OpenCell D V g) → bounds.clock ≤ later
     → IsSound g db bounds running → IsSound g db (record bounds { clock = later }) running
 raised g db bounds later running more sound = record {
   steady = record {
@@ -59,7 +59,7 @@ no_rises k (disk ∷ disks) = (omega arith, no_rises (k + 1) disks)
 
 -- ---- what a line does
 
-module _ {D V : Type 0} (g : Ghosts D) (before after : OpenCell D V) where
+module _ {D V : Type 0} (g : Ghosts D) (before after : OpenCell D V g) where
   pub kept_of : {standing : Standing} (result : Result (Unit {0}) LineFault) (seconds : ℕ) → seconds ≤ MAX_TICK
       → (result ≡ Ok tt → (bounds : Bounds) → IsSound g standing.database bounds before
       → IsSound g standing.database (record bounds { clock = bounds.clock + seconds }) after)
@@ -128,10 +128,10 @@ module _ {D V : Type 0} (g : Ghosts D) (before after : OpenCell D V) where
         subst P (sym is) (cell_done db (λ c choices. run_in db c choices k) result text_before text_after told limit refused quiet short)
 
 -- a line that does nothing
-pub kept_same : {D V : Type 0} {standing : Standing} (g : Ghosts D) (result : Result (Unit {0}) LineFault) (running : OpenCell D V) → KeepsCell g standing result running running
+pub kept_same : {D V : Type 0} {standing : Standing} (g : Ghosts D) (result : Result (Unit {0}) LineFault) (running : OpenCell D V g) → KeepsCell g standing result running running
 kept_same g result running = kept_still g running running result (λ done bounds is. is) (no_rises 0 (helds g running)) refl
 
-pub nothing_told : {D V : Type 0} (g : Ghosts D) (db : ScriptDatabase) (running : OpenCell D V) (text : List ℕ) (given : List ℕ) (c : Cell)
+pub nothing_told : {D V : Type 0} (g : Ghosts D) (db : ScriptDatabase) (running : OpenCell D V g) (text : List ℕ) (given : List ℕ) (c : Cell)
     → IsModelledBy g db.database given running c → CellTold g db given (λ choices. run_in db c choices line.Nothing) None running running text text
 nothing_told g db running text given c stands = record {
   choices = sound_choices;

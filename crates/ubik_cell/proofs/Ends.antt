@@ -39,7 +39,7 @@ pub as_written : (P : List ℕ → Option (List ℕ) → Type 0) (w : Option (Li
 as_written P None all = tt
 as_written P (Some written) all = all written
 
-module _ {D : Type 0} (g : Ghosts D) (left : Option (List ℕ)) (after : Option (List ℕ)) (run next : ScriptRun D) where
+module _ {D : Type 0} (g : Ghosts D) (left : Option (List ℕ)) (after : Option (List ℕ)) (run next : ScriptRun D g) where
   -- what a line did to a run before it
   pub record ReadyAt (result : Result (Unit {0}) RunEnd) (bytes given script before written : List ℕ) : Type 0 where
     pub line : List ℕ

@@ -32,14 +32,14 @@ use Rattle.ubik_cell.proofs.LineDisks.{counted_causes, fewer_rises, first_causes
 use Rattle.db_image.specs.Standing.{Standing}
 
 -- the cell of a stage at which a run stands
-pub cell_of : {D V : Type 0} (g : Ghosts D) (db : ScriptDatabase) (given : List ℕ) (running : OpenCell D V) (cell : Option Cell)
+pub cell_of : {D V : Type 0} (g : Ghosts D) (db : ScriptDatabase) (given : List ℕ) (running : OpenCell D V g) (cell : Option Cell)
     → CellStandsFor g (only db) given (Some running) cell
     → (c : Cell) × (cell ≡ Some c) × IsModelledBy g db.database (take (length running.sites.items) given) running c
 cell_of g db given running None stands = absurd stands
 cell_of g db given running (Some c) stands = (c, refl, stands)
 
 -- what a cell's disks hold after a line
-holds_after : {D V : Type 0} (g : Ghosts D) (db : Database) (given : List ℕ) (ended : Option Ending) (running : OpenCell D V) (c : Cell)
+holds_after : {D V : Type 0} (g : Ghosts D) (db : Database) (given : List ℕ) (ended : Option Ending) (running : OpenCell D V g) (c : Cell)
     → IsAfter g db given ended running c → HoldRun db given false c (helds g running)
 holds_after g db given None running c after = after.disks
 holds_after g db given (Some ending) running c after = after
@@ -52,31 +52,31 @@ ok_of P (Err e) x is holds = absurd (cc)
 module _ {D V : Type 0} {standing : Standing} (g : Ghosts D) (db : ScriptDatabase) (l : Line) (run : Stage → Cell → Choices → Run_or_why) (later : Stage → Stage)
     (run_is : (st : Stage) (c : Cell) (choices : Choices) → st.cell ≡ Some c → run_of_line db l st choices ≡ in_stage (later st) (run st c choices))
     (hosts : (st : Stage) (c : Cell) (choices : Choices) → IfOk (run st c choices) (λ r. r.cell.run.world.hosts ≡ c.run.world.hosts))
-    (before : CellRun D V) (running : OpenCell D V) (here : before.cell ≡ Some running) (sound : IsSoundRun g standing before)
+    (before : CellRun D V g) (running : OpenCell D V g) (here : before.cell ≡ Some running) (sound : IsSoundRun g standing before)
     (given : List ℕ) (st : Stage) (near : IsNear g (only db) given 0 before st) where
   -- the counts of the disks of the cell before the script
   abbrev own : List ℕ
   own = take (length running.sites.items) given
 
   stands : (c : Cell) × (st.cell ≡ Some c) × IsModelledBy g db.database own running c
-  stands = cell_of g db given running st.cell (subst (λ (o : Option (OpenCell D V)). CellStandsFor g (only db) given o st.cell) here near.cell)
+  stands = cell_of g db given running st.cell (subst (λ (o : Option (OpenCell D V g)). CellStandsFor g (only db) given o st.cell) here near.cell)
 
-  abbrev Told : Option Ending → OpenCell D V → List ℕ → List ℕ → Type 0
+  abbrev Told : Option Ending → OpenCell D V g → List ℕ → List ℕ → Type 0
   Told ended after text_before text_after =
       (given : List ℕ) (c : Cell) → IsModelledBy g db.database given running c → CellTold g db given (run st c) ended running after text_before text_after
 
   causes_before : (items : List TraceItem) → HasCauses g before.cell items → AreCauses 0 items (helds g running)
-  causes_before items causes = subst (λ (o : Option (OpenCell D V)). HasCauses g o items) here causes
+  causes_before items causes = subst (λ (o : Option (OpenCell D V g)). HasCauses g o items) here causes
 
   abbrev others : List Held
   others = all_held g before.spare.items
 
   -- what was told before, after a line that leaves as many disks
-  kept_causes : (after : OpenCell D V) (items : List TraceItem) (c : Option Cell) → length after.sites.items ≡ length running.sites.items
+  kept_causes : (after : OpenCell D V g) (items : List TraceItem) (c : Option Cell) → length after.sites.items ≡ length running.sites.items
       → AreRises 0 items (helds g running) (helds g after) → CellStandsFor g (only db) given before.cell c → (told : List TraceItem)
       → HasCauses g before.cell told → HeldCauses c told (helds g after ++ others)
   kept_causes after items c same rises at told causes =
-      let there = cell_of g db given running c (subst (λ (o : Option (OpenCell D V)). CellStandsFor g (only db) given o c) here at) in
+      let there = cell_of g db given running c (subst (λ (o : Option (OpenCell D V g)). CellStandsFor g (only db) given o c) here at) in
       let count : length there.0.run.world.sites ≡ length (helds g after) =
       length-read there.0.run.world.sites (helds g running) there.2.disks.read ∙ length-helds g running.sites.items ∙ sym same
       ∙ sym (length-helds g after.sites.items) in
@@ -94,16 +94,16 @@ module _ {D V : Type 0} {standing : Standing} (g : Ghosts D) (db : ScriptDatabas
 
   -- the disks behind those of the cell
   spare_given : counts_of g before.spare.items ≡ drop (length running.sites.items) given
-  spare_given = near.spare ∙ ap (λ (o : Option (OpenCell D V)). drop (sites_in o) given) here
+  spare_given = near.spare ∙ ap (λ (o : Option (OpenCell D V g)). drop (sites_in o) given) here
 
   -- disks that hold a run of the cell
-  stage_holds : (short : Bool) (after : OpenCell D V) (c : Cell) → length after.sites.items ≡ length running.sites.items
+  stage_holds : (short : Bool) (after : OpenCell D V g) (c : Cell) → length after.sites.items ≡ length running.sites.items
       → HoldRun db.database own short c (helds g after) → HoldStage (only db) given short (Some c) (helds g after ++ others)
   stage_holds short after c same holds =
       hold_cell (only db) given short c (length running.sites.items) (helds g after) others (sym same ∙ sym (length-helds g after.sites.items)) holds
       (subst (λ (l : List ℕ). AreUnwritten l others) spare_given (unwritten g before.spare.items sound.spare))
 
-  told_line : (asks : ℕ) (ended : Option Ending) (after : OpenCell D V) (text_before text_after : List ℕ) → Told ended after text_before text_after
+  told_line : (asks : ℕ) (ended : Option Ending) (after : OpenCell D V g) (text_before text_after : List ℕ) → Told ended after text_before text_after
       → length after.sites.items ≡ length running.sites.items
       → (ended ≡ None → ((later st).lines ≡ before.lines + 1) × ((later st).asks ≡ asks))
       → StageTold g (only db) given (run_of_line db l st) ended before (record before { cell = Some after; asks = asks }) text_before text_after
@@ -140,7 +140,7 @@ module _ {D V : Type 0} {standing : Standing} (g : Ghosts D) (db : ScriptDatabas
       → IsRefusedLine why (run_of_line db l st)
   refused_line why refused = λ choices. run_is st stands.0 choices stands.1 ∙ ap (in_stage (later st)) (refused own stands.0 stands.2 choices)
 
-  short_by : (after : OpenCell D V) (c : Cell) → st.cell ≡ Some c → length after.sites.items ≡ length running.sites.items
+  short_by : (after : OpenCell D V g) (c : Cell) → st.cell ≡ Some c → length after.sites.items ≡ length running.sites.items
       → IsShort g db.database own (run st c) c running after
       → HoldStage (only db) given true st.cell (helds g after ++ others)
       ⊎ ShortAfter g (only db) given (run_of_line db l st) before (record before { cell = Some after })
@@ -156,7 +156,7 @@ module _ {D V : Type 0} {standing : Standing} (g : Ghosts D) (db : ScriptDatabas
         (more_causes 0 items ran.ran.items (helds g running) (helds g after) (causes_before items causes) ran.causes);
   })
 
-  short_line : (after : OpenCell D V) → length after.sites.items ≡ length running.sites.items → AreRises 0 [] (helds g running) (helds g after)
+  short_line : (after : OpenCell D V g) → length after.sites.items ≡ length running.sites.items → AreRises 0 [] (helds g running) (helds g after)
       → ((given : List ℕ) (c : Cell) → IsModelledBy g db.database given running c → IsShort g db.database given (run st c) c running after)
       → StageShort g (only db) given (run_of_line db l st) st before (record before { cell = Some after })
   short_line after same rises short = record {
@@ -195,7 +195,7 @@ no_ask_is db l no_ask st c choices is =
 -- ---- what stays
 
 -- a line that leaves the cell of a run so, with so many asks
-pub kept_run : {D V : Type 0} {standing : Standing} (g : Ghosts D) (result : Result (Unit {0}) LineFault) (before : CellRun D V) (running after : OpenCell D V) (asks : ℕ)
+pub kept_run : {D V : Type 0} {standing : Standing} (g : Ghosts D) (result : Result (Unit {0}) LineFault) (before : CellRun D V g) (running after : OpenCell D V g) (asks : ℕ)
     → before.cell ≡ Some running → IsSoundRun g standing before → before.lines < MAX_LINES → asks ≤ before.lines + 1
     → length after.sites.items ≡ length running.sites.items
     → (result ≡ Ok tt → IsSound g standing.database (bounds_after before.lines before.asks) running
@@ -223,7 +223,7 @@ next_bound : (lines : ℕ) → clock_bound lines + MAX_TICK ≡ clock_bound (lin
 next_bound lines = omega arith
 
 -- a line that asks nothing
-pub kept_line : {D V : Type 0} {standing : Standing} (g : Ghosts D) (result : Result (Unit {0}) LineFault) (before : CellRun D V) (running after : OpenCell D V)
+pub kept_line : {D V : Type 0} {standing : Standing} (g : Ghosts D) (result : Result (Unit {0}) LineFault) (before : CellRun D V g) (running after : OpenCell D V g)
     → before.cell ≡ Some running → IsSoundRun g standing before → before.lines < MAX_LINES
     → KeepsCell g standing result running after → KeepsRun g standing result before (record before { cell = Some after; asks = before.asks })
 kept_line {D} {V} {standing} g result before running after here sound room keeps =
@@ -234,15 +234,15 @@ kept_line {D} {V} {standing} g result before running after here sound room keeps
 -- ---- what becomes of a line
 
 -- the cell of a run that goes on
-abbrev pub with_cell : {D V : Type 0} → CellRun D V → OpenCell D V → CellRun D V
+abbrev pub with_cell : {D V : Type 0} {g : Ghosts D} → CellRun D V g → OpenCell D V g → CellRun D V g
 with_cell before after = record before { cell = Some after }
 
-pub same_again : {D V : Type 0} (before : CellRun D V) (running after : OpenCell D V) → before.cell ≡ Some running → after ≡ running → with_cell before after ≡ before
-same_again {D} {V} before running after here same =
-    ap (λ (r : OpenCell D V). record before { cell = Some r }) same ∙ ap (λ (o : Option (OpenCell D V)). record before { cell = o }) (sym here)
+pub same_again : {D V : Type 0} {g : Ghosts D} (before : CellRun D V g) (running after : OpenCell D V g) → before.cell ≡ Some running → after ≡ running → with_cell before after ≡ before
+same_again {D} {V} {g} before running after here same =
+    ap (λ (r : OpenCell D V g). record before { cell = Some r }) same ∙ ap (λ (o : Option (OpenCell D V g)). record before { cell = o }) (sym here)
 
 -- of a line that is no ask
-pub lifted : {D V : Type 0} {standing : Standing} (g : Ghosts D) (db : ScriptDatabase) (l : Line) (before : CellRun D V) (running after : OpenCell D V)
+pub lifted : {D V : Type 0} {standing : Standing} (g : Ghosts D) (db : ScriptDatabase) (l : Line) (before : CellRun D V g) (running after : OpenCell D V g)
     (result : Result (Unit {0}) LineFault) (text_before text_after : List ℕ) → IsNoAsk l → before.cell ≡ Some running → IsSoundRun g standing before
     → CellDone g db (λ c choices. run_in db c choices l) result running after text_before text_after → KeepsCell g standing result running after
     → LineDone g db l result before (with_cell before after) text_before text_after
@@ -266,7 +266,7 @@ lifted g db l before running after (Err NoMemory) text_before text_after no_ask 
 -- ---- an ask
 
 module _ {D V : Type 0} {standing : Standing} (g : Ghosts D) (db : ScriptDatabase) (words : List (List ℕ)) (call : List ℕ) (number : ℕ) (named : db.words.call_of words ≡ Some call)
-    (before : CellRun D V) (running after : OpenCell D V) (here : before.cell ≡ Some running) (sound : IsSoundRun g standing before) where
+    (before : CellRun D V g) (running after : OpenCell D V g) (here : before.cell ≡ Some running) (sound : IsSoundRun g standing before) where
   abbrev ask : Line
   ask = line.Ask (Some number) words
 
@@ -344,7 +344,7 @@ module _ {D V : Type 0} {standing : Standing} (g : Ghosts D) (db : ScriptDatabas
 -- ---- a run that stays
 
 -- where a run stands, its disks hold the stage
-pub run_holds : {D V : Type 0} (g : Ghosts D) (dbs : Databases) (given : List ℕ) (cell : Option (OpenCell D V)) (c : Option Cell) (spare : List D)
+pub run_holds : {D V : Type 0} (g : Ghosts D) (dbs : Databases) (given : List ℕ) (cell : Option (OpenCell D V g)) (c : Option Cell) (spare : List D)
     → CellStandsFor g dbs given cell c → All (λ disk. g.files disk ≡ Some no_files) spare → counts_of g spare ≡ drop (sites_in cell) given
     → HoldStage dbs given false c (cell_helds g cell ++ all_held g spare)
 run_holds g dbs given None None spare at empty counts = subst (λ (l : List ℕ). AreUnwritten l (all_held g spare)) counts (unwritten g spare empty)
@@ -354,7 +354,7 @@ run_holds g dbs given (Some running) (Some c) spare at empty counts =
     hold_cell dbs given false c (length running.sites.items) (helds g running) (all_held g spare) (sym (length-helds g running.sites.items)) at.disks
     (subst (λ (l : List ℕ). AreUnwritten l (all_held g spare)) counts (unwritten g spare empty))
 
-pub run_causes : {D V : Type 0} (g : Ghosts D) (dbs : Databases) (given : List ℕ) (cell : Option (OpenCell D V)) (c : Option Cell)
+pub run_causes : {D V : Type 0} (g : Ghosts D) (dbs : Databases) (given : List ℕ) (cell : Option (OpenCell D V g)) (c : Option Cell)
     (items : List TraceItem) (behind : List Held)
     → CellStandsFor g dbs given cell c → HasCauses g cell items → HeldCauses c items (cell_helds g cell ++ behind)
 run_causes g dbs given None None items behind at causes = causes
@@ -364,7 +364,7 @@ run_causes g dbs given (Some running) (Some c) items behind at causes =
     first_causes c.run.world.sites items (helds g running) behind at.disks.read causes
 
 -- as many servers as the cell of the stage has
-pub servers_match : {D V : Type 0} (standing : Standing) (g : Ghosts D) (dbs : Databases) (given : List ℕ) (bounds : Bounds) (cell : Option (OpenCell D V)) (c : Option Cell)
+pub servers_match : {D V : Type 0} (standing : Standing) (g : Ghosts D) (dbs : Databases) (given : List ℕ) (bounds : Bounds) (cell : Option (OpenCell D V g)) (c : Option Cell)
     → CellIsSound g standing bounds cell → CellStandsFor g dbs given cell c → servers_of c ≡ sites_in cell
 servers_match standing g dbs given bounds None None sound at = refl
 servers_match standing g dbs given bounds None (Some c) sound at = absurd at
@@ -372,12 +372,12 @@ servers_match standing g dbs given bounds (Some running) None sound at = absurd 
 servers_match standing g dbs given bounds (Some running) (Some c) sound at = ap length (at.hosts ∙ sound.steady.hosts) ∙ hosts_count (length running.sites.items)
 
 -- the disks of a run that stays hold the stage at which it stands
-pub near_holds : {D V : Type 0} {standing : Standing} (g : Ghosts D) (dbs : Databases) (given : List ℕ) (ahead : ℕ) (run : CellRun D V) (st : Stage) → IsSoundRun g standing run
+pub near_holds : {D V : Type 0} {standing : Standing} (g : Ghosts D) (dbs : Databases) (given : List ℕ) (ahead : ℕ) (run : CellRun D V g) (st : Stage) → IsSoundRun g standing run
     → IsNear g dbs given ahead run st → HoldStage dbs given false st.cell (run_helds g run)
 near_holds g dbs given ahead run st sound near = run_holds g dbs given run.cell st.cell run.spare.items near.cell sound.spare near.spare
 
 -- memory ran out before anything was done
-pub short_same : {D V : Type 0} {standing : Standing} (g : Ghosts D) (db : ScriptDatabase) (l : Line) (before : CellRun D V) (text_before text_after : List ℕ)
+pub short_same : {D V : Type 0} {standing : Standing} (g : Ghosts D) (db : ScriptDatabase) (l : Line) (before : CellRun D V g) (text_before text_after : List ℕ)
     → IsSoundRun g standing before → LineDone g db l (Err NoMemory) before before text_before text_after
 short_same g db l before text_before text_after sound = λ given st near. record {
   causes = λ items causes. run_causes g (only db) given before.cell st.cell items (all_held g before.spare.items) near.cell causes;

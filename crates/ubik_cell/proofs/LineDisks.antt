@@ -110,7 +110,7 @@ counted_causes n items disks others count causes =
     subst (λ n. AreCauses 0 items (take n (disks ++ others))) (sym count) (subst (λ (l : List Held). AreCauses 0 items l) (sym (take-first disks others)) causes)
 
 -- as many disks as sites
-pub length-helds : {D V : Type 0} (g : Ghosts D) (sites : List (RunningSite D V)) → length (map (λ (site : RunningSite D V). held g (site_disk site)) sites) ≡ length sites
+pub length-helds : {D V : Type 0} (g : Ghosts D) (sites : List (RunningSite D V g)) → length (map (λ (site : RunningSite D V g). held g (site_disk site)) sites) ≡ length sites
 length-helds g [] = refl
 length-helds g (site ∷ sites) = ap suc (length-helds g sites)
 

@@ -43,7 +43,7 @@ over_long : (b : Bool) (x y : Result Line Why) → b ≡ true → cond b x y ≡
 over_long true x y is = refl
 over_long false x y is = absurd (cc)
 
-module _ {D V : Type 0} {standing : Standing} (g : Ghosts D) (db : ScriptDatabase) (bytes : List ℕ) (before : CellRun D V) (sound : IsSoundRun g standing before) where
+module _ {D V : Type 0} {standing : Standing} (g : Ghosts D) (db : ScriptDatabase) (bytes : List ℕ) (before : CellRun D V g) (sound : IsSoundRun g standing before) where
   -- the bytes of a line that stands for this, where lines are left
   result_is : (given : List ℕ) (st : Stage) → IsNear g (only db) given 0 before st → before.lines < MAX_LINES → (m : Result Line Why) → line_of bytes ≡ m → (choices : Choices)
       → result_of db bytes st choices ≡ or_refused (meaning_run (only db) (next_line st) choices m)
@@ -78,7 +78,7 @@ module _ {D V : Type 0} {standing : Standing} (g : Ghosts D) (db : ScriptDatabas
     held = inl (stage_short (only db) given st.cell (run_helds g before) (near_holds g (only db) given 0 before st sound near));
   }
 
-  module _ (l : Line) (room : before.lines < MAX_LINES) (is : line_of bytes ≡ Ok l) (after : CellRun D V) (text_before text_after : List ℕ) where
+  module _ (l : Line) (room : before.lines < MAX_LINES) (is : line_of bytes ≡ Ok l) (after : CellRun D V g) (text_before text_after : List ℕ) where
     stage_told : (ended : Option Ending) (given : List ℕ) (st : Stage) → IsNear g (only db) given 0 before st
         → StageTold g (only db) given (run_of_line db l st) ended before after text_before text_after
         → StageTold g (only db) given (result_of db bytes st) ended before after text_before text_after
@@ -127,9 +127,9 @@ module _ {D V : Type 0} {standing : Standing} (g : Ghosts D) (db : ScriptDatabas
 no_end : (line : ℕ) (e : Option Ending) → e ≡ None → end_text (ended_at line e) ≡ []
 no_end line e is = ap (λ x. end_text (ended_at line x)) is
 
-module _ {D V : Type 0} (g : Ghosts D) (db : ScriptDatabase) (bytes : List ℕ) (before : CellRun D V) where
+module _ {D V : Type 0} (g : Ghosts D) (db : ScriptDatabase) (bytes : List ℕ) (before : CellRun D V g) where
   -- a line after which the script goes on
-  pub line_ok : (after : CellRun D V) (text_before text_after : List ℕ) → ReadDone g db bytes (Ok tt) before after text_before text_after
+  pub line_ok : (after : CellRun D V g) (text_before text_after : List ℕ) → ReadDone g db bytes (Ok tt) before after text_before text_after
       → LineEnds g db bytes (Ok tt) before (record after { lines = after.lines + 1 }) text_before text_after
   line_ok after text_before text_after done = λ given t at good.
       let s = done given t.stage at.stage in
@@ -159,7 +159,7 @@ module _ {D V : Type 0} (g : Ghosts D) (db : ScriptDatabase) (bytes : List ℕ) 
     line_number = omega (arith, at.stage.lines)
 
     -- a line at which it ends before it does anything
-    ended_told : {standing : Standing} (e : Ending) (after : CellRun D V) (text_before middle text_after : List ℕ) → IsSoundRun g standing before
+    ended_told : {standing : Standing} (e : Ending) (after : CellRun D V g) (text_before middle text_after : List ℕ) → IsSoundRun g standing before
         → IsEnded g db bytes e before after text_before middle
         → text_after ≡ middle ++ ending_text (before.lines + 1) e → LineTold g (only db) given bytes t (Err (run_end.Ended e)) after text_before text_after
     ended_told e after text_before middle text_after sound ends told =
@@ -173,13 +173,13 @@ module _ {D V : Type 0} (g : Ghosts D) (db : ScriptDatabase) (bytes : List ℕ) 
           added = ending_text (t.stage.lines + 1) e;
           told = told ∙ ap (λ l. l ++ ending_text (before.lines + 1) e) ends.1 ∙ ap (λ n. text_before ++ ending_text n e) (sym line_number);
           text = refl;
-          servers = ap (λ (r : CellRun D V). sites_in r.cell) ends.0 ∙ count_at g (only db) given before t sound at;
-          leaves = subst (λ (r : CellRun D V). AreHeld (only db) given false (told_with (only db) t (Err e)) (run_helds g r)) (sym ends.0)
+          servers = ap (λ (r : CellRun D V g). sites_in r.cell) ends.0 ∙ count_at g (only db) given before t sound at;
+          leaves = subst (λ (r : CellRun D V g). AreHeld (only db) given false (told_with (only db) t (Err e)) (run_helds g r)) (sym ends.0)
               (record { holds = held.holds; causes = held.causes });
         }
 
     -- a line in which packets pass a limit
-    limit_told : (e : Ending) (after : CellRun D V) (text_before middle text_after : List ℕ)
+    limit_told : (e : Ending) (after : CellRun D V g) (text_before middle text_after : List ℕ)
         → StageTold g (only db) given (result_of db bytes t.stage) (Some e) before after text_before middle
         → text_after ≡ middle ++ ending_text (before.lines + 1) e → LineTold g (only db) given bytes t (Err (run_end.Ended e)) after text_before text_after
     limit_told e after text_before middle text_after s told =
@@ -201,7 +201,7 @@ module _ {D V : Type 0} (g : Ghosts D) (db : ScriptDatabase) (bytes : List ℕ) 
         }
 
     -- memory ran out in the telling
-    limit_short : (e : Ending) (after : CellRun D V) (text_before middle : List ℕ)
+    limit_short : (e : Ending) (after : CellRun D V g) (text_before middle : List ℕ)
         → StageTold g (only db) given (result_of db bytes t.stage) (Some e) before after text_before middle → LineShort g (only db) given bytes t after
     limit_short e after text_before middle s =
         let holds = stage_short (only db) given s.ran.stage.cell (run_helds g after) s.holds in
@@ -215,7 +215,7 @@ module _ {D V : Type 0} (g : Ghosts D) (db : ScriptDatabase) (bytes : List ℕ) 
         }
 
     -- memory ran out in the line
-    ran_short : (after : CellRun D V) → HoldStage (only db) given true t.stage.cell (run_helds g after)
+    ran_short : (after : CellRun D V g) → HoldStage (only db) given true t.stage.cell (run_helds g after)
         ⊎ ShortAfter g (only db) given (result_of db bytes t.stage) before after
         → HoldStage (only db) given true t.stage.cell (run_helds g after) ⊎ HeldAfter (only db) given bytes t (run_helds g after)
     ran_short after (inl holds) = inl holds
@@ -225,7 +225,7 @@ module _ {D V : Type 0} (g : Ghosts D) (db : ScriptDatabase) (bytes : List ℕ) 
           (record { holds = ran.holds; causes = ran.causes t.items at.causes });
     })
 
-  pub line_ended : {standing : Standing} (e : Ending) (result : Result (Unit {0}) RunEnd) (after : CellRun D V) (text_before middle text_after : List ℕ) → IsSoundRun g standing before
+  pub line_ended : {standing : Standing} (e : Ending) (result : Result (Unit {0}) RunEnd) (after : CellRun D V g) (text_before middle text_after : List ℕ) → IsSoundRun g standing before
       → IsEnded g db bytes e before after text_before middle → EndTold (before.lines + 1) e result middle text_after
       → LineEnds g db bytes result before after text_before text_after
   line_ended e (Ok done) after text_before middle text_after sound ends told = absurd told
@@ -233,11 +233,11 @@ module _ {D V : Type 0} (g : Ghosts D) (db : ScriptDatabase) (bytes : List ℕ) 
       subst (λ x. LineTold g (only db) given bytes t (Err (run_end.Ended x)) after text_before text_after) (sym told.0)
       (ended_told given t at e after text_before middle text_after sound ends told.1)
   line_ended e (Err run_end.NoMemory) after text_before middle text_after sound ends told = λ given t at good.
-      let held = subst (λ (r : CellRun D V). AreHeld (only db) given false t (run_helds g r)) (sym ends.0)
+      let held = subst (λ (r : CellRun D V g). AreHeld (only db) given false t (run_helds g r)) (sym ends.0)
       (held_at g (only db) given before t sound at) in
       record { causes = held.causes; held = inl (stage_short (only db) given t.stage.cell (run_helds g after) held.holds) }
 
-  pub line_limited : (e : Ending) (result : Result (Unit {0}) RunEnd) (after : CellRun D V) (text_before middle text_after : List ℕ)
+  pub line_limited : (e : Ending) (result : Result (Unit {0}) RunEnd) (after : CellRun D V g) (text_before middle text_after : List ℕ)
       → ((given : List ℕ) (st : Stage) → IsNear g (only db) given 0 before st
       → StageTold g (only db) given (result_of db bytes st) (Some e) before after text_before middle)
       → EndTold (before.lines + 1) e result middle text_after → LineEnds g db bytes result before after text_before text_after
@@ -249,14 +249,14 @@ module _ {D V : Type 0} (g : Ghosts D) (db : ScriptDatabase) (bytes : List ℕ) 
       limit_short given t at e after text_before middle (ends given t.stage at.stage)
 
   -- memory ran out in it
-  pub line_short : (after : CellRun D V) (text_before text_after : List ℕ) → ReadDone g db bytes (Err NoMemory) before after text_before text_after
+  pub line_short : (after : CellRun D V g) (text_before text_after : List ℕ) → ReadDone g db bytes (Err NoMemory) before after text_before text_after
       → LineEnds g db bytes (Err run_end.NoMemory) before after text_before text_after
   line_short after text_before text_after short = λ given t at good.
       let is = short given t.stage at.stage in record { causes = is.causes t.items at.causes; held = ran_short given t at after is.held }
 
 -- ---- what stays
 
-pub places_of : {D V : Type 0} {standing : Standing} (g : Ghosts D) (fault : LineFault) (result : Result (Unit {0}) RunEnd) (before after : CellRun D V)
+pub places_of : {D V : Type 0} {standing : Standing} (g : Ghosts D) (fault : LineFault) (result : Result (Unit {0}) RunEnd) (before after : CellRun D V g)
     → KeepsRun g standing (Err fault) before after → (result ≡ Ok tt → ⊥) → KeepsPlaces g standing result before after
 places_of g fault result before after keeps never = record {
   disks = keeps.disks;
@@ -265,7 +265,7 @@ places_of g fault result before after keeps never = record {
   lines = λ done. absurd (never done);
 }
 
-pub places_ok : {D V : Type 0} {standing : Standing} (g : Ghosts D) (before after : CellRun D V) → KeepsRun g standing (Ok tt) before after
+pub places_ok : {D V : Type 0} {standing : Standing} (g : Ghosts D) (before after : CellRun D V g) → KeepsRun g standing (Ok tt) before after
     → KeepsPlaces g standing (Ok tt) before (record after { lines = after.lines + 1 })
 places_ok {D} {V} {standing} g before after keeps =
     let sound = keeps.sound refl in
@@ -304,7 +304,7 @@ end_told_of line e (Err (run_end.Ended other)) text_before text_after told ends 
     let is = told (λ never. cc) in (same_end other e is.0, is.1)
 end_told_of line e (Err run_end.NoMemory) text_before text_after told ends = tt
 
-module _ {D V : Type 0} (g : Ghosts D) (db : ScriptDatabase) (bytes : List ℕ) (before after : CellRun D V) (text_before text_after : List ℕ) where
+module _ {D V : Type 0} (g : Ghosts D) (db : ScriptDatabase) (bytes : List ℕ) (before after : CellRun D V g) (text_before text_after : List ℕ) where
   pub ends_told : (result : Result (Unit {0}) RunEnd) → LineEnds g db bytes result before after text_before text_after → result ≢ Err run_end.NoMemory
       → (given : List ℕ) (t : Told) → IsAt g (only db) given before t → t.ended ≡ None
       → LineTold g (only db) given bytes t result after text_before text_after

@@ -33,7 +33,7 @@ use Rattle.ubik_cell.proofs.Lifting.{near_holds, run_causes, run_holds, servers_
 use Rattle.db_image.specs.Standing.{Standing}
 
 -- the cell of a stage at which a run stands that has none
-none_of : {D V : Type 0} (g : Ghosts D) (dbs : Databases) (given : List ℕ) (cell : Option (OpenCell D V)) (c : Option Cell) → cell ≡ None
+none_of : {D V : Type 0} (g : Ghosts D) (dbs : Databases) (given : List ℕ) (cell : Option (OpenCell D V g)) (c : Option Cell) → cell ≡ None
     → CellStandsFor g dbs given cell c → c ≡ None
 none_of g dbs given None None is stands = refl
 none_of g dbs given None (Some c) is stands = absurd stands
@@ -55,18 +55,18 @@ no_causes k [] = tt
 no_causes k (disk ∷ disks) = (omega arith, no_causes (k + 1) disks)
 
 -- before a cell stands nothing is told
-nothing_before : {D V : Type 0} (g : Ghosts D) (cell : Option (OpenCell D V)) (items : List TraceItem) → cell ≡ None → HasCauses g cell items → items ≡ []
+nothing_before : {D V : Type 0} (g : Ghosts D) (cell : Option (OpenCell D V g)) (items : List TraceItem) → cell ≡ None → HasCauses g cell items → items ≡ []
 nothing_before g None items is none = none
 nothing_before g (Some running) items is none = absurd (cc)
 
 -- no call was asked before a cell stands
-pub none_asked : {D V : Type 0} (g : Ghosts D) (standing : Standing) (bounds : Bounds) (cell : Option (OpenCell D V)) → cell ≡ None
+pub none_asked : {D V : Type 0} (g : Ghosts D) (standing : Standing) (bounds : Bounds) (cell : Option (OpenCell D V g)) → cell ≡ None
     → CellIsSound g standing bounds cell → bounds.asks ≡ 0
 none_asked g standing bounds None none is = is
 none_asked g standing bounds (Some running) none is = absurd (cc)
 
-module _ {D V : Type 0} (g : Ghosts D) (db : ScriptDatabase) (servers clock : ℕ) (k : Kind) (before : CellRun D V) (running : OpenCell D V)
-    (after : CellRun D V) (here : after.cell ≡ Some running) (none : before.cell ≡ None) (lines : after.lines ≡ before.lines) (asks : after.asks ≡ before.asks) where
+module _ {D V : Type 0} (g : Ghosts D) (db : ScriptDatabase) (servers clock : ℕ) (k : Kind) (before : CellRun D V g) (running : OpenCell D V g)
+    (after : CellRun D V g) (here : after.cell ≡ Some running) (none : before.cell ≡ None) (lines : after.lines ≡ before.lines) (asks : after.asks ≡ before.asks) where
   abbrev opens : Line
   opens = line.Cell servers clock k
 
@@ -81,12 +81,12 @@ module _ {D V : Type 0} (g : Ghosts D) (db : ScriptDatabase) (servers clock : �
       let told : AreCauses 0 (opening_items failed) (helds g running) =
       more_causes 0 [] (opening_items failed) (all_held g given) (helds g running) (no_causes 0 (all_held g given))
       (subst (λ n. AreRises 0 (opening_items (fails_at n is.choices)) (all_held g given) (helds g running)) count is.causes) in
-      subst (λ (o : Option (OpenCell D V)). HasCauses g o (items ++ opening_items failed)) (sym here)
+      subst (λ (o : Option (OpenCell D V g)). HasCauses g o (items ++ opening_items failed)) (sym here)
       (subst (λ (l : List TraceItem). AreCauses 0 (l ++ opening_items failed) (helds g running)) (sym (nothing_before g before.cell items none causes)) told)
 
   -- the disks that a run without a cell has are all
   all_given : (given : List ℕ) (st : Stage) → IsNear g (only db) given 0 before st → counts_of g before.spare.items ≡ given
-  all_given given st near = near.spare ∙ ap (λ (o : Option (OpenCell D V)). drop (sites_in o) given) none
+  all_given given st near = near.spare ∙ ap (λ (o : Option (OpenCell D V g)). drop (sites_in o) given) none
 
   -- all servers were opened
   pub opened_line : (text_before text_after : List ℕ) → length (take servers before.spare.items) ≡ servers
@@ -111,9 +111,9 @@ module _ {D V : Type 0} (g : Ghosts D) (db : ScriptDatabase) (servers clock : �
       subst (λ (l : List ℕ). IsModelledBy g db.database l running opened_c) own
       (subst (λ n. IsModelledBy g db.database (counts_of g disks) running (opened_cell n clock k (fails_at n choices))) count is.stands) in
       let at : CellStandsFor g (only db) given after.cell (Some opened_c) =
-      subst (λ (o : Option (OpenCell D V)). CellStandsFor g (only db) given o (Some opened_c)) (sym here) stands in
+      subst (λ (o : Option (OpenCell D V g)). CellStandsFor g (only db) given o (Some opened_c)) (sym here) stands in
       let spare : counts_of g after.spare.items ≡ drop (sites_in after.cell) given =
-      behind ∙ ap (λ (o : Option (OpenCell D V)). drop (sites_in o) given) (sym here) in
+      behind ∙ ap (λ (o : Option (OpenCell D V g)). drop (sites_in o) given) (sym here) in
       record {
         choices = whole;
         whole = record { most = refl; found = is.heard };
@@ -150,7 +150,7 @@ module _ {D V : Type 0} (g : Ghosts D) (db : ScriptDatabase) (servers clock : �
       ∙ take-append-drop n (counts_of g before.spare.items) ∙ all in
       let whole : AreUnwritten given (run_helds g after) =
       subst (λ (l : List ℕ). AreUnwritten l (run_helds g after)) split
-      (subst (λ (o : Option (OpenCell D V)). AreUnwritten (counts_of g (take n before.spare.items) ++ counts_of g after.spare.items)
+      (subst (λ (o : Option (OpenCell D V g)). AreUnwritten (counts_of g (take n before.spare.items) ++ counts_of g after.spare.items)
       (cell_helds g o ++ all_held g after.spare.items)) (sym here)
       (unwritten-append (counts_of g (take n before.spare.items)) (counts_of g after.spare.items) (helds g running) (all_held g after.spare.items)
       cell (unwritten g after.spare.items empty))) in
@@ -195,7 +195,7 @@ module _ {D V : Type 0} (g : Ghosts D) (db : ScriptDatabase) (servers clock : �
 
 -- ---- an empty line
 
-module _ {D V : Type 0} {standing : Standing} (g : Ghosts D) (db : ScriptDatabase) (before : CellRun D V) (sound : IsSoundRun g standing before) where
+module _ {D V : Type 0} {standing : Standing} (g : Ghosts D) (db : ScriptDatabase) (before : CellRun D V g) (sound : IsSoundRun g standing before) where
   nothing_in : (st : Stage) (cell : Option Cell) → st.cell ≡ cell → (choices : Choices)
       → run_of_line db line.Nothing st choices ≡ Ok (record { stage = record (next_line st) { cell = cell }; items = []; ending = None })
   nothing_in st None is choices =
@@ -241,7 +241,7 @@ module _ {D V : Type 0} {standing : Standing} (g : Ghosts D) (db : ScriptDatabas
     };
   }
     where
-      by : (cell : Option (OpenCell D V)) → CellIsSound g standing (bounds_after before.lines before.asks) cell
+      by : (cell : Option (OpenCell D V g)) → CellIsSound g standing (bounds_after before.lines before.asks) cell
           → CellIsSound g standing (bounds_after (before.lines + 1) before.asks) cell
       by None is = is
       by (Some running) is =

@@ -12,7 +12,7 @@ use Rattle.ubik_cell.specs.Lines.{AreUnwritten, IsUnwritten}
 use Rattle.ubik_cell.proofs.LineDisks.{unwritten-append}
 
 -- what the disks of a cell read as
-sites_held : {D V : Type 0} (g : Ghosts D) (sites : List (Site D V)) → map (λ (site : Site D V). held g (site_disk site)) sites ≡ all_held g (map site_disk sites)
+sites_held : {D V : Type 0} (g : Ghosts D) (sites : List (Site D V g)) → map (λ (site : Site D V g). held g (site_disk site)) sites ≡ all_held g (map site_disk sites)
 sites_held g [] = refl
 sites_held g (site ∷ sites) = ap (λ (l : List Held). held g (site_disk site) ∷ l) (sites_held g sites)
 
@@ -21,7 +21,7 @@ held-append g [] b = refl
 held-append g (disk ∷ a) b = ap (λ (l : List Held). held g disk ∷ l) (held-append g a b)
 
 -- one more disk stands for no database
-pub added_unwritten : {D V : Type 0} (g : Ghosts D) (given : List ℕ) (disk : D) (before after : OpenCell D V) → IsAdded g disk before after
+pub added_unwritten : {D V : Type 0} (g : Ghosts D) (given : List ℕ) (disk : D) (before after : OpenCell D V g) → IsAdded g disk before after
     → AreUnwritten given (helds g before) → AreUnwritten (given ++ g.steps disk ∷ []) (helds g after)
 added_unwritten g given disk before after added empty =
     let disks : helds g after ≡ helds g before ++ held g added.kept ∷ [] =
@@ -32,9 +32,9 @@ added_unwritten g given disk before after added empty =
     subst (AreUnwritten (given ++ g.steps disk ∷ [])) (sym disks)
     (unwritten-append given (g.steps disk ∷ []) (helds g before) (held g added.kept ∷ []) empty (one, tt))
 
-pub none_unwritten : {D V : Type 0} (g : Ghosts D) (running : OpenCell D V) → running.sites.items ≡ [] → AreUnwritten [] (helds g running)
+pub none_unwritten : {D V : Type 0} (g : Ghosts D) (running : OpenCell D V g) → running.sites.items ≡ [] → AreUnwritten [] (helds g running)
 none_unwritten {D} {V} g running none =
-    subst (λ (sites : List (Site D V)). AreUnwritten [] (map (λ site. held g (site_disk site)) sites)) (sym none) tt
+    subst (λ (sites : List (Site D V g)). AreUnwritten [] (map (λ site. held g (site_disk site)) sites)) (sym none) tt
 
 -- the counts of one more disk
 pub counts-push : {D : Type 0} (g : Ghosts D) (disks : List D) (disk : D) → counts_of g (disks ++ disk ∷ []) ≡ counts_of g disks ++ g.steps disk ∷ []
@@ -66,7 +66,7 @@ pub next_left : {D : Type 0} (given left after : List D) (i : ℕ) → left ≡ 
 next_left given left after i is removed = removed ∙ ap (λ l. take 0 l ++ drop 1 l) is ∙ drop-next given i
 
 -- the disks of a closed run
-pub closed_held : {D V : Type 0} (g : Ghosts D) (running : OpenCell D V) (all spare : List D) → all ≡ disks_of running ++ spare
+pub closed_held : {D V : Type 0} (g : Ghosts D) (running : OpenCell D V g) (all spare : List D) → all ≡ disks_of running ++ spare
     → all_held g all ≡ helds g running ++ all_held g spare
 closed_held g running all spare is =
     ap (all_held g) is ∙ held-append g (disks_of running) spare

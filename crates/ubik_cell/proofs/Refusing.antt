@@ -24,7 +24,7 @@ use Rattle.ubik_cell.proofs.Holding.{count_at, held_at}
 use Rattle.ubik_cell.proofs.LineDisks.{stage_short}
 use Rattle.db_image.specs.Standing.{Standing}
 
-module _ {D V : Type 0} {standing : Standing} (g : Ghosts D) (dbs : Databases) (given : List ℕ) (run : CellRun D V) (t : Told)
+module _ {D V : Type 0} {standing : Standing} (g : Ghosts D) (dbs : Databases) (given : List ℕ) (run : CellRun D V g) (t : Told)
     (sound : IsSoundRun g standing run) (at : IsAt g dbs given run t) where
   -- the end was told
   pub end_told : (line : List ℕ) (ending : Ending) (text_before text_after : List ℕ)

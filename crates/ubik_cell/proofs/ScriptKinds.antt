@@ -30,13 +30,13 @@ use Rattle.ubik_cell.proofs.LineDisks.{stage_short}
 -- ---- facts of a run over one database
 
 module _ {D V : Type 0} (g : Ghosts D) (k : Kind) (given : List ℕ) where
-  kind_held : (run : CellRun D V) (t : Told) → IsSoundRun g (standings k) run → IsAtKind g k given run t → AreHeld databases given false t (run_helds g run)
+  kind_held : (run : CellRun D V g) (t : Told) → IsSoundRun g (standings k) run → IsAtKind g k given run t → AreHeld databases given false t (run_helds g run)
   kind_held run t sound at =
       let held = held_at {standing = standings k} g (only (databases k)) given run t sound at.at in
       record { holds = hold_same k given false t.stage.cell (run_helds g run) at.kind held.holds; causes = held.causes }
 
   -- what a line left in a run over one database
-  kind_leaves : (result : Result (Unit {0}) RunEnd) (after : CellRun D V) (Goes : Told → Type 0)
+  kind_leaves : (result : Result (Unit {0}) RunEnd) (after : CellRun D V g) (Goes : Told → Type 0)
       → (result ≡ Ok tt → (later : Told) → IsAtKind g k given after later → Goes later)
       → (result ≢ Ok tt → (later : Told) → AreHeld databases given false later (run_helds g after) → Goes later)
       → (later : Told) → IsOfKind k later.stage.cell → Leaves g (only (databases k)) given result after later → Goes later
@@ -45,7 +45,7 @@ module _ {D V : Type 0} (g : Ghosts D) (k : Kind) (given : List ℕ) where
       ends (λ is. cc) later (record { holds = hold_same k given false later.stage.cell (run_helds g after) kind held.holds; causes = held.causes })
 
   -- a cell stands in a run where one stands in its meaning
-  opens_kind : (dbs : Databases) (cell : Option (OpenCell D V)) (c : Option Cell) (bytes : List ℕ) → CellStandsFor g dbs given cell c
+  opens_kind : (dbs : Databases) (cell : Option (OpenCell D V g)) (c : Option Cell) (bytes : List ℕ) → CellStandsFor g dbs given cell c
       → IfSome (kind_opened cell bytes) (λ x. x ≡ k) → OpensKind k c bytes
   opens_kind dbs None None bytes stands opens = opens
   opens_kind dbs None (Some c) bytes stands opens = absurd stands
@@ -55,30 +55,30 @@ module _ {D V : Type 0} (g : Ghosts D) (k : Kind) (given : List ℕ) where
 -- ---- the same of a run over whichever
 
 module _ {D : Type 0} (g : Ghosts D) (given : List ℕ) where
-  pub script_held_at : (run : ScriptRun D) (t : Told) → IsSoundScript g run → StandsAt g given run t → AreHeld databases given false t (script_helds g run)
+  pub script_held_at : (run : ScriptRun D g) (t : Told) → IsSoundScript g run → StandsAt g given run t → AreHeld databases given false t (script_helds g run)
   script_held_at (over.Protection run) t sound at = kind_held g Protection given run t sound at
   script_held_at (over.Location run) t sound at = kind_held g Location given run t sound at
 
-  pub script_count_at : (run : ScriptRun D) (t : Told) → IsSoundScript g run → StandsAt g given run t → script_sites run ≡ servers_of t.stage.cell
+  pub script_count_at : (run : ScriptRun D g) (t : Told) → IsSoundScript g run → StandsAt g given run t → script_sites run ≡ servers_of t.stage.cell
   script_count_at (over.Protection run) t sound at = count_at {standing = standings Protection} g (only (databases Protection)) given run t sound at.at
   script_count_at (over.Location run) t sound at = count_at {standing = standings Location} g (only (databases Location)) given run t sound at.at
 
-  pub lines_at : (run : ScriptRun D) (t : Told) → StandsAt g given run t → t.stage.lines ≡ script_lines run
+  pub lines_at : (run : ScriptRun D g) (t : Told) → StandsAt g given run t → t.stage.lines ≡ script_lines run
   lines_at (over.Protection run) t at = omega (arith, at.at.stage.lines)
   lines_at (over.Location run) t at = omega (arith, at.at.stage.lines)
 
   -- memory ran out before a line did anything
-  pub script_short_at : (run : ScriptRun D) (t : Told) (line : List ℕ) → IsSoundScript g run → StandsAt g given run t → ShortLine databases given line t (script_helds g run)
+  pub script_short_at : (run : ScriptRun D g) (t : Told) (line : List ℕ) → IsSoundScript g run → StandsAt g given run t → ShortLine databases given line t (script_helds g run)
   script_short_at run t line sound at =
       let held = script_held_at run t sound at in
       record { causes = held.causes; held = inl (stage_short databases given t.stage.cell (script_helds g run) held.holds) }
 
 module _ {D : Type 0} (g : Ghosts D) where
-  pub sound_disks : (run : ScriptRun D) → IsSoundScript g run → script_sites run + length (script_spare run) ≡ MAXSERVERS
+  pub sound_disks : (run : ScriptRun D g) → IsSoundScript g run → script_sites run + length (script_spare run) ≡ MAXSERVERS
   sound_disks (over.Protection run) sound = sound.disks
   sound_disks (over.Location run) sound = sound.disks
 
-  pub sound_few : (run : ScriptRun D) → IsSoundScript g run → script_lines run ≤ MAX_LINES
+  pub sound_few : (run : ScriptRun D g) → IsSoundScript g run → script_lines run ≤ MAX_LINES
   sound_few (over.Protection run) sound = sound.few
   sound_few (over.Location run) sound = sound.few
 
@@ -87,7 +87,7 @@ module _ {D : Type 0} (g : Ghosts D) where
   long_none true x y is none = none
   long_none false x y is none = absurd cc
 
-  pub long_opens : {V : Type 0} (k : Kind) (cell : Option (OpenCell D V)) (bytes : List ℕ) → MAX_LINE < length bytes → IfSome (kind_opened cell bytes) (λ x. x ≡ k)
+  pub long_opens : {V : Type 0} (k : Kind) (cell : Option (OpenCell D V g)) (bytes : List ℕ) → MAX_LINE < length bytes → IfSome (kind_opened cell bytes) (λ x. x ≡ k)
   long_opens k None bytes long =
       let over_long : nat_lt MAX_LINE (length bytes) ≡ true = grind (arith, nat_tests) in
       let none : kind_in (line_of bytes) ≡ None = long_none (nat_lt MAX_LINE (length bytes)) (Err why.Syntax) _ over_long refl in
@@ -96,12 +96,12 @@ module _ {D : Type 0} (g : Ghosts D) where
 
 -- ---- a line of a run over one database
 
-module _ {D V : Type 0} (g : Ghosts D) (k : Kind) (given line : List ℕ) (t : Told) (before : CellRun D V) (at : IsAtKind g k given before t)
+module _ {D V : Type 0} (g : Ghosts D) (k : Kind) (given line : List ℕ) (t : Told) (before : CellRun D V g) (at : IsAtKind g k given before t)
     (opens : IfSome (kind_opened before.cell line) (λ x. x ≡ k)) where
   abbrev may_open : OpensKind k t.stage.cell line
   may_open = opens_kind g k given (only (databases k)) before.cell t.stage.cell line at.at.stage.cell opens
 
-  pub kind_told : (result : Result (Unit {0}) RunEnd) (after : CellRun D V) (Goes : Told → Type 0) (text_before text_after : List ℕ)
+  pub kind_told : (result : Result (Unit {0}) RunEnd) (after : CellRun D V g) (Goes : Told → Type 0) (text_before text_after : List ℕ)
       → (result ≡ Ok tt → (later : Told) → IsAtKind g k given after later → Goes later)
       → (result ≢ Ok tt → (later : Told) → AreHeld databases given false later (run_helds g after) → Goes later)
       → LineTold g (only (databases k)) given line t result after text_before text_after
@@ -110,17 +110,17 @@ module _ {D V : Type 0} (g : Ghosts D) (k : Kind) (given line : List ℕ) (t : T
       told_line k given line t at.kind may_open result (Leaves g (only (databases k)) given result after) Goes (sites_in after.cell) text_before text_after
       (kind_leaves g k given result after Goes on ends) of
 
-  pub kind_short : (after : CellRun D V) → ShortLine (only (databases k)) given line t (run_helds g after) → ShortLine databases given line t (run_helds g after)
+  pub kind_short : (after : CellRun D V g) → ShortLine (only (databases k)) given line t (run_helds g after) → ShortLine databases given line t (run_helds g after)
   kind_short after short = short_line k given line t at.kind may_open (run_helds g after) short
 
 -- ---- a line of a run over whichever database
 
 module _ {D : Type 0} (g : Ghosts D) (given line : List ℕ) (t : Told) where
-  leaves_on : (result : Result (Unit {0}) RunEnd) (run : ScriptRun D) (later : Told) → result ≡ Ok tt → StandsAt g given run later → ScriptLeaves g given result run later
+  leaves_on : (result : Result (Unit {0}) RunEnd) (run : ScriptRun D g) (later : Told) → result ≡ Ok tt → StandsAt g given run later → ScriptLeaves g given result run later
   leaves_on (Ok done) run later is at = at
   leaves_on (Err e) run later is at = absurd (cc)
 
-  leaves_ended : (result : Result (Unit {0}) RunEnd) (run : ScriptRun D) (later : Told) → result ≢ Ok tt
+  leaves_ended : (result : Result (Unit {0}) RunEnd) (run : ScriptRun D g) (later : Told) → result ≢ Ok tt
       → AreHeld databases given false later (script_helds g run) → ScriptLeaves g given result run later
   leaves_ended (Ok done) run later other held = absurd (other refl)
   leaves_ended (Err e) run later other held = held
@@ -130,7 +130,7 @@ module _ {D : Type 0} (g : Ghosts D) (given line : List ℕ) (t : Told) where
       → LineTold g (only (databases Protection)) given line t result after text_before text_after
       → ScriptTold g given line t result (over.Protection after) text_before text_after
   protection_told before after result text_before text_after at opens of =
-      let next : ScriptRun D = over.Protection after in
+      let next : ScriptRun D g = over.Protection after in
       kind_told g Protection given line t before at opens result after (ScriptLeaves g given result next) text_before text_after
       (λ is later there. leaves_on result next later is there) (λ other later held. leaves_ended result next later other held) of
 
@@ -139,7 +139,7 @@ module _ {D : Type 0} (g : Ghosts D) (given line : List ℕ) (t : Told) where
       → LineTold g (only (databases Location)) given line t result after text_before text_after
       → ScriptTold g given line t result (over.Location after) text_before text_after
   location_told before after result text_before text_after at opens of =
-      let next : ScriptRun D = over.Location after in
+      let next : ScriptRun D g = over.Location after in
       kind_told g Location given line t before at opens result after (ScriptLeaves g given result next) text_before text_after
       (λ is later there. leaves_on result next later is there) (λ other later held. leaves_ended result next later other held) of
 
@@ -154,27 +154,27 @@ module _ {D : Type 0} (g : Ghosts D) (given line : List ℕ) (t : Told) where
 -- ---- a line that is long
 
 module _ {D : Type 0} (g : Ghosts D) where
-  pub long_is_own : (line : List ℕ) (run : ScriptRun D) → MAX_LINE < length line → OpensItsKind line run
+  pub long_is_own : (line : List ℕ) (run : ScriptRun D g) → MAX_LINE < length line → OpensItsKind line run
   long_is_own line (over.Protection run) long = long_opens g Protection run.cell line long
   long_is_own line (over.Location run) long = long_opens g Location run.cell line long
 
 -- ---- the kind that a line opens
 
 -- where a line opens a cell of a kind no cell stands
-none_stands : {D V : Type 0} (cell : Option (OpenCell D V)) (line : List ℕ) (k : Kind) → kind_opened cell line ≡ Some k → cell ≡ None
+none_stands : {D V : Type 0} {g : Ghosts D} (cell : Option (OpenCell D V g)) (line : List ℕ) (k : Kind) → kind_opened cell line ≡ Some k → cell ≡ None
 none_stands None line k is = refl
 none_stands (Some running) line k is = absurd (cc)
 
-module _ {D : Type 0} where
-  pub script_none_stands : (run : ScriptRun D) (line : List ℕ) (k : Kind) → script_kind_opened run line ≡ Some k → HasNoCell run
+module _ {D : Type 0} {g : Ghosts D} where
+  pub script_none_stands : (run : ScriptRun D g) (line : List ℕ) (k : Kind) → script_kind_opened run line ≡ Some k → HasNoCell run
   script_none_stands (over.Protection run) line k is = none_stands run.cell line k is
   script_none_stands (over.Location run) line k is = none_stands run.cell line k is
 
-  pub script_no_sites : (run : ScriptRun D) → HasNoCell run → script_sites run ≡ 0
+  pub script_no_sites : (run : ScriptRun D g) → HasNoCell run → script_sites run ≡ 0
   script_no_sites (over.Protection run) none = ap (λ (c : Option (OpenCell D PtService)). sites_in c) none
   script_no_sites (over.Location run) none = ap (λ (c : Option (OpenCell D VlService)). sites_in c) none
 
   -- a run that opens no cell opens none of another kind
-  pub opens_none : (run : ScriptRun D) (line : List ℕ) → script_kind_opened run line ≡ None → OpensItsKind line run
+  pub opens_none : (run : ScriptRun D g) (line : List ℕ) → script_kind_opened run line ≡ None → OpensItsKind line run
   opens_none (over.Protection run) line none = subst (λ (o : Option Kind). IfSome o (λ x. x ≡ Protection)) (sym none) tt
   opens_none (over.Location run) line none = subst (λ (o : Option Kind). IfSome o (λ x. x ≡ Location)) (sym none) tt

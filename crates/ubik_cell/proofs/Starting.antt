@@ -70,7 +70,7 @@ module _ {D : Type 0} (g : Ghosts D) (dbs : Databases) where
 
 module _ {D : Type 0} (g : Ghosts D) where
   -- before the first line
-  pub first_so_far : (given : List ℕ) (ended : Bool) (run : ScriptRun D) → ended ≡ false → StandsAt g given run first_told → (script before : List ℕ)
+  pub first_so_far : (given : List ℕ) (ended : Bool) (run : ScriptRun D g) → ended ≡ false → StandsAt g given run first_told → (script before : List ℕ)
       → SoFar g given script ended (Some script) before (Some before) run
   first_so_far given ended run going at script before =
       let P : Bool → Type 0 = λ b. IsConsumed b script script [] in
@@ -86,7 +86,7 @@ module _ {D : Type 0} (g : Ghosts D) where
       }
 
   -- what is told of what a sink holds, where it holds something
-  from_sink : (given script : List ℕ) (ended : Bool) (left : Option (List ℕ)) (before : List ℕ) (w : Option (List ℕ)) (run : ScriptRun D)
+  from_sink : (given script : List ℕ) (ended : Bool) (left : Option (List ℕ)) (before : List ℕ) (w : Option (List ℕ)) (run : ScriptRun D g)
       (Q : (given script before : List ℕ) → Type 0)
       → IfSome w (λ written. (given script before : List ℕ) → SoFar g given script ended left before (Some written) run
       → Q given script before)
@@ -95,7 +95,7 @@ module _ {D : Type 0} (g : Ghosts D) where
   from_sink given script ended left before (Some written) run Q goes so = goes given script before so
 
   -- one more turn, where disks had these counts before the script
-  pub so_far_on : (given : List ℕ) (ended : Bool) (left : Option (List ℕ)) (w : Option (List ℕ)) (run : ScriptRun D)
+  pub so_far_on : (given : List ℕ) (ended : Bool) (left : Option (List ℕ)) (w : Option (List ℕ)) (run : ScriptRun D g)
       (Q : (given script before : List ℕ) → Type 0) (input out : Option (List ℕ))
       → IfSome input (λ script. IfSome out (λ before. SoFar g given script ended left before w run))
       → IfSome w (λ written. (given script before : List ℕ) → SoFar g given script ended left before (Some written) run
@@ -106,7 +106,7 @@ module _ {D : Type 0} (g : Ghosts D) where
       (λ script before is. from_sink given script ended left before w run Q goes is)
 
   -- how the disks lie that were not reached
-  pub unreached : (run next : ScriptRun D) (disks after : List D) → script_sites run + length (script_spare run) ≡ MAXSERVERS
+  pub unreached : (run next : ScriptRun D g) (disks after : List D) → script_sites run + length (script_spare run) ≡ MAXSERVERS
       → script_sites next + length (script_spare next) ≡ MAXSERVERS → script_spare run ≡ drop (script_sites run) disks
       → script_spare next ≡ drop (script_sites next - script_sites run) (script_spare run)
       → script_spare next ≡ drop (script_sites next) disks
@@ -117,7 +117,7 @@ module _ {D : Type 0} (g : Ghosts D) where
       more ∙ ap (drop rise) spare ∙ drop-drop rise (script_sites run) disks ∙ ap (λ (n : ℕ). drop n disks) same
 
   -- the disks in their places again
-  pub closed : (k : CellKind) (script : List ℕ) (left : Option (List ℕ)) (before : List ℕ) (after : Option (List ℕ)) (next : ScriptRun D)
+  pub closed : (k : CellKind) (script : List ℕ) (left : Option (List ℕ)) (before : List ℕ) (after : Option (List ℕ)) (next : ScriptRun D g)
       (disks disks_after : List D) → all_held g disks_after ≡ script_helds g next
       → drop (script_sites next) disks_after ≡ script_spare next → script_spare next ≡ drop (script_sites next) disks
       → Ran k databases (counts_of g disks) script left before after (script_sites next) (script_helds g next)

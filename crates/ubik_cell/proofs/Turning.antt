@@ -29,7 +29,7 @@ use Rattle.ubik_cell.proofs.Telling.{read_lines-push, same_some, told-push, whol
 
 -- a run before a line of which at most 1025 bytes were read
 pub record AtLine {D : Type 0} (g : Ghosts D) (given : List ℕ) (text : List ℕ) (left : Option (List ℕ))
-    (before : List ℕ) (after : Option (List ℕ)) (run : ScriptRun D) (line : List ℕ) : Type 0 where
+    (before : List ℕ) (after : Option (List ℕ)) (run : ScriptRun D g) (line : List ℕ) : Type 0 where
   pub readings : List LineRead
   pub whole : AreWhole readings
   pub part : ReadSome text left
@@ -76,12 +76,12 @@ of_left P left rest is h = let Q : Option (List ℕ) → Type 0 = λ l. IfSome l
 -- ---- after a line
 
 module _ {D : Type 0} (g : Ghosts D) (given : List ℕ) where
-  leaves_held : (result : Result (Unit {0}) RunEnd) (next : ScriptRun D) (later : Told) → (result ≡ Ok tt → IsSoundScript g next)
+  leaves_held : (result : Result (Unit {0}) RunEnd) (next : ScriptRun D g) (later : Told) → (result ≡ Ok tt → IsSoundScript g next)
       → ScriptLeaves g given result next later → AreHeld databases given false later (script_helds g next)
   leaves_held (Ok done) next later sound leaves = script_held_at g given next later (sound refl) leaves
   leaves_held (Err e) next later sound leaves = leaves
 
-  module _ (text : List ℕ) (left : Option (List ℕ)) (before written : List ℕ) (after : Option (List ℕ)) (run next : ScriptRun D)
+  module _ (text : List ℕ) (left : Option (List ℕ)) (before written : List ℕ) (after : Option (List ℕ)) (run next : ScriptRun D g)
       (line : List ℕ) (at : AtLine g given text left before (Some written) run line) where
     abbrev t : Told
     t = told databases at.readings
@@ -214,7 +214,7 @@ module _ {D : Type 0} (g : Ghosts D) (given : List ℕ) where
 
   -- a run before a line that was read whole, with which the source has ended or not
   pub record AtWhole (text : List ℕ) (ended : Bool) (left : Option (List ℕ)) (before : List ℕ) (after : Option (List ℕ))
-      (run : ScriptRun D) (line : List ℕ) : Type 0 where
+      (run : ScriptRun D g) (line : List ℕ) : Type 0 where
     pub at : AtLine g given text left before after run line
     pub bound : take 1025 line ≡ line
     pub rest : List ℕ
@@ -223,7 +223,7 @@ module _ {D : Type 0} (g : Ghosts D) (given : List ℕ) where
 
   -- the line was told whole
   pub going_on : (text : List ℕ) (ended : Bool) (left : Option (List ℕ)) (before written : List ℕ) (after : Option (List ℕ))
-      (run next : ScriptRun D)
+      (run next : ScriptRun D g)
       (line bytes : List ℕ) (at : AtWhole text ended left before (Some written) run line)
       → ScriptTold g given line (told databases at.at.readings) (Ok tt) next [] bytes → after ≡ Some (written ++ bytes)
       → SoFar g given text ended left before after next
@@ -242,7 +242,7 @@ module _ {D : Type 0} (g : Ghosts D) (given : List ℕ) where
         wrote = whole_wrote text left before written after run next line at.at (Ok tt) bytes of wrote;
       }
 
-  module _ (script : List ℕ) (was now : Bool) (left later : Option (List ℕ)) (before : List ℕ) (after : Option (List ℕ)) (run : ScriptRun D)
+  module _ (script : List ℕ) (was now : Bool) (left later : Option (List ℕ)) (before : List ℕ) (after : Option (List ℕ)) (run : ScriptRun D g)
       (so : SoFar g given script was left before after run) where
     abbrev lines : List (List ℕ)
     lines = read_lines so.readings

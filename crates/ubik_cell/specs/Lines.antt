@@ -39,17 +39,17 @@ abbrev pub bounds_after : (lines asks : ℕ) → Bounds
 bounds_after lines asks = record { clock = clock_bound lines; asks = asks }
 
 -- a cell stands, and is sound; or none stands, and no call was asked
-abbrev pub CellIsSound : {D V : Type 0} → Ghosts D → Standing → Bounds → Option (OpenCell D V) → Type 0
+abbrev pub CellIsSound : {D V : Type 0} (g : Ghosts D) → Standing → Bounds → Option (OpenCell D V g) → Type 0
 CellIsSound g standing bounds None = bounds.asks ≡ 0
 CellIsSound g standing bounds (Some running) = IsSound g standing.database bounds running
 
-abbrev pub sites_in : {D V : Type 0} → Option (OpenCell D V) → ℕ
+abbrev pub sites_in : {D V : Type 0} {g : Ghosts D} → Option (OpenCell D V g) → ℕ
 sites_in None = 0
 sites_in (Some running) = length running.sites.items
 
 -- A run that was sound after so many lines: its cell is sound, the disks that no cell has are empty, with nothing pending, and not to
 -- stop, there are 20 in all, no more calls were asked than there were lines, and these are within their limit.
-pub record IsSoundBy {D V : Type 0} (g : Ghosts D) (standing : Standing) (lines : ℕ) (run : CellRun D V) : Type 0 where
+pub record IsSoundBy {D V : Type 0} (g : Ghosts D) (standing : Standing) (lines : ℕ) (run : CellRun D V g) : Type 0 where
   pub cell : CellIsSound g standing (bounds_after lines run.asks) run.cell
   pub spare : All (λ disk. g.files disk ≡ Some no_files) run.spare.items
   pub settled : All (λ disk. IsSettled (g.files disk) (g.may_leave disk)) run.spare.items
@@ -59,7 +59,7 @@ pub record IsSoundBy {D V : Type 0} (g : Ghosts D) (standing : Standing) (lines 
   pub few : lines ≤ MAX_LINES
 
 -- a run between two lines
-abbrev pub IsSoundRun : {D V : Type 0} → Ghosts D → Standing → CellRun D V → Type 0
+abbrev pub IsSoundRun : {D V : Type 0} (g : Ghosts D) → Standing → CellRun D V g → Type 0
 IsSoundRun g standing run = IsSoundBy g standing run.lines run
 
 -- the database of a cell
@@ -67,42 +67,42 @@ abbrev pub database_in : Databases → Cell → Database
 database_in dbs c = (dbs (kind_of_cell c)).database
 
 -- The cell that stands is that of the stage. `given` has the counts of changing calls of all disks before the script.
-abbrev pub CellStandsFor : {D V : Type 0} → Ghosts D → Databases → List ℕ → Option (OpenCell D V) → Option Cell → Type 0
+abbrev pub CellStandsFor : {D V : Type 0} (g : Ghosts D) → Databases → List ℕ → Option (OpenCell D V g) → Option Cell → Type 0
 CellStandsFor g dbs given None None = Unit {0}
 CellStandsFor g dbs given (Some running) (Some c) =
     IsModelledBy g (database_in dbs c) (take (length running.sites.items) given) running c
 CellStandsFor g dbs given _ _ = ⊥
 
 -- the disks of a run: those of the cell in their order, and then the others
-abbrev pub cell_disks : {D V : Type 0} → Option (OpenCell D V) → List D
+abbrev pub cell_disks : {D V : Type 0} {g : Ghosts D} → Option (OpenCell D V g) → List D
 cell_disks None = []
 cell_disks (Some running) = disks_of running
 
-abbrev pub run_disks : {D V : Type 0} → CellRun D V → List D
+abbrev pub run_disks : {D V : Type 0} {g : Ghosts D} → CellRun D V g → List D
 run_disks run = cell_disks run.cell ++ run.spare.items
 
 -- what they read as
-abbrev pub cell_helds : {D V : Type 0} → Ghosts D → Option (OpenCell D V) → List Held
+abbrev pub cell_helds : {D V : Type 0} (g : Ghosts D) → Option (OpenCell D V g) → List Held
 cell_helds g None = []
 cell_helds g (Some running) = helds g running
 
-abbrev pub run_helds : {D V : Type 0} → Ghosts D → CellRun D V → List Held
+abbrev pub run_helds : {D V : Type 0} (g : Ghosts D) → CellRun D V g → List Held
 run_helds g run = cell_helds g run.cell ++ all_held g run.spare.items
 
 -- each disk of the cell failed at least as often as is told of its server; before a cell stands nothing is told
-abbrev pub HasCauses : {D V : Type 0} → Ghosts D → Option (OpenCell D V) → List TraceItem → Type 0
+abbrev pub HasCauses : {D V : Type 0} (g : Ghosts D) → Option (OpenCell D V g) → List TraceItem → Type 0
 HasCauses g None items = items ≡ []
 HasCauses g (Some running) items = AreCauses 0 items (helds g running)
 
 -- a run stands at a stage, some lines before it
-pub record IsNear {D V : Type 0} (g : Ghosts D) (dbs : Databases) (given : List ℕ) (ahead : ℕ) (run : CellRun D V) (st : Stage) : Type 0 where
+pub record IsNear {D V : Type 0} (g : Ghosts D) (dbs : Databases) (given : List ℕ) (ahead : ℕ) (run : CellRun D V g) (st : Stage) : Type 0 where
   pub lines : st.lines ≡ run.lines + ahead
   pub asks : st.asks ≡ run.asks
   pub cell : CellStandsFor g dbs given run.cell st.cell
   pub spare : counts_of g run.spare.items ≡ drop (sites_in run.cell) given
 
 -- a run stands where the lines that were told left it
-pub record IsAt {D V : Type 0} (g : Ghosts D) (dbs : Databases) (given : List ℕ) (run : CellRun D V) (t : Told) : Type 0 where
+pub record IsAt {D V : Type 0} (g : Ghosts D) (dbs : Databases) (given : List ℕ) (run : CellRun D V g) (t : Told) : Type 0 where
   pub stage : IsNear g dbs given 0 run t.stage
   pub causes : HasCauses g run.cell t.items
 
@@ -143,7 +143,7 @@ ended_of t (Err (Ended ending)) = Some (record { line = t.stage.lines + 1; endin
 ended_of t _ = None
 
 -- what a line leaves: the run goes on from there, or its disks hold it
-abbrev pub Leaves : {D V : Type 0} → Ghosts D → Databases → List ℕ → Result (Unit {0}) RunEnd → CellRun D V → Told → Type 0
+abbrev pub Leaves : {D V : Type 0} (g : Ghosts D) → Databases → List ℕ → Result (Unit {0}) RunEnd → CellRun D V g → Told → Type 0
 Leaves g dbs given (Ok done) run t = IsAt g dbs given run t
 Leaves g dbs given (Err e) run t = AreHeld dbs given false t (run_helds g run)
 
@@ -162,7 +162,7 @@ pub record ToldLine (dbs : Databases) (line : List ℕ) (t : Told) (result : Res
   pub leaves : Follows later
   pub servers : sites ≡ servers_of later.stage.cell
 
-abbrev pub LineTold : {D V : Type 0} → Ghosts D → Databases → (given line : List ℕ) → Told → Result (Unit {0}) RunEnd → (after : CellRun D V)
+abbrev pub LineTold : {D V : Type 0} (g : Ghosts D) → Databases → (given line : List ℕ) → Told → Result (Unit {0}) RunEnd → (after : CellRun D V g)
     → (text_before text_after : List ℕ) → Type 0
 LineTold g dbs given line t result after text_before text_after =
     ToldLine dbs line t result (Leaves g dbs given result after) (sites_in after.cell) text_before text_after
@@ -178,12 +178,12 @@ pub record ShortLine (dbs : Databases) (given : List ℕ) (line : List ℕ) (t :
   pub causes : HeldCauses t.stage.cell t.items disks
   pub held : HoldStage dbs given true t.stage.cell disks ⊎ HeldAfter dbs given line t disks
 
-abbrev pub LineShort : {D V : Type 0} → Ghosts D → Databases → (given line : List ℕ) → Told → (after : CellRun D V) → Type 0
+abbrev pub LineShort : {D V : Type 0} (g : Ghosts D) → Databases → (given line : List ℕ) → Told → (after : CellRun D V g) → Type 0
 LineShort g dbs given line t after = ShortLine dbs given line t (run_helds g after)
 
 -- A line was run to its end in a stage with some choices: it ended so, and what it told was added to a text. Each fault that was told has its cause.
 pub record StageTold {D V : Type 0} (g : Ghosts D) {E : Type 0} (dbs : Databases) (given : List ℕ)
-    (run : Choices → Result Line_run E) (ended : Option Ending) (before after : CellRun D V)
+    (run : Choices → Result Line_run E) (ended : Option Ending) (before after : CellRun D V g)
     (text_before text_after : List ℕ) : Type 0 where
   pub choices : Choices
   pub whole : IsWhole choices
@@ -206,7 +206,7 @@ IsRefusedLine why run = (choices : Choices) → run choices ≡ Err why
 
 -- what a line in which memory ran out, perhaps half way, left on the disks, with some choices
 pub record ShortAfter {D V : Type 0} (g : Ghosts D) {E : Type 0} (dbs : Databases) (given : List ℕ) (run : Choices → Result Line_run E)
-    (before after : CellRun D V) : Type 0 where
+    (before after : CellRun D V g) : Type 0 where
   pub choices : Choices
   pub ran : Line_run
   pub is : run choices ≡ Ok ran
@@ -216,6 +216,6 @@ pub record ShortAfter {D V : Type 0} (g : Ghosts D) {E : Type 0} (dbs : Database
 
 -- Memory ran out in a line: each fault that was told before it has its cause, and the disks hold what was before it, or what it left.
 pub record StageShort {D V : Type 0} (g : Ghosts D) {E : Type 0} (dbs : Databases) (given : List ℕ) (run : Choices → Result Line_run E)
-    (st : Stage) (before after : CellRun D V) : Type 0 where
+    (st : Stage) (before after : CellRun D V g) : Type 0 where
   pub causes : (items : List TraceItem) → HasCauses g before.cell items → HeldCauses st.cell items (run_helds g after)
   pub held : HoldStage dbs given true st.cell (run_helds g after) ⊎ ShortAfter g dbs given run before after

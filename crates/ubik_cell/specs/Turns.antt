@@ -17,7 +17,7 @@ use Rattle.ubik_cell.specs.ScriptRuns.{StandsAt}
 
 -- a run between two lines, where the source has ended or not
 pub record SoFar {D : Type 0} (g : Ghosts D) (given : List ℕ) (text : List ℕ) (ended : Bool) (left : Option (List ℕ)) (before : List ℕ)
-    (after : Option (List ℕ)) (run : ScriptRun D) : Type 0 where
+    (after : Option (List ℕ)) (run : ScriptRun D g) : Type 0 where
   pub readings : List LineRead
   pub whole : AreWhole readings
   pub rest : List ℕ

@@ -15,7 +15,7 @@ ghost use Rattle.ubik_cell.specs.ScriptRuns.{HasNoCell, IsEmptyScript, IsSoundSc
 
 use crate::scripts::{CellRun, RunEnd};
 use cell_script::Kind;
-use disk_base::StopDisk;
+use disk_base::{Disk, StopDisk};
 use pt_protection::PtService;
 use std::alloc::Global;
 use std::mem::replace;
@@ -24,7 +24,7 @@ use vl_database::VlService;
 
 /// A run over the database that its cell keeps. Before a cell stands it is over either of them.
 #[derive(Drop)]
-pub enum ScriptRun<D: StopDisk> {
+pub enum ScriptRun<D: Disk> {
     /// Over the protection database.
     Protection(CellRun<D, PtService>),
     /// Over the location database.

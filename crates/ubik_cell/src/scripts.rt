@@ -27,7 +27,7 @@ use cell_runs::{Ending, MAX_LINES, Which, tell_ending};
 use cell_script::{Kind, Line, Why, Words, line_meaning};
 use cell_sites::{LineFault, OpenCell, law_cell_opened};
 use db_image::DraftWords;
-use disk_base::StopDisk;
+use disk_base::{Disk, StopDisk};
 use std::alloc::Global;
 use std::mem::replace;
 use ubik_types::NoMemory;
@@ -43,7 +43,7 @@ pub enum RunEnd {
 
 /// What the lines of a script so far left: a cell, once one is opened.
 #[derive(Drop)]
-pub struct CellRun<D: StopDisk, V: DraftWords> {
+pub struct CellRun<D: Disk, V> {
     alloc: Global,
     lines: u32,
     asks: u32,

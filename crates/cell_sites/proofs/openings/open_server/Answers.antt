@@ -21,7 +21,7 @@ returns-in-Ok-open g c = λ d stands.
     let e = c.in-Ok-open.ensures in
     let same = cell_hosts (length c.args.hosts.now) c.args.hosts.now c.in-Ok.cell c.requires.cell c.in-Ok.ensures.cell c.in-Ok.ensures.same in
     opened_up g.D.Disk c.args.hosts.now c.in-Ok.cell c.args.me c.args.clock c.args.disk c.in-Ok-open.node d e.opened.0 c.requires.sound stands e.opening
-    same e.opened.1 e.opened.2 e.member e.stored e.told e.steps e.last c.version-version.result c.version-version.ensures
+    same e.opened.1 e.opened.2 e.member e.told e.steps e.last c.version-version.result c.version-version.ensures
 
 pub returns-after-why : goal.returns-after-why
 returns-after-why g c = λ d stands.

@@ -5,4 +5,4 @@ use Rattle.cell_sites.specs.declared.sites.Site.{Site}
 use Rattle.cell_sites.proofs.ticks.is_near.Given as goal
 
 abbrev pub invariant-loop-j : goal.invariant-loop-j
-invariant-loop-j g l = (i : ℕ) (site : Site _ _) → i < l.j → slice_get l.fn.sites i ≡ Some site → i ≢ l.k → l.now ≤ site.clock + SKEW
+invariant-loop-j g l = (i : ℕ) (site : Site _ _ _) → i < l.j → slice_get l.fn.sites i ≡ Some site → i ≢ l.k → l.now ≤ site.clock + SKEW

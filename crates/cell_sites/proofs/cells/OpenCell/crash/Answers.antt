@@ -50,7 +50,7 @@ returns-clause-sound g c = λ bounds still.
           (disk_here g.D.Disk c.requires.0.clock c.args.self.now c.in_ok-k.k _ c.requires.1.steady down.there) bounds.clock still.steady;
       keeps = keeps_set g.V.DraftService.standing.database c.args.self.now c.take_down.new.self still.keeps down.hosts c.in_ok-k.k
           (record { clock = down.clock; server = Down down.disk }) [] down.sites down.calls (down.packets ∙ none_sent c.args.self.now.packets)
-          (down_keeps g.V.DraftService.standing.database c.args.self.now.hosts.items c.args.self.now.calls.items down.disk) (All-nil _);
+          (down_keeps g.V.DraftService.standing.database c.args.self.now.hosts.items c.args.self.now.calls down.disk) (All-nil _);
       calls = ap length down.calls ∙ still.calls;
       run = runs_on g.D.Disk (script_database g.V.DraftService.standing.database g.V.DraftWords.words) bounds.asks c.args.self.now
           c.take_down.new.self (line.Crash c.args.server) [] [] c.law_cells_go_on.ensures tt still.run

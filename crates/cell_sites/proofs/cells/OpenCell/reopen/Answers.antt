@@ -61,10 +61,10 @@ returns g c =
     let opened = c.open_server-server.result in
     let within = slice_get_within running.sites.items c.args.k _ down.there in
     let at = site_there running.sites.items c.args.k site within c.remove-clock.ensures.value in
-    let was : Site _ _ = record { clock = down.clock; server = Down down.disk } in
+    let was : Site _ _ _ = record { clock = down.clock; server = Down down.disk } in
     let same : site ≡ was = some_same site was (sym at ∙ down.there) in
-    let clock : site.clock ≡ down.clock = ap (λ (s : Site _ _). s.clock) same in
-    let held : disk ≡ down.disk = c.close.ensures ∙ ap (λ (s : Site _ _). server_disk s.server) same in
+    let clock : site.clock ≡ down.clock = ap (λ (s : Site _ _ _). s.clock) same in
+    let held : disk ≡ down.disk = c.close.ensures ∙ ap (λ (s : Site _ _ _). server_disk s.server) same in
     record {
       clock = site.clock;
       disk = disk;
@@ -78,12 +78,12 @@ returns g c =
           c.deref.ensures.value
           (c.open_server-server.ensures d stands);
       sites = c.put_site.ensures.sites
-          ∙ ap (λ (l : List (Site _ _)). insert l c.args.k (record { clock = site.clock; server = opened.0 })) c.remove-clock.ensures.items
+          ∙ ap (λ (l : List (Site _ _ _)). insert l c.args.k (record { clock = site.clock; server = opened.0 })) c.remove-clock.ensures.items
           ∙ put_back running.sites.items c.args.k (record { clock = site.clock; server = opened.0 }) within;
       hosts = ap (λ (v : Vec Host Global). v.items) c.put_site.ensures.same.0;
       packets = c.put_site.ensures.same.1;
       outputs = c.put_site.ensures.same.2;
-      calls = ap (λ (v : Vec (List ℕ) Global). v.items) c.put_site.ensures.same.3;
+      calls = c.put_site.ensures.same.3;
       told = λ ok. let t = ok_says c.tell_reopened.result ok c.tell_reopened.ensures in
           (t.0, t.1 (script_database g.V.DraftService.standing.database g.V.DraftWords.words) running.hosts.items);
     }

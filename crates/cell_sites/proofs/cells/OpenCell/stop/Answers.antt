@@ -40,12 +40,6 @@ pub unreachable-requires : goal.unreachable-requires
 unreachable-requires g c =
     not_down c.args.self.now c.in_ok-k.k c.index_mut.result.now c.in_default.field-0 c.in_ok-k.ensures.place.1 c.index_mut.ensures.value c.in_default.is
 
-pub arm-requires : goal.arm-requires
-arm-requires g c =
-    let site = c.index_mut.result.now in
-    let there = found_up c.args.self.now c.in_ok-k.k site c.in-Up.node c.in_ok-k.ensures.place.1 c.index_mut.ensures.value c.in-Up.is in
-    record { stored = (here g.D.Disk c.requires.0.clock c.args.self.now c.in_ok-k.k site.clock c.in-Up.node c.requires.1.steady there).sound.stored }
-
 pub returns-clause-told : goal.returns-clause-told
 returns-clause-told g c = λ ok given cell text stands.
     let db = script_database g.V.DraftService.standing.database g.V.DraftWords.words in
@@ -67,12 +61,12 @@ returns-clause-sound g c = λ bounds still.
       steady = sound_at_place g.D.Disk c.args.self.now _ k (up_site site.clock c.in-Up.node) (up_site site.clock c.arm.new.self) there refl bounds.clock
           still.steady refl
           (arm_node g.D.Disk site.clock c.args.calls c.args.fill c.in-Up.node c.arm.new.self c.arm.ensures.disk c.arm.ensures.same
-          (member_at c.args.self.now k) at.sound c.arm.ensures.stored)
+          (member_at c.args.self.now k) at.sound)
           (arm_disk g.D.Disk site.clock c.args.calls c.args.fill c.in-Up.node c.arm.new.self c.arm.ensures.disk c.arm.ensures.same at.disk)
           refl refl;
       keeps = keeps_set g.V.DraftService.standing.database c.args.self.now _ still.keeps refl k (up_site site.clock c.arm.new.self) [] refl refl
           (none_sent c.args.self.now.packets)
-          (same_keeps g.V.DraftService.standing.database c.args.self.now.hosts.items c.args.self.now.calls.items c.in-Up.node c.arm.new.self
+          (same_keeps g.V.DraftService.standing.database c.args.self.now.hosts.items c.args.self.now.calls c.in-Up.node c.arm.new.self
           (still.keeps.servers k (up_site site.clock c.in-Up.node) there) (ap (λ (s : State). server_of s) c.arm.ensures.same.0)
           c.arm.ensures.same.1)
           (All-nil _);

@@ -1,4 +1,4 @@
-use Rattle.std.proofs.Common.{◌∙◌, ℕ, ap, subst, List, Vec}
+use Rattle.std.proofs.Common.{◌∙◌, ap, subst, List, Vec}
 use Rattle.std.specs.Prelude.{insert}
 use Rattle.std.specs.declared.alloc.Global.{Global}
 use Rattle.ubik_types.specs.declared.hosts.Host.{Host}
@@ -28,10 +28,10 @@ returns g c =
         faults = revived.faults;
       });
       sites = c.put_site.ensures.sites
-          ∙ ap (λ (l : List (Site _ _)). insert l c.args.k (record { clock = site.clock; server = Down disk })) c.remove-clock.ensures.items
+          ∙ ap (λ (l : List (Site _ _ _)). insert l c.args.k (record { clock = site.clock; server = Down disk })) c.remove-clock.ensures.items
           ∙ put_back items c.args.k (record { clock = site.clock; server = Down disk }) c.requires.place;
       hosts = ap (λ (v : Vec Host Global). v.items) c.put_site.ensures.same.0;
       packets = c.put_site.ensures.same.1;
       outputs = c.put_site.ensures.same.2;
-      calls = ap (λ (v : Vec (List ℕ) Global). v.items) c.put_site.ensures.same.3;
+      calls = c.put_site.ensures.same.3;
     }

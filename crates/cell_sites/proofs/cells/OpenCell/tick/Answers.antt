@@ -61,7 +61,7 @@ returns-clause-told g c = λ is given c' text stands.
     let near = subst (λ (l : List _). IsNearAt l k (c.index.result.now.clock + c.args.seconds)) c.deref.ensures.value (c.is_near.ensures.0 passed) in
     let does = c.in_ok-k.ensures.there c' (λ k. unless_skewed db c' (tick_at c'.run.world.sites k c.args.seconds) (Tick k c.args.seconds))
     (cell_size g.D.Disk c.requires.0.clock c.args.self.now c' c.requires.1.steady stands) in
-    subst (λ (after : OpenCell _ _). CellTold g.D.Disk db given (λ choices. run_in db c' choices (line.Tick c.args.server c.args.seconds)) None c.args.self.now
+    subst (λ (after : OpenCell _ _ _). CellTold g.D.Disk db given (λ choices. run_in db c' choices (line.Tick c.args.server c.args.seconds)) None c.args.self.now
     after text text)
     (ticked_so c.args.self.now k c.args.seconds c.index.result.now c.index_mut.result.now there there')
     (tick_told g.D.Disk db c.requires.0.clock c.args.self.now c' k c.args.seconds c.index.result.now _ text c.requires.1.steady c.requires.2 stands there
@@ -77,14 +77,14 @@ returns-clause-sound g c = λ is bounds still.
     let fits = fits_at g.D.Disk c.requires.0.clock c.args.seconds c.args.self.now k c.index.result.now c.requires.1.steady c.requires.2 there in
     let same = ticked_so c.args.self.now k c.args.seconds c.index.result.now c.index_mut.result.now there there' in
     record {
-      steady = subst (λ (after : OpenCell _ _). IsSteady g.D.Disk (bounds.clock + c.args.seconds) after) same
+      steady = subst (λ (after : OpenCell _ _ _). IsSteady g.D.Disk (bounds.clock + c.args.seconds) after) same
           (tick_sound g.D.Disk bounds.clock bounds.clock c.args.self.now k c.args.seconds c.index.result.now still.steady fits there near);
-      keeps = subst (λ (after : OpenCell _ _). Keeps g.V.DraftService.standing.database after) same
+      keeps = subst (λ (after : OpenCell _ _ _). Keeps g.V.DraftService.standing.database after) same
           (tick_keeps g.V.DraftService.standing.database c.args.self.now k c.args.seconds c.index.result.now there still.keeps);
       calls = still.calls;
       run = ticks_run g.D.Disk (script_database g.V.DraftService.standing.database g.V.DraftWords.words) bounds.asks c.args.self.now _
           (line.Tick c.args.server c.args.seconds) c.args.seconds [] [] c.law_cells_go_on.ensures (λ some. some)
-          (λ none. ap (λ (after : OpenCell _ _). after.sites.items) (sym same)
+          (λ none. ap (λ (after : OpenCell _ _ _). after.sites.items) (sym same)
           ∙ tick_rests c.args.self.now k c.args.seconds c.index.result.now there none) refl refl still.run
           (returns-clause-told g c is still.run.given still.run.cell [] still.run.stands);
       blocks = still.blocks;
@@ -95,6 +95,6 @@ returns-clause-never_falls g c =
     let k = c.in_ok-k.k in
     let there = site_there c.args.self.now.sites.items k c.index.result.now c.in_ok-k.ensures.place.1 c.index.ensures in
     let there' = site_there c.args.self.now.sites.items k c.index_mut.result.now c.in_ok-k.ensures.place.1 c.index_mut.ensures.value in
-    subst (λ (after : OpenCell _ _). AreRises 0 [] (helds g.D.Disk c.args.self.now) (helds g.D.Disk after))
+    subst (λ (after : OpenCell _ _ _). AreRises 0 [] (helds g.D.Disk c.args.self.now) (helds g.D.Disk after))
     (ticked_so c.args.self.now k c.args.seconds c.index.result.now c.index_mut.result.now there there')
     (rises_same _ _ (helds_ticked g.D.Disk c.args.self.now k c.args.seconds c.index.result.now there))

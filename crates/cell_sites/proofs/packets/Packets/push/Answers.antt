@@ -16,7 +16,8 @@ invariant_of-self-2 c =
     let p = c.args.packet in
     let handed : c.push.new.self.items ≡ a.handed.items ++ false ∷ [] = c.in_ok-push.ensures.items in
     let sent : c.push-2.new.self.items ≡ a.sent.items ++ p ∷ [] =
-    c.push-2.ensures.items ∙ ap (λ (b : Bool). if b then a.sent.items ++ p ∷ [] else a.sent.items) c.if-is_err.ensures.negation in
+    c.push-2.ensures.items ∙ ap (λ (b : Bool). if b then a.sent.items ++ c.new.result ∷ [] else a.sent.items) c.if-is_err.ensures.negation
+    ∙ ap (λ (q : Packet). a.sent.items ++ q ∷ []) c.new.ensures in
     let within = passed_none (length c.args.self.now.sent + 1) (bytes_of c.args.self.now.sent + packet_length p) c.requires.room in
     let same : c.args.self.now.sent ≡ a.sent.items = sym (ap (λ (t : Traffic). t.sent) c.self.view_is) in
     let count : length c.push-2.new.self.items ≡ length a.sent.items + 1 = ap length sent ∙ length_push a.sent.items p in
