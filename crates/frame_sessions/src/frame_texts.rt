@@ -1,234 +1,249 @@
 //! Frames and their faults in words.
-use crate::texts::{Hex, Quoted};
-use std::fmt;
+use crate::tokens::Token::{
+    self, Digits, Host, Long, Nothing, Number, Place, Quoted, Truth, Version, Word,
+};
+use crate::tokens::text_of;
+use session_rows::Fault;
+use std::alloc::Global;
 use ubik_calls::{Body, DebugIs, Frame, FrameFault, Reply};
-use ubik_types::{Applied, Phase, Version};
+use ubik_types::{Applied, Phase};
 use xdr_base::XdrFault;
 
 /// A frame in words.
-#[derive(Clone, Copy)]
-pub struct FrameText<'a>(pub &'a Frame);
-
-impl fmt::Display for FrameText<'_> {
-    fn fmt<W: fmt::Write>(&self, f: &mut fmt::Formatter<W>) -> fmt::Result {
-        match self.0 {
-            Frame::Packet(packet) => {
-                let body = BodyText(&packet.body);
-                write!(f, "packet {} to {} {body}", packet.from, packet.to)
-            }
-            Frame::Ask { number, call } => write!(f, "ask {number} {}", Hex(call.as_slice())),
-            Frame::Reply { number, reply } => write!(f, "reply {number} {}", ReplyText(reply)),
-            Frame::Debug { number } => write!(f, "debug {number}"),
-            Frame::DebugIs { number, is } => write!(f, "debugis {number} {}", DebugText(is)),
+pub fn frame_text(alloc: Global, frame: &Frame) -> Result<String, Fault> {
+    match frame {
+        Frame::Packet(packet) => {
+            let (from, to, body) = (packet.from, packet.to, body_text(alloc, &packet.body)?);
+            Ok(format!(in alloc; "packet {from} to {to} {body}")?)
+        }
+        Frame::Ask { number, call } => {
+            let call = Digits(call.as_slice());
+            text_of(alloc, &[("ask ", Number(*number)), (" ", call)])
+        }
+        Frame::Reply { number, reply } => {
+            let reply = reply_text(alloc, reply)?;
+            Ok(format!(in alloc; "reply {number} {reply}")?)
+        }
+        Frame::Debug { number } => text_of(alloc, &[("debug ", Number(*number))]),
+        Frame::DebugIs { number, is } => {
+            let is = state_text(alloc, is)?;
+            Ok(format!(in alloc; "debugis {number} {is}")?)
         }
     }
 }
 
-/// A version as its epoch and its counter.
-#[derive(Clone, Copy)]
-struct VersionText(Version);
-
-impl fmt::Display for VersionText {
-    fn fmt<W: fmt::Write>(&self, f: &mut fmt::Formatter<W>) -> fmt::Result {
-        write!(f, "{}.{}", self.0.epoch, self.0.counter)
+/// What a packet says, in words.
+fn body_text(alloc: Global, body: &Body) -> Result<String, Fault> {
+    match body {
+        Body::Beacon {
+            start,
+            claim,
+            ready,
+            version,
+        } => {
+            let (start, claim) = (
+                ("beacon start ", Number(*start)),
+                (" claim ", Truth(*claim)),
+            );
+            let (ready, version) = ((" ready ", Truth(*ready)), (" version ", Version(*version)));
+            text_of(alloc, &[start, claim, ready, version])
+        }
+        Body::Vote { start, yes } => {
+            text_of(
+                alloc,
+                &[("vote start ", Number(*start)), (" ", Truth(*yes))],
+            )
+        }
+        Body::Begin {
+            old,
+            new,
+            pieces,
+            len,
+        } => {
+            let (old, new) = (("begin ", Version(*old)), (" to ", Version(*new)));
+            let (pieces, len) = ((" pieces ", Number(*pieces)), (" bytes ", Number(*len)));
+            text_of(alloc, &[old, new, pieces, len])
+        }
+        Body::PutPiece { new, number, bytes } => {
+            let (new, number) = (
+                ("putpiece version ", Version(*new)),
+                (" number ", Number(*number)),
+            );
+            text_of(alloc, &[new, number, (" ", Quoted(bytes.as_slice()))])
+        }
+        Body::Commit { old, new } => {
+            text_of(
+                alloc,
+                &[("commit ", Version(*old)), (" to ", Version(*new))],
+            )
+        }
+        Body::Abort { new } => text_of(alloc, &[("abort version ", Version(*new))]),
+        Body::VersionKept { version } => {
+            text_of(alloc, &[("versionkept version ", Version(*version))])
+        }
+        _ => poll_text(alloc, body),
     }
 }
 
-fn truth_text(truth: bool) -> &'static str {
-    if truth { "yes" } else { "no" }
+/// What a packet of a poll says, in words.
+fn poll_text(alloc: Global, body: &Body) -> Result<String, Fault> {
+    match body {
+        Body::GetVersion { poll } => text_of(alloc, &[("getversion poll ", Number(*poll))]),
+        Body::VersionIs { poll, version } => {
+            let version = (" version ", Version(*version));
+            text_of(alloc, &[("versionis poll ", Number(*poll)), version])
+        }
+        Body::GetPiece {
+            poll,
+            version,
+            offset,
+        } => {
+            let (version, offset) = (
+                (" version ", Version(*version)),
+                (" from ", Number(*offset)),
+            );
+            text_of(alloc, &[("getpiece poll ", Number(*poll)), version, offset])
+        }
+        Body::Piece {
+            poll,
+            version,
+            total,
+            offset,
+            bytes,
+        } => {
+            let (poll, version) = (
+                ("piece poll ", Number(*poll)),
+                (" version ", Version(*version)),
+            );
+            let (total, offset) = ((" of ", Number(*total)), (" from ", Number(*offset)));
+            text_of(
+                alloc,
+                &[
+                    poll,
+                    version,
+                    total,
+                    offset,
+                    (" ", Quoted(bytes.as_slice())),
+                ],
+            )
+        }
+        Body::SendPiece {
+            poll,
+            version,
+            total,
+            offset,
+            bytes,
+        } => {
+            let (poll, version) = (
+                ("sendpiece poll ", Number(*poll)),
+                (" version ", Version(*version)),
+            );
+            let (total, offset) = ((" of ", Number(*total)), (" from ", Number(*offset)));
+            text_of(
+                alloc,
+                &[
+                    poll,
+                    version,
+                    total,
+                    offset,
+                    (" ", Quoted(bytes.as_slice())),
+                ],
+            )
+        }
+        Body::PieceKept {
+            poll,
+            version,
+            next,
+        } => {
+            let (version, next) = ((" version ", Version(*version)), (" next ", Number(*next)));
+            text_of(alloc, &[("piecekept poll ", Number(*poll)), version, next])
+        }
+        Body::SetVersion { poll, old, new } => {
+            let (old, new) = ((" ", Version(*old)), (" to ", Version(*new)));
+            text_of(alloc, &[("setversion poll ", Number(*poll)), old, new])
+        }
+        _ => Ok(String::from_str(alloc, "another packet")?),
+    }
 }
 
-fn phase_text(phase: Phase) -> &'static str {
-    match phase {
+fn phase_word(phase: Phase) -> Token<'static> {
+    Word(match phase {
         Phase::None => "none",
         Phase::Poll => "poll",
         Phase::Fetch => "fetch",
         Phase::Relabel => "relabel",
         Phase::Send => "send",
         Phase::Ready => "ready",
-    }
-}
-
-fn applied_text(applied: Applied) -> &'static str {
-    match applied {
-        Applied::No => "no",
-        Applied::Unknown => "unknown",
-    }
-}
-
-/// What a packet says, in words.
-#[derive(Clone, Copy)]
-struct BodyText<'a>(&'a Body);
-
-impl fmt::Display for BodyText<'_> {
-    fn fmt<W: fmt::Write>(&self, f: &mut fmt::Formatter<W>) -> fmt::Result {
-        match self.0 {
-            Body::Beacon {
-                start,
-                claim,
-                ready,
-                version,
-            } => {
-                let (claim, ready) = (truth_text(*claim), truth_text(*ready));
-                write!(f, "beacon start {start} claim {claim} ready {ready} ")?;
-                write!(f, "version {}", VersionText(*version))
-            }
-            Body::Vote { start, yes } => write!(f, "vote start {start} {}", truth_text(*yes)),
-            Body::Begin {
-                old,
-                new,
-                pieces,
-                len,
-            } => {
-                write!(f, "begin {} to {} ", VersionText(*old), VersionText(*new))?;
-                write!(f, "pieces {pieces} bytes {len}")
-            }
-            Body::PutPiece { new, number, bytes } => {
-                write!(f, "putpiece version {} number {number} ", VersionText(*new))?;
-                write!(f, "{}", Quoted(bytes.as_slice()))
-            }
-            Body::Commit { old, new } => {
-                write!(f, "commit {} to {}", VersionText(*old), VersionText(*new))
-            }
-            Body::Abort { new } => write!(f, "abort version {}", VersionText(*new)),
-            Body::VersionKept { version } => {
-                write!(f, "versionkept version {}", VersionText(*version))
-            }
-            _ => write!(f, "{}", PollText(self.0)),
-        }
-    }
-}
-
-/// What a packet of a poll says, in words.
-#[derive(Clone, Copy)]
-struct PollText<'a>(&'a Body);
-
-impl fmt::Display for PollText<'_> {
-    fn fmt<W: fmt::Write>(&self, f: &mut fmt::Formatter<W>) -> fmt::Result {
-        match self.0 {
-            Body::GetVersion { poll } => write!(f, "getversion poll {poll}"),
-            Body::VersionIs { poll, version } => {
-                write!(f, "versionis poll {poll} version {}", VersionText(*version))
-            }
-            Body::GetPiece {
-                poll,
-                version,
-                offset,
-            } => {
-                let version = VersionText(*version);
-                write!(f, "getpiece poll {poll} version {version} from {offset}")
-            }
-            Body::Piece {
-                poll,
-                version,
-                total,
-                offset,
-                bytes,
-            } => {
-                let version = VersionText(*version);
-                write!(f, "piece poll {poll} version {version} ")?;
-                write!(f, "of {total} from {offset} {}", Quoted(bytes.as_slice()))
-            }
-            Body::SendPiece {
-                poll,
-                version,
-                total,
-                offset,
-                bytes,
-            } => {
-                let version = VersionText(*version);
-                write!(f, "sendpiece poll {poll} version {version} ")?;
-                write!(f, "of {total} from {offset} {}", Quoted(bytes.as_slice()))
-            }
-            Body::PieceKept {
-                poll,
-                version,
-                next,
-            } => {
-                let version = VersionText(*version);
-                write!(f, "piecekept poll {poll} version {version} next {next}")
-            }
-            Body::SetVersion { poll, old, new } => {
-                let (old, new) = (VersionText(*old), VersionText(*new));
-                write!(f, "setversion poll {poll} {old} to {new}")
-            }
-            _ => f.write_str("another packet"),
-        }
-    }
+    })
 }
 
 /// A reply in words.
-#[derive(Clone, Copy)]
-struct ReplyText<'a>(&'a Reply);
-
-impl fmt::Display for ReplyText<'_> {
-    fn fmt<W: fmt::Write>(&self, f: &mut fmt::Formatter<W>) -> fmt::Result {
-        match self.0 {
-            Reply::Ok(answer) => write!(f, "ok {}", Hex(answer.as_slice())),
-            Reply::Rule(number) => write!(f, "rule {number}"),
-            Reply::NoQuorum {
-                now,
-                until,
-                phase,
-                applied,
-            } => {
-                let (phase, applied) = (phase_text(*phase), applied_text(*applied));
-                write!(f, "noquorum now {now} until {until} ")?;
-                write!(f, "phase {phase} applied {applied}")
-            }
-            Reply::NotSync { host, heard } => write!(f, "notsync host {host} heard {heard}"),
-            Reply::LineFull { holder } => write!(f, "linefull holder {holder}"),
-            Reply::TooLarge { bytes } => write!(f, "toolarge bytes {bytes}"),
-            Reply::Malformed => f.write_str("malformed"),
-            Reply::DiskFault => f.write_str("diskfault"),
-            Reply::BadRecord { at } => write!(f, "badrecord at {at}"),
-            Reply::NoMemory => f.write_str("nomemory"),
+fn reply_text(alloc: Global, reply: &Reply) -> Result<String, Fault> {
+    match reply {
+        Reply::Ok(answer) => text_of(alloc, &[("ok ", Digits(answer.as_slice()))]),
+        Reply::Rule(number) => text_of(alloc, &[("rule ", Number(*number))]),
+        Reply::NoQuorum {
+            now,
+            until,
+            phase,
+            applied,
+        } => {
+            let applied = match applied {
+                Applied::No => (" applied no", Nothing),
+                Applied::Unknown => (" applied unknown", Nothing),
+            };
+            let (now, until) = (("noquorum now ", Number(*now)), (" until ", Number(*until)));
+            text_of(
+                alloc,
+                &[now, until, (" phase ", phase_word(*phase)), applied],
+            )
         }
+        Reply::NotSync { host, heard } => {
+            text_of(
+                alloc,
+                &[("notsync host ", Host(*host)), (" heard ", Number(*heard))],
+            )
+        }
+        Reply::LineFull { holder } => text_of(alloc, &[("linefull holder ", Number(*holder))]),
+        Reply::TooLarge { bytes } => text_of(alloc, &[("toolarge bytes ", Long(*bytes))]),
+        Reply::Malformed => text_of(alloc, &[("malformed", Nothing)]),
+        Reply::DiskFault => text_of(alloc, &[("diskfault", Nothing)]),
+        Reply::BadRecord { at } => text_of(alloc, &[("badrecord at ", Number(*at))]),
+        Reply::NoMemory => text_of(alloc, &[("nomemory", Nothing)]),
     }
 }
 
 /// What a server tells of itself, in words.
-#[derive(Clone, Copy)]
-struct DebugText<'a>(&'a DebugIs);
-
-impl fmt::Display for DebugText<'_> {
-    fn fmt<W: fmt::Write>(&self, f: &mut fmt::Formatter<W>) -> fmt::Result {
-        let is = self.0;
-        let version = VersionText(is.version);
-        write!(f, "host {} now {} version {version} ", is.host, is.now)?;
-        write!(f, "phase {} until {} ", phase_text(is.phase), is.until)?;
-        write!(f, "sync {} voted {} at {}", is.sync, is.voted, is.voted_at)
-    }
+fn state_text(alloc: Global, is: &DebugIs) -> Result<String, Fault> {
+    let (host, now) = (("host ", Host(is.host)), (" now ", Number(is.now)));
+    let (version, phase) = (
+        (" version ", Version(is.version)),
+        (" phase ", phase_word(is.phase)),
+    );
+    let (until, sync) = ((" until ", Number(is.until)), (" sync ", Host(is.sync)));
+    let (voted, at) = ((" voted ", Host(is.voted)), (" at ", Number(is.voted_at)));
+    text_of(alloc, &[host, now, version, phase, until, sync, voted, at])
 }
 
-/// Why an item is none, in words.
-#[derive(Clone, Copy)]
-pub struct XdrText(pub XdrFault);
-
-impl fmt::Display for XdrText {
-    fn fmt<W: fmt::Write>(&self, f: &mut fmt::Formatter<W>) -> fmt::Result {
-        match self.0 {
-            XdrFault::Short { at } => write!(f, "short at {at}"),
-            XdrFault::Padding { at } => write!(f, "padding at {at}"),
-            XdrFault::TooLong { len } => write!(f, "longer {len}"),
-            XdrFault::BadBool { value } => write!(f, "truth {value}"),
-            XdrFault::Rest { left } => write!(f, "rest {left}"),
+/// Why bytes are no frame, or no item, in words.
+pub fn fault_text(alloc: Global, fault: FrameFault) -> Result<String, Fault> {
+    match fault {
+        FrameFault::Xdr(XdrFault::Short { at }) => text_of(alloc, &[("short at ", Place(at))]),
+        FrameFault::Xdr(XdrFault::Padding { at }) => text_of(alloc, &[("padding at ", Place(at))]),
+        FrameFault::Xdr(XdrFault::TooLong { len }) => text_of(alloc, &[("longer ", Number(len))]),
+        FrameFault::Xdr(XdrFault::BadBool { value }) => text_of(
+            alloc,
+            &[("truth ", Number(value))],
+        ),
+        FrameFault::Xdr(XdrFault::Rest { left }) => text_of(alloc, &[("rest ", Place(left))]),
+        FrameFault::Kind { kind } => text_of(alloc, &[("kind ", Number(kind))]),
+        FrameFault::Version { value } => text_of(alloc, &[("version ", Number(value))]),
+        FrameFault::Length { said, have } => {
+            text_of(
+                alloc,
+                &[("length said ", Number(said)), (" have ", Number(have))],
+            )
         }
-    }
-}
-
-/// Why bytes are no frame, in words.
-#[derive(Clone, Copy)]
-pub struct FaultText(pub FrameFault);
-
-impl fmt::Display for FaultText {
-    fn fmt<W: fmt::Write>(&self, f: &mut fmt::Formatter<W>) -> fmt::Result {
-        match self.0 {
-            FrameFault::Xdr(fault) => write!(f, "{}", XdrText(fault)),
-            FrameFault::Kind { kind } => write!(f, "kind {kind}"),
-            FrameFault::Version { value } => write!(f, "version {value}"),
-            FrameFault::Length { said, have } => write!(f, "length said {said} have {have}"),
-            FrameFault::NoMemory => f.write_str("nomemory"),
-        }
+        FrameFault::NoMemory => text_of(alloc, &[("memory", Nothing)]),
     }
 }

@@ -1,12 +1,11 @@
 //! Rows of words, and of numbers and lines of scripts.
-use crate::faults::Fault;
-use crate::tallies::Tally;
-use crate::texts::{Hex, Quoted, bytes_in_hex, bytes_in_quotes, filled, number_in};
+use crate::tokens::Token::{self, Digits, Long, Nothing, Number, Place, Quoted, Signed, Word};
+use crate::tokens::{text_of, unquoted};
 use cell_script::{Kind, Line, LineEnd, LineReader, Why, line_meaning};
 use disk_base::{Fill, MemSource};
 use script_words::{number, number_within, signed_number};
+use session_rows::{Fault, bytes_in, number_in};
 use std::alloc::Global;
-use std::fmt;
 use ubik_types::first_word;
 
 /// The longest line whose bytes are told.
@@ -15,129 +14,94 @@ const MAX_TOLD: usize = 40;
 /// The most ends of lines in a row.
 const MAX_ENDS: usize = 8;
 
-/// `word BYTES -> NUMBER, left BYTES`: the first word, and what stands behind it.
-pub fn word_row(
-    alloc: Global,
-    tally: &mut Tally,
-    input: &str,
-    expected: &str,
-) -> Result<(), Fault> {
-    let bytes = bytes_in_hex(alloc, input)?;
-    let found = match first_word(&bytes) {
-        None => String::from_str(alloc, "none")?,
-        Some((word, [])) => format!(in alloc; "{word}, nothing left")?,
-        Some((word, rest)) => format!(in alloc; "{word}, left {}", Hex(rest))?,
-    };
-    tally.row(expected, &found)
-}
-
-/// A number that a word may write, in words.
-#[derive(Clone, Copy)]
-struct Written<T>(Option<T>);
-
-impl<T: fmt::Display> fmt::Display for Written<T> {
-    fn fmt<W: fmt::Write>(&self, f: &mut fmt::Formatter<W>) -> fmt::Result {
-        match &self.0 {
-            Some(number) => write!(f, "{number}"),
-            None => f.write_str("none"),
-        }
+/// The first word of bytes, and what stands behind it.
+pub fn word_text(alloc: Global, input: &str) -> Result<String, Fault> {
+    match first_word(&bytes_in(alloc, input)?) {
+        None => text_of(alloc, &[("none", Nothing)]),
+        Some((word, [])) => text_of(alloc, &[("", Number(word)), (", nothing left", Nothing)]),
+        Some((word, rest)) => text_of(alloc, &[("", Number(word)), (", left ", Digits(rest))]),
     }
 }
 
-/// `number WORD -> NUMBER` or `number WORD from LOW to HIGH -> NUMBER`.
-pub fn number_row(
-    alloc: Global,
-    tally: &mut Tally,
-    input: &str,
-    expected: &str,
-) -> Result<(), Fault> {
+/// The number that a word writes, or none: `WORD`, `WORD from LOW to HIGH`, or one that may have a sign.
+pub fn number_text(alloc: Global, input: &str, is_signed: bool) -> Result<String, Fault> {
     let (word, bounds) = input.split_once(" from ").unwrap_or((input, ""));
-    let word = bytes_in_quotes(alloc, word)?;
-    let found = match bounds.split_once(" to ") {
-        None => format!(in alloc; "{}", Written(number(&word)))?,
-        Some((low, high)) => {
-            let number = number_within(&word, number_in(low)?, number_in(high)?);
-            format!(in alloc; "{}", Written(number))?
-        }
+    let word = unquoted(alloc, word)?;
+    let value = match bounds.split_once(" to ") {
+        Some((low, high)) => match number_within(&word, number_in(low)?, number_in(high)?) {
+            Some(number) => Number(number),
+            None => Word("none"),
+        },
+        None if is_signed => match signed_number(&word) {
+            Some(number) => Signed(number),
+            None => Word("none"),
+        },
+        None => match number(&word) {
+            Some(number) => Long(number),
+            None => Word("none"),
+        },
     };
-    tally.row(expected, &found)
-}
-
-/// `signed WORD -> NUMBER`.
-pub fn signed_row(
-    alloc: Global,
-    tally: &mut Tally,
-    input: &str,
-    expected: &str,
-) -> Result<(), Fault> {
-    let word = bytes_in_quotes(alloc, input)?;
-    let found = format!(in alloc; "{}", Written(signed_number(&word)))?;
-    tally.row(expected, &found)
+    text_of(alloc, &[("", value)])
 }
 
 /// A line of a script in words.
-#[derive(Clone, Copy)]
-struct LineText<'a>(&'a Line);
-
-impl fmt::Display for LineText<'_> {
-    fn fmt<W: fmt::Write>(&self, f: &mut fmt::Formatter<W>) -> fmt::Result {
-        match self.0 {
-            Line::Nothing => f.write_str("nothing"),
-            Line::Cell {
-                servers,
-                clock,
-                kind,
-            } => write!(
-                f,
-                "cell of {}, servers {servers}, clock {clock}",
-                kind_text(*kind)
-            ),
-            Line::Tick { server, seconds } => write!(f, "tick {server}, seconds {seconds}"),
-            Line::TickAll { seconds } => write!(f, "tickall, seconds {seconds}"),
-            Line::Beacon { server } => write!(f, "beacon {server}"),
-            Line::Recover { server } => write!(f, "recover {server}"),
-            Line::Deliver { packet } => write!(f, "deliver {packet}"),
-            Line::Drop { packet } => write!(f, "drop {packet}"),
-            Line::DropAll { server } => write!(f, "dropall {server}"),
-            Line::DeliverAll => f.write_str("deliverall"),
-            Line::Ask { server, call } => {
-                write!(
-                    f,
-                    "ask {}, words {}",
-                    Written(*server),
-                    call.as_slice().len()
-                )
-            }
-            Line::Stop {
-                server,
-                calls,
-                fill,
-            } => write!(f, "stop {server}, calls {calls}, {}", FillText(*fill)),
-            Line::Crash { server } => write!(f, "crash {server}"),
-            Line::Restart { server } => write!(f, "restart {server}"),
-            Line::Show { server } => write!(f, "show {server}"),
+fn line_text(alloc: Global, line: &Line) -> Result<String, Fault> {
+    match line {
+        Line::Nothing => text_of(alloc, &[("nothing", Nothing)]),
+        Line::Cell {
+            servers,
+            clock,
+            kind,
+        } => {
+            let kind = match kind {
+                Kind::Location => ("cell of locations, servers ", Number(*servers)),
+                Kind::Protection => ("cell of users, servers ", Number(*servers)),
+            };
+            text_of(alloc, &[kind, (", clock ", Number(*clock))])
         }
+        Line::Tick { server, seconds } => {
+            text_of(
+                alloc,
+                &[("tick ", Long(*server)), (", seconds ", Number(*seconds))],
+            )
+        }
+        Line::TickAll { seconds } => text_of(alloc, &[("tickall, seconds ", Number(*seconds))]),
+        Line::Beacon { server } => text_of(alloc, &[("beacon ", Long(*server))]),
+        Line::Recover { server } => text_of(alloc, &[("recover ", Long(*server))]),
+        Line::Deliver { packet } => text_of(alloc, &[("deliver ", Long(*packet))]),
+        Line::Drop { packet } => text_of(alloc, &[("drop ", Long(*packet))]),
+        Line::DropAll { server } => text_of(alloc, &[("dropall ", Long(*server))]),
+        Line::DeliverAll => text_of(alloc, &[("deliverall", Nothing)]),
+        Line::Ask { server, call } => {
+            let server = match server {
+                Some(server) => Long(*server),
+                None => Word("none"),
+            };
+            text_of(
+                alloc,
+                &[("ask ", server), (", words ", Place(call.as_slice().len()))],
+            )
+        }
+        Line::Stop {
+            server,
+            calls,
+            fill,
+        } => {
+            let (server, calls) = (("stop ", Long(*server)), (", calls ", Number(*calls)));
+            text_of(alloc, &[server, calls, fill_part(*fill)])
+        }
+        Line::Crash { server } => text_of(alloc, &[("crash ", Long(*server))]),
+        Line::Restart { server } => text_of(alloc, &[("restart ", Long(*server))]),
+        Line::Show { server } => text_of(alloc, &[("show ", Long(*server))]),
     }
 }
 
-fn kind_text(kind: Kind) -> &'static str {
-    match kind {
-        Kind::Location => "locations",
-        Kind::Protection => "users",
-    }
-}
-
-/// What a stop leaves, in words.
-#[derive(Clone, Copy)]
-struct FillText(Fill);
-
-impl fmt::Display for FillText {
-    fn fmt<W: fmt::Write>(&self, f: &mut fmt::Formatter<W>) -> fmt::Result {
-        match self.0 {
-            Fill::Old => f.write_str("old bytes"),
-            Fill::New => f.write_str("new bytes"),
-            Fill::Byte(byte) => write!(f, "byte {byte}"),
-        }
+/// What a stop leaves, behind a comma.
+fn fill_part(fill: Fill) -> (&'static str, Token<'static>) {
+    match fill {
+        Fill::Old => (", old bytes", Nothing),
+        Fill::New => (", new bytes", Nothing),
+        Fill::Byte(byte) => (", byte ", Number(u32::from(byte))),
     }
 }
 
@@ -153,90 +117,66 @@ fn why_text(why: Why) -> &'static str {
     }
 }
 
-/// A row of what a line means.
-fn meaning_row(alloc: Global, tally: &mut Tally, line: &[u8], expected: &str) -> Result<(), Fault> {
-    let found = match line_meaning(alloc, line)? {
-        Ok(line) => format!(in alloc; "{}", LineText(&line))?,
-        Err(why) => String::from_str(alloc, why_text(why))?,
+/// What a line means: `TEXT`, or `TEXT to LEN` for the text, blanks, and a 7 as the last of so many bytes.
+pub fn meaning_text(alloc: Global, input: &str, is_long: bool) -> Result<String, Fault> {
+    let line = if is_long {
+        let (text, len) = input.split_once(" to ").ok_or(Fault::Form)?;
+        let mut line = unquoted(alloc, text)?;
+        line.resize((number_in(len)? as usize).saturating_sub(1), b' ')?;
+        line.push(b'7')?;
+        line
+    } else {
+        unquoted(alloc, input)?
     };
-    tally.row(expected, &found)
-}
-
-/// `line TEXT -> MEANING`.
-pub fn line_row(
-    alloc: Global,
-    tally: &mut Tally,
-    input: &str,
-    expected: &str,
-) -> Result<(), Fault> {
-    let line = bytes_in_quotes(alloc, input)?;
-    meaning_row(alloc, tally, &line, expected)
-}
-
-/// `longline TEXT to LEN -> MEANING`: the text, blanks, and a 7 as the last of so many bytes.
-pub fn long_line_row(
-    alloc: Global,
-    tally: &mut Tally,
-    input: &str,
-    expected: &str,
-) -> Result<(), Fault> {
-    let (text, len) = input.split_once(" to ").ok_or(Fault::Form)?;
-    let mut line = bytes_in_quotes(alloc, text)?;
-    line.resize((number_in(len)? as usize).saturating_sub(1), b' ')?;
-    line.push(b'7')?;
-    meaning_row(alloc, tally, &line, expected)
+    match line_meaning(alloc, &line)? {
+        Ok(line) => line_text(alloc, &line),
+        Err(why) => Ok(String::from_str(alloc, why_text(why))?),
+    }
 }
 
 /// How a line ended, and the line, in words.
 fn end_text(alloc: Global, end: LineEnd, line: &[u8]) -> Result<String, Fault> {
-    Ok(match end {
+    match end {
         LineEnd::Line if line.len() > MAX_TOLD => {
-            format!(in alloc; "line of {} bytes", line.len())?
+            text_of(
+                alloc,
+                &[("line of ", Place(line.len())), (" bytes", Nothing)],
+            )
         }
-        LineEnd::Line => format!(in alloc; "line {}", Quoted(line))?,
-        LineEnd::TooLong => String::from_str(alloc, "too long")?,
-        LineEnd::End => String::from_str(alloc, "end")?,
-        LineEnd::Failed => String::from_str(alloc, "failed")?,
-    })
-}
-
-/// A row for each line that is read of a source.
-fn ends_rows(
-    alloc: Global,
-    tally: &mut Tally,
-    source: &mut MemSource,
-    expected: &str,
-) -> Result<(), Fault> {
-    let mut reader = LineReader::new(alloc)?;
-    for (i, text) in expected.split(", ").enumerate() {
-        if i >= MAX_ENDS {
-            return Err(Fault::Form);
-        }
-        let end = reader.next_line(source);
-        tally.row(text, &end_text(alloc, end, reader.line())?)?;
+        LineEnd::Line => text_of(alloc, &[("line ", Quoted(line))]),
+        LineEnd::TooLong => text_of(alloc, &[("too long", Nothing)]),
+        LineEnd::End => text_of(alloc, &[("end", Nothing)]),
+        LineEnd::Failed => text_of(alloc, &[("failed", Nothing)]),
     }
-    Ok(())
 }
 
-/// `source TEXT failing at CALL -> ENDS` or `source LEN of BYTE -> ENDS`: a row for each line that is read of these bytes. A call of
-/// the source that fails is counted from 1, and each gives a byte.
-pub fn source_rows(
-    alloc: Global,
-    tally: &mut Tally,
-    input: &str,
-    expected: &str,
-) -> Result<(), Fault> {
+/// A source: `TEXT failing at CALL`, or `LEN of BYTE`. A call of it that fails is counted from 1, and each gives a byte.
+fn source_of(alloc: Global, input: &str) -> Result<MemSource, Fault> {
     if let Some((text, call)) = input.split_once(" failing at ") {
-        let bytes = bytes_in_quotes(alloc, text)?;
         let call = u64::from(number_in(call)?);
-        let mut source = MemSource::new(alloc, &bytes, &[call])?;
-        return ends_rows(alloc, tally, &mut source, expected);
+        return Ok(MemSource::new(alloc, &unquoted(alloc, text)?, &[call])?);
     }
     let (len, byte) = input.split_once(" of ").ok_or(Fault::Form)?;
-    let bytes = match bytes_in_hex(alloc, byte)?.as_slice() {
-        [byte] => filled(alloc, *byte, number_in(len)?)?,
-        _ => return Err(Fault::Form),
-    };
-    let mut source = MemSource::new(alloc, &bytes, &[])?;
-    ends_rows(alloc, tally, &mut source, expected)
+    match bytes_in(alloc, byte)?.as_slice() {
+        [byte] => {
+            let bytes = vec![in alloc; *byte; number_in(len)? as usize]?;
+            Ok(MemSource::new(alloc, &bytes, &[])?)
+        }
+        _ => Err(Fault::Form),
+    }
+}
+
+/// The lines that are read of a source, as many as there are expected.
+pub fn source_text(alloc: Global, input: &str, expected: &str) -> Result<String, Fault> {
+    let mut source = source_of(alloc, input)?;
+    let mut reader = LineReader::new(alloc)?;
+    let mut text = String::new(alloc);
+    for _ in expected.split(", ").take(MAX_ENDS) {
+        if !text.is_empty() {
+            text.push_str(", ")?;
+        }
+        let end = reader.next_line(&mut source);
+        text.push_str(&end_text(alloc, end, reader.line())?)?;
+    }
+    Ok(text)
 }

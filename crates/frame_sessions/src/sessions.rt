@@ -1,104 +1,98 @@
 //! The lines of standard input.
 use crate::damages::Damaged;
-use crate::faults::Fault;
-use crate::frame_rows::{ask_row, piece_row, refused_row, value_rows};
-use crate::script_rows::{line_row, long_line_row, number_row, signed_row, source_rows, word_row};
-use crate::tallies::Tally;
-use crate::texts::{bytes_in_hex, number_in};
-use crate::xdr_rows::{item_rows, long_rows, opaque_rows, read_rows, told_row};
+use crate::frame_rows::{ask_rows, seen_rows, value_rows, with_piece};
+use crate::script_rows::{meaning_text, number_text, source_text, word_text};
+use crate::xdr_rows::{item_rows, long_text, read_text};
+use session_rows::{Fault, Report, Rows, bytes_in};
 use std::alloc::Global;
 
-/// What was gone through so far: its rows, the bytes that the session is about, and whether the end was read.
+/// The bytes that the session is about, with what became of those that were damaged.
 #[derive(Drop)]
 pub struct Sessions {
     alloc: Global,
-    tally: Tally,
     damaged: Damaged,
-    has_ended: bool,
 }
 
 impl Sessions {
     pub fn new(alloc: Global) -> Sessions {
         Sessions {
             alloc,
-            tally: Tally::new(alloc),
             damaged: Damaged::new(Vec::new(alloc)),
-            has_ended: false,
         }
     }
 
-    pub fn tally(&self) -> &Tally {
-        &self.tally
-    }
-
-    /// Goes through all lines, up to one that is no row.
-    pub fn read(&mut self, text: &str) -> Result<(), Fault> {
-        for line in text.lines() {
-            self.tally.next_line();
-            self.take(line)?;
-        }
-        if self.has_ended {
-            Ok(())
-        } else {
-            Err(Fault::CutOff)
-        }
-    }
-
-    fn take(&mut self, line: &str) -> Result<(), Fault> {
-        if self.has_ended {
-            return Err(Fault::Form);
-        }
-        let (mark, rest) = line.split_once(' ').ok_or(Fault::Form)?;
-        match mark {
-            "#" => self.tally.begin_session(rest),
-            "end" => self.end(rest),
-            _ if !self.tally.has_name() => Err(Fault::Form),
-            "frame" => {
-                self.damaged = Damaged::new(bytes_in_hex(self.alloc, rest)?);
-                Ok(())
-            }
-            "value" => value_rows(self.alloc, &mut self.tally, self.damaged.bytes(), rest),
-            _ => {
-                let (input, expected) = rest.split_once(" -> ").ok_or(Fault::Form)?;
-                self.row(mark, input, expected)
-            }
-        }
-    }
-
-    /// The last line, which has the number of rows.
-    fn end(&mut self, count: &str) -> Result<(), Fault> {
-        let rows = self.tally.rows();
-        if rows == 0 || u64::from(number_in(count)?) != rows {
-            return Err(Fault::Form);
-        }
-        self.has_ended = true;
-        Ok(())
-    }
-
-    /// A row of a kind, of what it is about, and what is expected.
-    fn row(&mut self, kind: &str, input: &str, expected: &str) -> Result<(), Fault> {
-        let (alloc, tally) = (self.alloc, &mut self.tally);
+    /// The rows of a kind, of what they are about, and what is expected.
+    fn rows(
+        &mut self,
+        report: &mut Report,
+        kind: &str,
+        input: &str,
+        expected: &str,
+    ) -> Result<(), Fault> {
+        let alloc = self.alloc;
         match kind {
-            "each" => self.damaged.each(alloc, tally, input, expected),
-            "outcomes" => self.damaged.outcomes_row(alloc, tally, expected),
-            "refused" => refused_row(alloc, tally, input, expected),
-            "piece" => piece_row(alloc, tally, self.damaged.bytes(), input, expected),
-            "longask" => ask_row(alloc, tally, input, expected),
-            "opaque" => {
-                self.damaged = Damaged::new(opaque_rows(alloc, tally, input, expected)?);
+            "each" => self.damaged.each(alloc, report, input, expected),
+            "refused" => seen_rows(alloc, report, &bytes_in(alloc, input)?, expected),
+            "piece" => {
+                let bytes = with_piece(alloc, &self.damaged.bytes, input)?;
+                seen_rows(alloc, report, &bytes, expected)
+            }
+            "longask" => ask_rows(alloc, report, input, expected),
+            "u32" | "i32" | "bool" | "opaque" => {
+                let bytes = item_rows(alloc, report, kind, input, expected)?;
+                self.damaged = Damaged::new(bytes);
                 Ok(())
             }
-            "u32" | "i32" | "bool" => item_rows(alloc, tally, kind, input, expected),
-            "reads" => read_rows(alloc, tally, input, expected),
-            "told" => told_row(alloc, tally, input, expected),
-            "longtext" => long_rows(alloc, tally, input, expected),
-            "word" => word_row(alloc, tally, input, expected),
-            "number" => number_row(alloc, tally, input, expected),
-            "signed" => signed_row(alloc, tally, input, expected),
-            "line" => line_row(alloc, tally, input, expected),
-            "longline" => long_line_row(alloc, tally, input, expected),
-            "source" => source_rows(alloc, tally, input, expected),
+            "outcomes" => list_rows(report, expected, &self.damaged.outcomes_text(alloc)?),
+            "reads" => list_rows(report, expected, &read_text(alloc, input, false)?),
+            "longtext" => list_rows(report, expected, &long_text(alloc, input)?),
+            "source" => list_rows(report, expected, &source_text(alloc, input, expected)?),
+            _ => report.row(expected, &self.found(kind, input)?),
+        }
+    }
+
+    /// What is found where a line is one row.
+    fn found(&self, kind: &str, input: &str) -> Result<String, Fault> {
+        let alloc = self.alloc;
+        match kind {
+            "told" => read_text(alloc, input, true),
+            "word" => word_text(alloc, input),
+            "number" => number_text(alloc, input, false),
+            "signed" => number_text(alloc, input, true),
+            "line" => meaning_text(alloc, input, false),
+            "longline" => meaning_text(alloc, input, true),
             _ => Err(Fault::Form),
         }
     }
+}
+
+impl Rows for Sessions {
+    fn end_session(&mut self, _report: &mut Report) -> Result<(), Fault> {
+        Ok(())
+    }
+
+    fn take(&mut self, report: &mut Report, line: &str) -> Result<(), Fault> {
+        let (kind, rest) = line.split_once(' ').ok_or(Fault::Form)?;
+        match (kind, rest.split_once(" -> ")) {
+            ("frame", None) => {
+                self.damaged = Damaged::new(bytes_in(self.alloc, rest)?);
+                Ok(())
+            }
+            ("value", None) => value_rows(self.alloc, report, &self.damaged.bytes, rest),
+            (_, Some((input, expected))) => self.rows(report, kind, input, expected),
+            (_, None) => Err(Fault::Form),
+        }
+    }
+}
+
+/// A row for each of two lists, item by item; where one is longer, what the other lacks is the empty text.
+fn list_rows(report: &mut Report, expected: &str, found: &str) -> Result<(), Fault> {
+    let mut others = found.split(", ");
+    for item in expected.split(", ") {
+        report.row(item, others.next().unwrap_or(""))?;
+    }
+    for other in others {
+        report.row("", other)?;
+    }
+    Ok(())
 }

@@ -22,22 +22,22 @@ enum Part {
 
 use Part::{Half, Number, PhaseWord, Piece, Remainder, Truth};
 
-/// What stands behind the two hosts of a packet, from kind 1 on.
+/// What stands behind the kind of a packet, from kind 1 on; first its two hosts.
 const PACKETS: [&[Part]; 14] = [
-    &[Number, Truth, Truth, Half, Half],
-    &[Number, Truth],
-    &[Number],
-    &[Number, Half, Half],
-    &[Number, Half, Half, Number],
-    &[Number, Half, Half, Number, Number, Piece],
-    &[Number, Half, Half, Number, Number, Piece],
-    &[Number, Half, Half, Number],
-    &[Number, Half, Half, Half, Half],
-    &[Half, Half, Half, Half, Number, Number],
-    &[Half, Half, Number, Piece],
-    &[Half, Half, Half, Half],
-    &[Half, Half],
-    &[Half, Half],
+    &[Number, Number, Number, Truth, Truth, Half, Half],
+    &[Number, Number, Number, Truth],
+    &[Number, Number, Number],
+    &[Number, Number, Number, Half, Half],
+    &[Number, Number, Number, Half, Half, Number],
+    &[Number, Number, Number, Half, Half, Number, Number, Piece],
+    &[Number, Number, Number, Half, Half, Number, Number, Piece],
+    &[Number, Number, Number, Half, Half, Number],
+    &[Number, Number, Number, Half, Half, Half, Half],
+    &[Number, Number, Half, Half, Half, Half, Number, Number],
+    &[Number, Number, Half, Half, Number, Piece],
+    &[Number, Number, Half, Half, Half, Half],
+    &[Number, Number, Half, Half],
+    &[Number, Number, Half, Half],
 ];
 
 /// What stands behind the tag of a reply, from tag 0 on.
@@ -80,18 +80,6 @@ impl Slow<'_> {
         Ok(u32::from_be_bytes([*a, *b, *c, *d]))
     }
 
-    fn length(&mut self) -> Result<(), FrameFault> {
-        if self.len < 4 {
-            return Err(FrameFault::Length { said: 0, have: 0 });
-        }
-        let said = self.word()?;
-        let have = u32::try_from(self.rest.len()).unwrap_or(u32::MAX);
-        if said != have || said > LONGEST_FRAME {
-            return Err(FrameFault::Length { said, have });
-        }
-        Ok(())
-    }
-
     fn piece(&mut self) -> Result<(), FrameFault> {
         let at = self.place();
         let len = self.word()?;
@@ -113,80 +101,63 @@ impl Slow<'_> {
 
     fn part(&mut self, part: Part) -> Result<(), FrameFault> {
         match part {
-            Number => {
-                self.word()?;
+            Piece => return self.piece(),
+            Remainder => {
+                self.rest = &[];
+                return Ok(());
             }
-            Truth => {
-                let value = self.word()?;
-                if value > 1 {
-                    return Err(FrameFault::Xdr(XdrFault::BadBool { value }));
-                }
-            }
-            Half => {
-                let value = self.word()?;
-                if value >= 0x8000_0000 {
-                    return Err(FrameFault::Version { value });
-                }
-            }
-            PhaseWord => {
-                let kind = self.word()?;
-                if kind > 5 {
-                    return Err(FrameFault::Kind { kind });
-                }
-            }
-            Piece => self.piece()?,
-            Remainder => self.rest = &[],
+            _ => {}
         }
-        Ok(())
-    }
-
-    fn parts(&mut self, parts: &[Part]) -> Result<(), FrameFault> {
-        for part in parts {
-            self.part(*part)?;
-        }
-        Ok(())
-    }
-
-    fn packet(&mut self) -> Result<(), FrameFault> {
-        let kind = self.word()?;
-        let Some(parts) = PACKETS.get(kind.wrapping_sub(1) as usize) else {
-            return Err(FrameFault::Kind { kind });
-        };
-        self.parts(&[Number, Number])?;
-        self.parts(parts)
-    }
-
-    fn reply(&mut self) -> Result<(), FrameFault> {
-        self.word()?;
-        let kind = self.word()?;
-        match REPLIES.get(kind as usize) {
-            Some(parts) => self.parts(parts),
-            None => Err(FrameFault::Kind { kind }),
+        let value = self.word()?;
+        match part {
+            Truth if value > 1 => Err(FrameFault::Xdr(XdrFault::BadBool { value })),
+            Half if value >= 0x8000_0000 => Err(FrameFault::Version { value }),
+            PhaseWord if value > 5 => Err(FrameFault::Kind { kind: value }),
+            _ => Ok(()),
         }
     }
 
-    fn frame(&mut self) -> Result<(), FrameFault> {
-        self.length()?;
+    /// Reads the kind of a frame: what stands behind it.
+    fn kind(&mut self) -> Result<&'static [Part], FrameFault> {
         match self.word()? {
-            0 => self.packet()?,
-            1 => self.parts(&[Number, Remainder])?,
-            2 => self.reply()?,
-            3 => self.parts(&[Number])?,
-            4 => self.parts(TOLD)?,
-            kind => return Err(FrameFault::Kind { kind }),
-        }
-        match self.rest.len() {
-            0 => Ok(()),
-            left => Err(FrameFault::Xdr(XdrFault::Rest { left })),
+            0 => {
+                let kind = self.word()?;
+                let parts = PACKETS.get(kind.wrapping_sub(1) as usize);
+                parts.copied().ok_or(FrameFault::Kind { kind })
+            }
+            1 => Ok(&[Number, Remainder]),
+            2 => {
+                self.word()?;
+                let kind = self.word()?;
+                let parts = REPLIES.get(kind as usize);
+                parts.copied().ok_or(FrameFault::Kind { kind })
+            }
+            3 => Ok(&[Number]),
+            4 => Ok(TOLD),
+            kind => Err(FrameFault::Kind { kind }),
         }
     }
 }
 
-/// Why these bytes are no frame by the table; `None` where they are one.
-pub fn fault_by_table(bytes: &[u8]) -> Option<FrameFault> {
+/// Why these bytes are no frame by the table.
+pub fn fault_by_table(bytes: &[u8]) -> Result<(), FrameFault> {
+    if bytes.len() < 4 {
+        return Err(FrameFault::Length { said: 0, have: 0 });
+    }
     let mut slow = Slow {
         len: bytes.len(),
         rest: bytes,
     };
-    slow.frame().err()
+    let said = slow.word()?;
+    let have = u32::try_from(slow.rest.len()).unwrap_or(u32::MAX);
+    if said != have || said > LONGEST_FRAME {
+        return Err(FrameFault::Length { said, have });
+    }
+    for part in slow.kind()? {
+        slow.part(*part)?;
+    }
+    match slow.rest.len() {
+        0 => Ok(()),
+        left => Err(FrameFault::Xdr(XdrFault::Rest { left })),
+    }
 }

@@ -1,210 +1,142 @@
 //! Rows of XDR items.
-use crate::faults::Fault;
-use crate::frame_texts::XdrText;
-use crate::tallies::Tally;
-use crate::texts::{Quoted, bytes_in_hex, bytes_in_quotes, hex_of, number_in};
+use crate::frame_texts::fault_text;
+use crate::tokens::Token::{self, Digits, Number, Quoted, Signed, Truth, Word};
+use crate::tokens::{text_of, unquoted};
 use script_words::signed_number;
+use session_rows::{Fault, Report, bytes_in, number_in};
 use std::alloc::Global;
-use ubik_types::NoMemory;
+use ubik_calls::FrameFault;
+use ubik_types::Bytes;
 use xdr_base::{XdrFault, XdrReader, XdrWriter};
 
 /// The longest text of a row, in bytes.
 const MAX_TEXT: usize = 1024;
 
-/// The most bytes of an opaque of the rows.
-const MOST: &str = "bytes 8";
+/// How an opaque of the rows is read: it has at most 8 bytes.
+const OPAQUE: &str = "bytes 8";
 
-/// Writes the item that a text stands for.
-fn put(writer: &mut XdrWriter, kind: &str, text: &str) -> Result<(), Fault> {
+/// What the item that a text stands for is written as.
+fn written(alloc: Global, kind: &str, text: &str) -> Result<Bytes, Fault> {
+    let mut writer = XdrWriter::new(alloc);
+    match (kind, text) {
+        ("u32", _) => writer.put_u32(number_in(text)?)?,
+        ("i32", _) => writer.put_i32(signed_number(text.as_bytes()).ok_or(Fault::Form)?)?,
+        ("bool", "yes") => writer.put_bool(true)?,
+        ("bool", "no") => writer.put_bool(false)?,
+        ("opaque", _) => {
+            let inner = unquoted(alloc, text)?;
+            if inner.len() > MAX_TEXT {
+                return Err(Fault::Form);
+            }
+            writer.put_bytes(&inner)?;
+        }
+        _ => return Err(Fault::Form),
+    }
+    Ok(writer.finish())
+}
+
+/// Reads an item: `u32`, `i32`, `bool`, `bytes` or `count` of at most so many, or that nothing is left, `end`.
+fn read_item<'a>(reader: &mut XdrReader<'a>, kind: &str, most: u32) -> Result<Token<'a>, XdrFault> {
     match kind {
-        "u32" => writer.put_u32(number_in(text)?)?,
-        "i32" => writer.put_i32(signed_number(text.as_bytes()).ok_or(Fault::Form)?)?,
-        _ => writer.put_bool(truth_in(text)?)?,
-    }
-    Ok(())
-}
-
-fn truth_in(text: &str) -> Result<bool, Fault> {
-    match text {
-        "yes" => Ok(true),
-        "no" => Ok(false),
-        _ => Err(Fault::Form),
+        "u32" => Ok(Number(reader.get_u32()?)),
+        "i32" => Ok(Signed(reader.get_i32()?)),
+        "bool" => Ok(Truth(reader.get_bool()?)),
+        "bytes" => Ok(Quoted(reader.get_bytes(most)?)),
+        "count" => Ok(Number(reader.get_count(most)?)),
+        "end" => {
+            reader.end()?;
+            Ok(Word("nothing left"))
+        }
+        _ => Ok(Word("no item")),
     }
 }
 
-/// How an item was read.
-type Read = Result<String, XdrFault>;
-
-/// A read that gave something, in words.
-fn read_as(text: String) -> Result<Read, Fault> {
-    Ok(Ok(text))
-}
-
-/// Reads an item: `u32`, `i32`, `bool`, `bytes MOST`, `count MOST`, or that nothing is left, `end`.
-fn step(alloc: Global, reader: &mut XdrReader, item: &str) -> Result<Read, Fault> {
-    let (kind, most) = item.split_once(' ').unwrap_or((item, "0"));
-    let most = number_in(most)?;
-    match kind {
-        "u32" => match reader.get_u32() {
-            Ok(number) => read_as(format!(in alloc; "{number}")?),
-            Err(fault) => Ok(Err(fault)),
-        },
-        "i32" => match reader.get_i32() {
-            Ok(number) => read_as(format!(in alloc; "{number}")?),
-            Err(fault) => Ok(Err(fault)),
-        },
-        "bool" => match reader.get_bool() {
-            Ok(truth) => read_as(String::from_str(alloc, if truth { "yes" } else { "no" })?),
-            Err(fault) => Ok(Err(fault)),
-        },
-        "bytes" => match reader.get_bytes(most) {
-            Ok(bytes) => read_as(format!(in alloc; "{}", Quoted(bytes))?),
-            Err(fault) => Ok(Err(fault)),
-        },
-        "count" => match reader.get_count(most) {
-            Ok(count) => read_as(format!(in alloc; "{count}")?),
-            Err(fault) => Ok(Err(fault)),
-        },
-        "end" => match reader.end() {
-            Ok(()) => read_as(String::from_str(alloc, "nothing left")?),
-            Err(fault) => Ok(Err(fault)),
-        },
-        _ => Err(Fault::Form),
-    }
-}
-
-/// Reads an item, in words.
-fn step_text(alloc: Global, reader: &mut XdrReader, item: &str) -> Result<String, Fault> {
-    match step(alloc, reader, item)? {
-        Ok(text) => Ok(text),
-        Err(fault) => Ok(format!(in alloc; "{}", XdrText(fault))?),
-    }
-}
-
-/// Two rows: an item is read as this text, and then nothing is left.
-fn back_rows(
+/// Reads an item, in words; a fault is told as it tells of itself, where that is asked for.
+fn item_text(
     alloc: Global,
-    tally: &mut Tally,
-    bytes: &[u8],
-    (item, text): (&str, &str),
-) -> Result<(), Fault> {
-    let mut reader = XdrReader::new(bytes);
-    tally.row(text, &step_text(alloc, &mut reader, item)?)?;
-    tally.row("nothing left", &step_text(alloc, &mut reader, "end")?)
+    reader: &mut XdrReader,
+    item: &str,
+    tells: bool,
+) -> Result<String, Fault> {
+    let (kind, most) = item.split_once(' ').unwrap_or((item, "0"));
+    match read_item(reader, kind, number_in(most)?) {
+        Ok(value) => text_of(alloc, &[("", value)]),
+        Err(fault) if tells => Ok(format!(in alloc; "{fault}")?),
+        Err(fault) => fault_text(alloc, FrameFault::Xdr(fault)),
+    }
 }
 
-/// `u32 NUMBER -> BYTES`, and so `i32` and `bool`: three rows, of what is written, read back, and left.
+/// `u32 NUMBER -> BYTES`, and so `i32`, `bool` and `opaque`: three rows, of what is written, read back, and left. Gives the bytes.
 pub fn item_rows(
     alloc: Global,
-    tally: &mut Tally,
+    report: &mut Report,
     kind: &str,
     text: &str,
     expected: &str,
-) -> Result<(), Fault> {
-    let mut writer = XdrWriter::new(alloc);
-    put(&mut writer, kind, text)?;
-    let written = hex_of(alloc, writer.finish().as_slice())?;
-    tally.row(expected, &written)?;
-    let bytes = bytes_in_hex(alloc, expected)?;
-    back_rows(alloc, tally, &bytes, (kind, text))
-}
-
-/// `opaque TEXT -> BYTES`: three rows in the same way. Gives the expected bytes, which damages are then made to.
-pub fn opaque_rows(
-    alloc: Global,
-    tally: &mut Tally,
-    text: &str,
-    expected: &str,
 ) -> Result<Vec<u8>, Fault> {
-    let inner = bytes_in_quotes(alloc, text)?;
-    if inner.len() > MAX_TEXT {
-        return Err(Fault::Form);
-    }
-    let mut writer = XdrWriter::new(alloc);
-    writer.put_bytes(&inner)?;
-    let written = hex_of(alloc, writer.finish().as_slice())?;
-    tally.row(expected, &written)?;
-    let bytes = bytes_in_hex(alloc, expected)?;
-    back_rows(alloc, tally, &bytes, (MOST, text))?;
+    let written = written(alloc, kind, text)?;
+    report.row(
+        expected,
+        &text_of(alloc, &[("", Digits(written.as_slice()))])?,
+    )?;
+    let bytes = bytes_in(alloc, expected)?;
+    let mut reader = XdrReader::new(&bytes);
+    let item = if kind == "opaque" { OPAQUE } else { kind };
+    report.row(text, &item_text(alloc, &mut reader, item, false)?)?;
+    report.row(
+        "nothing left",
+        &item_text(alloc, &mut reader, "end", false)?,
+    )?;
     Ok(bytes)
 }
 
-/// `reads BYTES: ITEMS -> TEXTS`: a row for each item that is read, one after the other.
-pub fn read_rows(
-    alloc: Global,
-    tally: &mut Tally,
-    input: &str,
-    expected: &str,
-) -> Result<(), Fault> {
+/// `BYTES: ITEMS`: each of the items that are read one after the other, in words; of a telling one the last alone.
+pub fn read_text(alloc: Global, input: &str, tells: bool) -> Result<String, Fault> {
     let (bytes, items) = input.split_once(": ").ok_or(Fault::Form)?;
-    let bytes = bytes_in_hex(alloc, bytes)?;
+    let bytes = bytes_in(alloc, bytes)?;
     let mut reader = XdrReader::new(&bytes);
-    let mut texts = expected.split(", ");
+    let mut text = String::new(alloc);
     for item in items.split(", ") {
-        let text = texts.next().ok_or(Fault::Form)?;
-        tally.row(text, &step_text(alloc, &mut reader, item)?)?;
+        let read = item_text(alloc, &mut reader, item, tells)?;
+        if tells {
+            text = read;
+        } else {
+            if !text.is_empty() {
+                text.push_str(", ")?;
+            }
+            text.push_str(&read)?;
+        }
     }
-    match texts.next() {
-        None => Ok(()),
-        Some(_) => Err(Fault::Form),
-    }
+    Ok(text)
 }
 
-/// `told BYTES: ITEMS -> TEXT`: what the fault of the last item that is read tells of itself.
-pub fn told_row(
-    alloc: Global,
-    tally: &mut Tally,
-    input: &str,
-    expected: &str,
-) -> Result<(), Fault> {
-    let (bytes, items) = input.split_once(": ").ok_or(Fault::Form)?;
-    let bytes = bytes_in_hex(alloc, bytes)?;
-    let mut reader = XdrReader::new(&bytes);
-    let mut told = String::new(alloc);
-    for item in items.split(", ") {
-        told = match step(alloc, &mut reader, item)? {
-            Ok(text) => text,
-            Err(fault) => format!(in alloc; "{fault}")?,
-        };
-    }
-    tally.row(expected, &told)
-}
-
-/// A text of one opaque of this many zero bytes, and then this many words.
-fn long_text(alloc: Global, len: u32, words: u32) -> Result<XdrWriter, NoMemory> {
+/// The text of one opaque of this many zero bytes, and then this many words.
+fn long_bytes(alloc: Global, len: u32, words: u32) -> Result<Bytes, Fault> {
     let zeros = vec![in alloc; 0; len as usize]?;
     let mut writer = XdrWriter::new(alloc);
     writer.put_bytes(&zeros)?;
     for word in 0..words {
         writer.put_u32(word)?;
     }
-    Ok(writer)
+    Ok(writer.finish())
 }
 
-/// How many of the next words are their places, up to the first that is not.
-fn words_in_order(reader: &mut XdrReader, most: u32) -> u32 {
-    for word in 0..most {
-        if reader.get_u32() != Ok(word) {
-            return word;
-        }
-    }
-    most
-}
-
-/// `longtext LEN, WORDS -> TEXTS`: three rows, of an opaque of so many bytes, of so many words behind it, and of what is left.
-pub fn long_rows(
-    alloc: Global,
-    tally: &mut Tally,
-    input: &str,
-    expected: &str,
-) -> Result<(), Fault> {
+/// `LEN, WORDS`: an opaque of so many bytes, how many of the words behind it are their places, and what is left.
+pub fn long_text(alloc: Global, input: &str) -> Result<String, Fault> {
     let (len, words) = input.split_once(", ").ok_or(Fault::Form)?;
     let (len, words) = (number_in(len)?, number_in(words)?);
-    let text = long_text(alloc, len, words)?.finish();
+    let text = long_bytes(alloc, len, words)?;
     let mut reader = XdrReader::new(text.as_slice());
-    let bytes = reader.get_bytes(len).map_or(0, |bytes| bytes.len());
-    let read = words_in_order(&mut reader, words);
-    let end = step_text(alloc, &mut reader, "end")?;
-    let found = format!(in alloc; "{bytes} bytes, {read} words, {end}")?;
-    tally.listed_rows(expected, &found)
+    let bytes = match reader.get_bytes(len) {
+        Ok(bytes) => bytes.len(),
+        Err(_) => 0,
+    };
+    let mut read: u32 = 0;
+    for word in 0..words {
+        if reader.get_u32() == Ok(word) {
+            read = read.wrapping_add(1);
+        }
+    }
+    let end = item_text(alloc, &mut reader, "end", false)?;
+    Ok(format!(in alloc; "{bytes} bytes, {read} words, {end}")?)
 }
