@@ -125,7 +125,7 @@ module _ {D : Type 0} (g : Ghosts D) (given line : List ℕ) (t : Told) where
   leaves_ended (Ok done) run later other held = absurd (other refl)
   leaves_ended (Err e) run later other held = held
 
-  pub protection_told : (before after : CellRun D PtService) (result : Result (Unit {0}) RunEnd) (text_before text_after : List ℕ)
+  pub protection_told : (before after : CellRun D PtService g) (result : Result (Unit {0}) RunEnd) (text_before text_after : List ℕ)
       → StandsAt g given (over.Protection before) t → OpensItsKind line (over.Protection before)
       → LineTold g (only (databases Protection)) given line t result after text_before text_after
       → ScriptTold g given line t result (over.Protection after) text_before text_after
@@ -134,7 +134,7 @@ module _ {D : Type 0} (g : Ghosts D) (given line : List ℕ) (t : Told) where
       kind_told g Protection given line t before at opens result after (ScriptLeaves g given result next) text_before text_after
       (λ is later there. leaves_on result next later is there) (λ other later held. leaves_ended result next later other held) of
 
-  pub location_told : (before after : CellRun D VlService) (result : Result (Unit {0}) RunEnd) (text_before text_after : List ℕ)
+  pub location_told : (before after : CellRun D VlService g) (result : Result (Unit {0}) RunEnd) (text_before text_after : List ℕ)
       → StandsAt g given (over.Location before) t → OpensItsKind line (over.Location before)
       → LineTold g (only (databases Location)) given line t result after text_before text_after
       → ScriptTold g given line t result (over.Location after) text_before text_after
@@ -143,11 +143,11 @@ module _ {D : Type 0} (g : Ghosts D) (given line : List ℕ) (t : Told) where
       kind_told g Location given line t before at opens result after (ScriptLeaves g given result next) text_before text_after
       (λ is later there. leaves_on result next later is there) (λ other later held. leaves_ended result next later other held) of
 
-  pub protection_short : (before after : CellRun D PtService) → StandsAt g given (over.Protection before) t → OpensItsKind line (over.Protection before)
+  pub protection_short : (before after : CellRun D PtService g) → StandsAt g given (over.Protection before) t → OpensItsKind line (over.Protection before)
       → ShortLine (only (databases Protection)) given line t (run_helds g after) → ShortLine databases given line t (run_helds g after)
   protection_short before after at opens short = kind_short g Protection given line t before at opens after short
 
-  pub location_short : (before after : CellRun D VlService) → StandsAt g given (over.Location before) t → OpensItsKind line (over.Location before)
+  pub location_short : (before after : CellRun D VlService g) → StandsAt g given (over.Location before) t → OpensItsKind line (over.Location before)
       → ShortLine (only (databases Location)) given line t (run_helds g after) → ShortLine databases given line t (run_helds g after)
   location_short before after at opens short = kind_short g Location given line t before at opens after short
 
@@ -171,8 +171,8 @@ module _ {D : Type 0} {g : Ghosts D} where
   script_none_stands (over.Location run) line k is = none_stands run.cell line k is
 
   pub script_no_sites : (run : ScriptRun D g) → HasNoCell run → script_sites run ≡ 0
-  script_no_sites (over.Protection run) none = ap (λ (c : Option (OpenCell D PtService)). sites_in c) none
-  script_no_sites (over.Location run) none = ap (λ (c : Option (OpenCell D VlService)). sites_in c) none
+  script_no_sites (over.Protection run) none = ap (λ (c : Option (OpenCell D PtService g)). sites_in c) none
+  script_no_sites (over.Location run) none = ap (λ (c : Option (OpenCell D VlService g)). sites_in c) none
 
   -- a run that opens no cell opens none of another kind
   pub opens_none : (run : ScriptRun D g) (line : List ℕ) → script_kind_opened run line ≡ None → OpensItsKind line run
