@@ -5,26 +5,43 @@ use crate::tokens::Token::Digits;
 use crate::tokens::text_of;
 use session_rows::{Fault, Report, bytes_in, number_in};
 use std::alloc::Global;
-use ubik_calls::{Frame, decode, encode};
+use ubik_calls::{Frame, FrameFault, decode, encode};
+use ubik_types::WORD_LEN;
 
 /// The byte of which long calls and pieces are made.
 const FILLER: u8 = b'a';
 
-/// What bytes are by the reader and the writer of frames, in words: a frame, which is written as these bytes again, or why they are
-/// none.
-pub fn seen_text(alloc: Global, bytes: &[u8]) -> Result<String, Fault> {
-    match decode(alloc, bytes) {
-        Ok(frame) => {
-            let again = encode(alloc, &frame)?;
-            let is_same = again.as_slice() == bytes;
-            let text = if is_same {
-                "frame"
-            } else {
-                "a frame of other bytes"
-            };
-            Ok(String::from_str(alloc, text)?)
+/// What bytes are by the reader and the writer of frames.
+#[derive(Clone, Copy)]
+pub enum Seen {
+    /// A frame, which is written as these bytes again.
+    Frame,
+    /// A frame that is written as other bytes.
+    OtherBytes,
+    Refused(FrameFault),
+}
+
+impl Seen {
+    pub fn of(alloc: Global, bytes: &[u8]) -> Result<Seen, Fault> {
+        let frame = match decode(alloc, bytes) {
+            Ok(frame) => frame,
+            Err(fault) => return Ok(Seen::Refused(fault)),
+        };
+        let again = encode(alloc, &frame)?;
+        let is_same = again.as_slice() == bytes;
+        Ok(if is_same {
+            Seen::Frame
+        } else {
+            Seen::OtherBytes
+        })
+    }
+
+    pub fn text(self, alloc: Global) -> Result<String, Fault> {
+        match self {
+            Seen::Frame => Ok(String::from_str(alloc, "frame")?),
+            Seen::OtherBytes => Ok(String::from_str(alloc, "a frame of other bytes")?),
+            Seen::Refused(fault) => fault_text(alloc, fault),
         }
-        Err(fault) => fault_text(alloc, fault),
     }
 }
 
@@ -63,7 +80,7 @@ pub fn seen_rows(
     bytes: &[u8],
     expected: &str,
 ) -> Result<(), Fault> {
-    report.row(expected, &seen_text(alloc, bytes)?)?;
+    report.row(expected, &Seen::of(alloc, bytes)?.text(alloc)?)?;
     report.row(expected, &table_text(alloc, bytes)?)
 }
 
@@ -76,7 +93,7 @@ pub fn framed(alloc: Global, behind: &[u8]) -> Result<Vec<u8>, Fault> {
 }
 
 /// `at PLACE: LEN said, BYTES`: a frame with another piece from a place on, of which so many bytes are said, and these stand there.
-/// `COUNT bytes` are so many fillers.
+/// `COUNT bytes` are so many fillers. `Fault::Form` where the input is another one, or the frame ends before the place.
 pub fn with_piece(alloc: Global, frame: &[u8], input: &str) -> Result<Vec<u8>, Fault> {
     let (place, piece) = input.split_once(": ").ok_or(Fault::Form)?;
     let (said, piece) = piece.split_once(" said, ").ok_or(Fault::Form)?;
@@ -85,7 +102,7 @@ pub fn with_piece(alloc: Global, frame: &[u8], input: &str) -> Result<Vec<u8>, F
         Some((count, _)) => vec![in alloc; FILLER; number_in(count)? as usize]?,
         None => bytes_in(alloc, piece)?,
     };
-    let front = frame.get(4..at as usize).ok_or(Fault::Form)?;
+    let front = frame.get(WORD_LEN..at as usize).ok_or(Fault::Form)?;
     let mut behind = front.to_vec(alloc)?;
     behind.extend_from_slice(&number_in(said)?.to_be_bytes())?;
     behind.extend_from_slice(&piece)?;
@@ -118,5 +135,8 @@ pub fn ask_rows(
     )?;
     let bytes = framed(alloc, &behind)?;
     report.row(expected, &long_ask_text(alloc, &bytes)?)?;
-    report.row(&table_text(alloc, &bytes)?, &seen_text(alloc, &bytes)?)
+    report.row(
+        &table_text(alloc, &bytes)?,
+        &Seen::of(alloc, &bytes)?.text(alloc)?,
+    )
 }

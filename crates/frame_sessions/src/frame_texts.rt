@@ -2,7 +2,7 @@
 use crate::tokens::Token::{
     self, Digits, Host, Long, Nothing, Number, Place, Quoted, Truth, Version, Word,
 };
-use crate::tokens::text_of;
+use crate::tokens::{NO_PART, Part, text_of};
 use session_rows::Fault;
 use std::alloc::Global;
 use ubik_calls::{Body, DebugIs, Frame, FrameFault, Reply};
@@ -32,137 +32,150 @@ pub fn frame_text(alloc: Global, frame: &Frame) -> Result<String, Fault> {
     }
 }
 
-/// What a packet says, in words.
+/// What a packet says, in words: its kind, its start or poll, what is claimed or voted, its versions, its numbers, and its bytes.
 fn body_text(alloc: Global, body: &Body) -> Result<String, Fault> {
-    match body {
-        Body::Beacon {
-            start,
+    let kind = (kind_word(body), Nothing);
+    let [claim, ready] = truths(body);
+    let [old, new] = versions(body);
+    let [first, second] = numbers(body);
+    let bytes = match piece_of(body) {
+        Some(bytes) => (" ", Quoted(bytes)),
+        None => NO_PART,
+    };
+    text_of(
+        alloc,
+        &[
+            kind,
+            start_or_poll(body),
             claim,
             ready,
-            version,
-        } => {
-            let (start, claim) = (
-                ("beacon start ", Number(*start)),
-                (" claim ", Truth(*claim)),
-            );
-            let (ready, version) = ((" ready ", Truth(*ready)), (" version ", Version(*version)));
-            text_of(alloc, &[start, claim, ready, version])
-        }
-        Body::Vote { start, yes } => {
-            text_of(
-                alloc,
-                &[("vote start ", Number(*start)), (" ", Truth(*yes))],
-            )
-        }
-        Body::Begin {
             old,
             new,
-            pieces,
-            len,
-        } => {
-            let (old, new) = (("begin ", Version(*old)), (" to ", Version(*new)));
-            let (pieces, len) = ((" pieces ", Number(*pieces)), (" bytes ", Number(*len)));
-            text_of(alloc, &[old, new, pieces, len])
-        }
-        Body::PutPiece { new, number, bytes } => {
-            let (new, number) = (
-                ("putpiece version ", Version(*new)),
-                (" number ", Number(*number)),
-            );
-            text_of(alloc, &[new, number, (" ", Quoted(bytes.as_slice()))])
-        }
-        Body::Commit { old, new } => {
-            text_of(
-                alloc,
-                &[("commit ", Version(*old)), (" to ", Version(*new))],
-            )
-        }
-        Body::Abort { new } => text_of(alloc, &[("abort version ", Version(*new))]),
-        Body::VersionKept { version } => {
-            text_of(alloc, &[("versionkept version ", Version(*version))])
-        }
-        _ => poll_text(alloc, body),
+            first,
+            second,
+            bytes,
+        ],
+    )
+}
+
+fn kind_word(body: &Body) -> &'static str {
+    match body {
+        Body::Beacon { .. } => "beacon",
+        Body::Vote { .. } => "vote",
+        Body::GetVersion { .. } => "getversion",
+        Body::VersionIs { .. } => "versionis",
+        Body::GetPiece { .. } => "getpiece",
+        Body::Piece { .. } => "piece",
+        Body::SendPiece { .. } => "sendpiece",
+        Body::PieceKept { .. } => "piecekept",
+        Body::SetVersion { .. } => "setversion",
+        Body::Begin { .. } => "begin",
+        Body::PutPiece { .. } => "putpiece",
+        Body::Commit { .. } => "commit",
+        Body::Abort { .. } => "abort",
+        Body::VersionKept { .. } => "versionkept",
     }
 }
 
-/// What a packet of a poll says, in words.
-fn poll_text(alloc: Global, body: &Body) -> Result<String, Fault> {
+/// The start of the beacon, or of the poll, that a packet belongs to.
+fn start_or_poll(body: &Body) -> Part<'static> {
     match body {
-        Body::GetVersion { poll } => text_of(alloc, &[("getversion poll ", Number(*poll))]),
-        Body::VersionIs { poll, version } => {
-            let version = (" version ", Version(*version));
-            text_of(alloc, &[("versionis poll ", Number(*poll)), version])
+        Body::Beacon { start, .. } | Body::Vote { start, .. } => (" start ", Number(*start)),
+        Body::GetVersion { poll }
+        | Body::VersionIs { poll, .. }
+        | Body::GetPiece { poll, .. }
+        | Body::Piece { poll, .. }
+        | Body::SendPiece { poll, .. }
+        | Body::PieceKept { poll, .. }
+        | Body::SetVersion { poll, .. } => (" poll ", Number(*poll)),
+        Body::Begin { .. }
+        | Body::PutPiece { .. }
+        | Body::Commit { .. }
+        | Body::Abort { .. }
+        | Body::VersionKept { .. } => NO_PART,
+    }
+}
+
+/// What is claimed or voted.
+fn truths(body: &Body) -> [Part<'static>; 2] {
+    match body {
+        Body::Beacon { claim, ready, .. } => {
+            [(" claim ", Truth(*claim)), (" ready ", Truth(*ready))]
         }
-        Body::GetPiece {
-            poll,
-            version,
-            offset,
-        } => {
-            let (version, offset) = (
-                (" version ", Version(*version)),
-                (" from ", Number(*offset)),
-            );
-            text_of(alloc, &[("getpiece poll ", Number(*poll)), version, offset])
+        Body::Vote { yes, .. } => [(" ", Truth(*yes)), NO_PART],
+        Body::GetVersion { .. }
+        | Body::VersionIs { .. }
+        | Body::GetPiece { .. }
+        | Body::Piece { .. }
+        | Body::SendPiece { .. }
+        | Body::PieceKept { .. }
+        | Body::SetVersion { .. }
+        | Body::Begin { .. }
+        | Body::PutPiece { .. }
+        | Body::Commit { .. }
+        | Body::Abort { .. }
+        | Body::VersionKept { .. } => [NO_PART; 2],
+    }
+}
+
+/// The version of a packet, or the old one and the new one.
+fn versions(body: &Body) -> [Part<'static>; 2] {
+    match body {
+        Body::Beacon { version, .. }
+        | Body::VersionIs { version, .. }
+        | Body::GetPiece { version, .. }
+        | Body::Piece { version, .. }
+        | Body::SendPiece { version, .. }
+        | Body::PieceKept { version, .. }
+        | Body::PutPiece { new: version, .. }
+        | Body::Abort { new: version }
+        | Body::VersionKept { version } => [(" version ", Version(*version)), NO_PART],
+        Body::SetVersion { old, new, .. }
+        | Body::Begin { old, new, .. }
+        | Body::Commit { old, new } => [(" ", Version(*old)), (" to ", Version(*new))],
+        Body::Vote { .. } | Body::GetVersion { .. } => [NO_PART; 2],
+    }
+}
+
+/// The places, lengths and counts of a packet.
+fn numbers(body: &Body) -> [Part<'static>; 2] {
+    match body {
+        Body::GetPiece { offset, .. } => [(" from ", Number(*offset)), NO_PART],
+        Body::Piece { total, offset, .. } | Body::SendPiece { total, offset, .. } => {
+            [(" of ", Number(*total)), (" from ", Number(*offset))]
         }
-        Body::Piece {
-            poll,
-            version,
-            total,
-            offset,
-            bytes,
-        } => {
-            let (poll, version) = (
-                ("piece poll ", Number(*poll)),
-                (" version ", Version(*version)),
-            );
-            let (total, offset) = ((" of ", Number(*total)), (" from ", Number(*offset)));
-            text_of(
-                alloc,
-                &[
-                    poll,
-                    version,
-                    total,
-                    offset,
-                    (" ", Quoted(bytes.as_slice())),
-                ],
-            )
+        Body::PieceKept { next, .. } => [(" next ", Number(*next)), NO_PART],
+        Body::Begin { pieces, len, .. } => {
+            [(" pieces ", Number(*pieces)), (" bytes ", Number(*len))]
         }
-        Body::SendPiece {
-            poll,
-            version,
-            total,
-            offset,
-            bytes,
-        } => {
-            let (poll, version) = (
-                ("sendpiece poll ", Number(*poll)),
-                (" version ", Version(*version)),
-            );
-            let (total, offset) = ((" of ", Number(*total)), (" from ", Number(*offset)));
-            text_of(
-                alloc,
-                &[
-                    poll,
-                    version,
-                    total,
-                    offset,
-                    (" ", Quoted(bytes.as_slice())),
-                ],
-            )
-        }
-        Body::PieceKept {
-            poll,
-            version,
-            next,
-        } => {
-            let (version, next) = ((" version ", Version(*version)), (" next ", Number(*next)));
-            text_of(alloc, &[("piecekept poll ", Number(*poll)), version, next])
-        }
-        Body::SetVersion { poll, old, new } => {
-            let (old, new) = ((" ", Version(*old)), (" to ", Version(*new)));
-            text_of(alloc, &[("setversion poll ", Number(*poll)), old, new])
-        }
-        _ => Ok(String::from_str(alloc, "another packet")?),
+        Body::PutPiece { number, .. } => [(" number ", Number(*number)), NO_PART],
+        Body::Beacon { .. }
+        | Body::Vote { .. }
+        | Body::GetVersion { .. }
+        | Body::VersionIs { .. }
+        | Body::SetVersion { .. }
+        | Body::Commit { .. }
+        | Body::Abort { .. }
+        | Body::VersionKept { .. } => [NO_PART; 2],
+    }
+}
+
+/// The bytes of a piece.
+fn piece_of(body: &Body) -> Option<&[u8]> {
+    match body {
+        Body::Piece { bytes, .. } | Body::SendPiece { bytes, .. } | Body::PutPiece { bytes, .. } =>
+            Some(bytes.as_slice()),
+        Body::Beacon { .. }
+        | Body::Vote { .. }
+        | Body::GetVersion { .. }
+        | Body::VersionIs { .. }
+        | Body::GetPiece { .. }
+        | Body::PieceKept { .. }
+        | Body::SetVersion { .. }
+        | Body::Begin { .. }
+        | Body::Commit { .. }
+        | Body::Abort { .. }
+        | Body::VersionKept { .. } => None,
     }
 }
 

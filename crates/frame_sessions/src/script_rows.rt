@@ -1,6 +1,6 @@
 //! Rows of words, and of numbers and lines of scripts.
 use crate::tokens::Token::{self, Digits, Long, Nothing, Number, Place, Quoted, Signed, Word};
-use crate::tokens::{text_of, unquoted};
+use crate::tokens::{Part, text_of, unquoted};
 use cell_script::{Kind, Line, LineEnd, LineReader, Why, line_meaning};
 use disk_base::{Fill, MemSource};
 use script_words::{number, number_within, signed_number};
@@ -14,32 +14,41 @@ const MAX_TOLD: usize = 40;
 /// The most ends of lines in a row.
 const MAX_ENDS: usize = 8;
 
+/// What is told where there is none.
+const NONE: Token<'static> = Word("none");
+
 /// The first word of bytes, and what stands behind it.
 pub fn word_text(alloc: Global, input: &str) -> Result<String, Fault> {
     match first_word(&bytes_in(alloc, input)?) {
-        None => text_of(alloc, &[("none", Nothing)]),
+        None => text_of(alloc, &[("", NONE)]),
         Some((word, [])) => text_of(alloc, &[("", Number(word)), (", nothing left", Nothing)]),
         Some((word, rest)) => text_of(alloc, &[("", Number(word)), (", left ", Digits(rest))]),
     }
 }
 
-/// The number that a word writes, or none: `WORD`, `WORD from LOW to HIGH`, or one that may have a sign.
-pub fn number_text(alloc: Global, input: &str, is_signed: bool) -> Result<String, Fault> {
-    let (word, bounds) = input.split_once(" from ").unwrap_or((input, ""));
-    let word = unquoted(alloc, word)?;
-    let value = match bounds.split_once(" to ") {
-        Some((low, high)) => match number_within(&word, number_in(low)?, number_in(high)?) {
-            Some(number) => Number(number),
-            None => Word("none"),
-        },
-        None if is_signed => match signed_number(&word) {
-            Some(number) => Signed(number),
-            None => Word("none"),
-        },
-        None => match number(&word) {
+/// The number that a word writes, or none: `WORD`, or `WORD from LOW to HIGH`.
+pub fn number_text(alloc: Global, input: &str) -> Result<String, Fault> {
+    let value = match input.split_once(" from ") {
+        Some((word, bounds)) => {
+            let (low, high) = bounds.split_once(" to ").ok_or(Fault::Form)?;
+            match number_within(&unquoted(alloc, word)?, number_in(low)?, number_in(high)?) {
+                Some(number) => Number(number),
+                None => NONE,
+            }
+        }
+        None => match number(&unquoted(alloc, input)?) {
             Some(number) => Long(number),
-            None => Word("none"),
+            None => NONE,
         },
+    };
+    text_of(alloc, &[("", value)])
+}
+
+/// The number that a word writes which may have a sign, or none.
+pub fn signed_text(alloc: Global, word: &str) -> Result<String, Fault> {
+    let value = match signed_number(&unquoted(alloc, word)?) {
+        Some(number) => Signed(number),
+        None => NONE,
     };
     text_of(alloc, &[("", value)])
 }
@@ -52,13 +61,7 @@ fn line_text(alloc: Global, line: &Line) -> Result<String, Fault> {
             servers,
             clock,
             kind,
-        } => {
-            let kind = match kind {
-                Kind::Location => ("cell of locations, servers ", Number(*servers)),
-                Kind::Protection => ("cell of users, servers ", Number(*servers)),
-            };
-            text_of(alloc, &[kind, (", clock ", Number(*clock))])
-        }
+        } => cell_text(alloc, *servers, *clock, *kind),
         Line::Tick { server, seconds } => {
             text_of(
                 alloc,
@@ -72,32 +75,42 @@ fn line_text(alloc: Global, line: &Line) -> Result<String, Fault> {
         Line::Drop { packet } => text_of(alloc, &[("drop ", Long(*packet))]),
         Line::DropAll { server } => text_of(alloc, &[("dropall ", Long(*server))]),
         Line::DeliverAll => text_of(alloc, &[("deliverall", Nothing)]),
-        Line::Ask { server, call } => {
-            let server = match server {
-                Some(server) => Long(*server),
-                None => Word("none"),
-            };
-            text_of(
-                alloc,
-                &[("ask ", server), (", words ", Place(call.as_slice().len()))],
-            )
-        }
+        Line::Ask { server, call } => ask_text(alloc, *server, call.as_slice().len()),
         Line::Stop {
             server,
             calls,
             fill,
-        } => {
-            let (server, calls) = (("stop ", Long(*server)), (", calls ", Number(*calls)));
-            text_of(alloc, &[server, calls, fill_part(*fill)])
-        }
+        } => stop_text(alloc, *server, *calls, *fill),
         Line::Crash { server } => text_of(alloc, &[("crash ", Long(*server))]),
         Line::Restart { server } => text_of(alloc, &[("restart ", Long(*server))]),
         Line::Show { server } => text_of(alloc, &[("show ", Long(*server))]),
     }
 }
 
+fn cell_text(alloc: Global, servers: u32, clock: u32, kind: Kind) -> Result<String, Fault> {
+    let of = match kind {
+        Kind::Location => "cell of locations, servers ",
+        Kind::Protection => "cell of users, servers ",
+    };
+    text_of(alloc, &[(of, Number(servers)), (", clock ", Number(clock))])
+}
+
+/// A call of so many words to a server, or to none.
+fn ask_text(alloc: Global, server: Option<u64>, words: usize) -> Result<String, Fault> {
+    let server = match server {
+        Some(server) => Long(server),
+        None => NONE,
+    };
+    text_of(alloc, &[("ask ", server), (", words ", Place(words))])
+}
+
+fn stop_text(alloc: Global, server: u64, calls: u32, fill: Fill) -> Result<String, Fault> {
+    let (server, calls) = (("stop ", Long(server)), (", calls ", Number(calls)));
+    text_of(alloc, &[server, calls, fill_part(fill)])
+}
+
 /// What a stop leaves, behind a comma.
-fn fill_part(fill: Fill) -> (&'static str, Token<'static>) {
+fn fill_part(fill: Fill) -> Part<'static> {
     match fill {
         Fill::Old => (", old bytes", Nothing),
         Fill::New => (", new bytes", Nothing),
@@ -117,18 +130,22 @@ fn why_text(why: Why) -> &'static str {
     }
 }
 
-/// What a line means: `TEXT`, or `TEXT to LEN` for the text, blanks, and a 7 as the last of so many bytes.
-pub fn meaning_text(alloc: Global, input: &str, is_long: bool) -> Result<String, Fault> {
-    let line = if is_long {
-        let (text, len) = input.split_once(" to ").ok_or(Fault::Form)?;
-        let mut line = unquoted(alloc, text)?;
-        line.resize((number_in(len)? as usize).saturating_sub(1), b' ')?;
-        line.push(b'7')?;
-        line
-    } else {
-        unquoted(alloc, input)?
-    };
-    match line_meaning(alloc, &line)? {
+/// What a line means, or why it is refused.
+pub fn meaning_text(alloc: Global, line: &str) -> Result<String, Fault> {
+    line_or_why(alloc, &unquoted(alloc, line)?)
+}
+
+/// `TEXT to LEN`: the same of the text, blanks behind it, and a 7 as the last of so many bytes.
+pub fn long_meaning_text(alloc: Global, input: &str) -> Result<String, Fault> {
+    let (text, len) = input.split_once(" to ").ok_or(Fault::Form)?;
+    let mut line = unquoted(alloc, text)?;
+    line.resize((number_in(len)? as usize).saturating_sub(1), b' ')?;
+    line.push(b'7')?;
+    line_or_why(alloc, &line)
+}
+
+fn line_or_why(alloc: Global, line: &[u8]) -> Result<String, Fault> {
+    match line_meaning(alloc, line)? {
         Ok(line) => line_text(alloc, &line),
         Err(why) => Ok(String::from_str(alloc, why_text(why))?),
     }

@@ -1,8 +1,10 @@
 //! The lines of standard input.
 use crate::damages::Damaged;
 use crate::frame_rows::{ask_rows, seen_rows, value_rows, with_piece};
-use crate::script_rows::{meaning_text, number_text, source_text, word_text};
-use crate::xdr_rows::{item_rows, long_text, read_text};
+use crate::script_rows::{
+    long_meaning_text, meaning_text, number_text, signed_text, source_text, word_text,
+};
+use crate::xdr_rows::{item_rows, long_text, read_text, told_text};
 use session_rows::{Fault, Report, Rows, bytes_in};
 use std::alloc::Global;
 
@@ -21,7 +23,8 @@ impl Sessions {
         }
     }
 
-    /// The rows of a kind, of what they are about, and what is expected.
+    /// The rows of a kind, of what they are about, and what is expected. `Fault::Form` where there is no such kind, or what it is about is no
+    /// input of this kind.
     fn rows(
         &mut self,
         report: &mut Report,
@@ -44,7 +47,7 @@ impl Sessions {
                 Ok(())
             }
             "outcomes" => list_rows(report, expected, &self.damaged.outcomes_text(alloc)?),
-            "reads" => list_rows(report, expected, &read_text(alloc, input, false)?),
+            "reads" => list_rows(report, expected, &read_text(alloc, input)?),
             "longtext" => list_rows(report, expected, &long_text(alloc, input)?),
             "source" => list_rows(report, expected, &source_text(alloc, input, expected)?),
             _ => report.row(expected, &self.found(kind, input)?),
@@ -55,12 +58,12 @@ impl Sessions {
     fn found(&self, kind: &str, input: &str) -> Result<String, Fault> {
         let alloc = self.alloc;
         match kind {
-            "told" => read_text(alloc, input, true),
+            "told" => told_text(alloc, input),
             "word" => word_text(alloc, input),
-            "number" => number_text(alloc, input, false),
-            "signed" => number_text(alloc, input, true),
-            "line" => meaning_text(alloc, input, false),
-            "longline" => meaning_text(alloc, input, true),
+            "number" => number_text(alloc, input),
+            "signed" => signed_text(alloc, input),
+            "line" => meaning_text(alloc, input),
+            "longline" => long_meaning_text(alloc, input),
             _ => Err(Fault::Form),
         }
     }

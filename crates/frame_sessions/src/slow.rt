@@ -2,10 +2,35 @@
 use ubik_calls::FrameFault;
 use xdr_base::XdrFault;
 
-/// The most bytes of a piece, and the most behind the length of a frame.
+/// The bytes of a word.
+const WORD: usize = 4;
+
+/// The most bytes of a piece.
 const LONGEST_PIECE: u32 = 8192;
 
+/// The most bytes behind the length of a frame.
 const LONGEST_FRAME: u32 = 2_097_148;
+
+/// The first number that is no word of a version.
+const VERSION_END: u32 = 0x8000_0000;
+
+/// The number of the last phase.
+const LAST_PHASE: u32 = 5;
+
+/// The kind of a frame with a packet.
+const PACKET: u32 = 0;
+
+/// The kind of a frame with a call.
+const ASK: u32 = 1;
+
+/// The kind of a frame with what became of a call.
+const REPLY: u32 = 2;
+
+/// The kind of a frame with a question about a server.
+const QUESTION: u32 = 3;
+
+/// The kind of a frame with what a server tells of itself.
+const TELLING: u32 = 4;
 
 /// What a part of a frame may be.
 #[derive(Clone, Copy)]
@@ -59,7 +84,7 @@ const TOLD: &[Part] = &[
     Number, Number, Number, Half, Half, PhaseWord, Number, Number, Number, Number,
 ];
 
-/// The bytes that are left of a frame.
+/// The bytes that are left of a frame, and how many it had.
 #[derive(Drop)]
 struct Slow<'a> {
     len: usize,
@@ -67,10 +92,12 @@ struct Slow<'a> {
 }
 
 impl Slow<'_> {
+    /// The place in the frame that is read next.
     fn place(&self) -> usize {
         self.len.wrapping_sub(self.rest.len())
     }
 
+    /// Reads a word. An error leaves all as it is.
     fn word(&mut self) -> Result<u32, FrameFault> {
         let [a, b, c, d, rest @ ..] = self.rest else {
             let at = self.place();
@@ -80,6 +107,7 @@ impl Slow<'_> {
         Ok(u32::from_be_bytes([*a, *b, *c, *d]))
     }
 
+    /// Reads a piece: its length, its bytes, and zero bytes up to whole words.
     fn piece(&mut self) -> Result<(), FrameFault> {
         let at = self.place();
         let len = self.word()?;
@@ -87,7 +115,7 @@ impl Slow<'_> {
             return Err(FrameFault::Xdr(XdrFault::TooLong { len }));
         }
         let len = len as usize;
-        let padded = len + (4 - len % 4) % 4;
+        let padded = len + (WORD - len % WORD) % WORD;
         if self.rest.len() < padded {
             return Err(FrameFault::Xdr(XdrFault::Short { at }));
         }
@@ -99,6 +127,7 @@ impl Slow<'_> {
         Ok(())
     }
 
+    /// Reads a part of a frame, which is refused where it is none of its kind.
     fn part(&mut self, part: Part) -> Result<(), FrameFault> {
         match part {
             Piece => return self.piece(),
@@ -111,29 +140,29 @@ impl Slow<'_> {
         let value = self.word()?;
         match part {
             Truth if value > 1 => Err(FrameFault::Xdr(XdrFault::BadBool { value })),
-            Half if value >= 0x8000_0000 => Err(FrameFault::Version { value }),
-            PhaseWord if value > 5 => Err(FrameFault::Kind { kind: value }),
+            Half if value >= VERSION_END => Err(FrameFault::Version { value }),
+            PhaseWord if value > LAST_PHASE => Err(FrameFault::Kind { kind: value }),
             _ => Ok(()),
         }
     }
 
-    /// Reads the kind of a frame: what stands behind it.
+    /// Reads the kind of a frame, and of a packet or a reply in it: the parts that stand behind it.
     fn kind(&mut self) -> Result<&'static [Part], FrameFault> {
         match self.word()? {
-            0 => {
+            PACKET => {
                 let kind = self.word()?;
                 let parts = PACKETS.get(kind.wrapping_sub(1) as usize);
                 parts.copied().ok_or(FrameFault::Kind { kind })
             }
-            1 => Ok(&[Number, Remainder]),
-            2 => {
+            ASK => Ok(&[Number, Remainder]),
+            REPLY => {
                 self.word()?;
                 let kind = self.word()?;
                 let parts = REPLIES.get(kind as usize);
                 parts.copied().ok_or(FrameFault::Kind { kind })
             }
-            3 => Ok(&[Number]),
-            4 => Ok(TOLD),
+            QUESTION => Ok(&[Number]),
+            TELLING => Ok(TOLD),
             kind => Err(FrameFault::Kind { kind }),
         }
     }
@@ -141,7 +170,7 @@ impl Slow<'_> {
 
 /// Why these bytes are no frame by the table.
 pub fn fault_by_table(bytes: &[u8]) -> Result<(), FrameFault> {
-    if bytes.len() < 4 {
+    if bytes.len() < WORD {
         return Err(FrameFault::Length { said: 0, have: 0 });
     }
     let mut slow = Slow {

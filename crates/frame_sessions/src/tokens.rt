@@ -2,7 +2,7 @@
 use session_rows::Fault;
 use std::alloc::Global;
 use std::{fmt, str};
-use ubik_types::{Host, Version};
+use ubik_types::{Host, Version, WORD_LEN};
 
 /// A value in a text.
 #[derive(Clone, Copy)]
@@ -16,11 +16,17 @@ pub enum Token<'a> {
     Truth(bool),
     Host(Host),
     Version(Version),
-    /// Two digits a byte, with a blank behind each four bytes.
+    /// Two digits a byte, with a blank behind each word.
     Digits(&'a [u8]),
     /// Text in quotes where the bytes are that, and else digits.
     Quoted(&'a [u8]),
 }
+
+/// Words of a text, and the value behind them.
+pub type Part<'a> = (&'static str, Token<'a>);
+
+/// Nothing of a text.
+pub const NO_PART: Part<'static> = ("", Token::Nothing);
 
 impl fmt::Display for Token<'_> {
     fn fmt<W: fmt::Write>(&self, f: &mut fmt::Formatter<W>) -> fmt::Result {
@@ -50,7 +56,7 @@ fn is_shown(letter: char) -> bool {
 
 fn write_digits<W: fmt::Write>(f: &mut fmt::Formatter<W>, bytes: &[u8]) -> fmt::Result {
     for (i, byte) in bytes.iter().enumerate() {
-        if i > 0 && i % 4 == 0 {
+        if i > 0 && i % WORD_LEN == 0 {
             f.write_str(" ")?;
         }
         write!(f, "{byte:02x}")?;
@@ -58,8 +64,8 @@ fn write_digits<W: fmt::Write>(f: &mut fmt::Formatter<W>, bytes: &[u8]) -> fmt::
     Ok(())
 }
 
-/// The text of these words, each with the value behind it.
-pub fn text_of(alloc: Global, parts: &[(&'static str, Token)]) -> Result<String, Fault> {
+/// The text of these parts.
+pub fn text_of(alloc: Global, parts: &[Part]) -> Result<String, Fault> {
     let mut text = String::new(alloc);
     for (word, value) in parts {
         write!(text, "{word}{value}")?;
@@ -67,7 +73,8 @@ pub fn text_of(alloc: Global, parts: &[(&'static str, Token)]) -> Result<String,
     Ok(text)
 }
 
-/// The bytes of a text in quotes, in which `\t` is a tab and `\n` ends a line.
+/// The bytes of a text in quotes, in which `\t` is a tab and `\n` ends a line. `Fault::Form` where it has no quotes, or another letter stands
+/// behind a `\`.
 pub fn unquoted(alloc: Global, text: &str) -> Result<Vec<u8>, Fault> {
     let [b'"', inner @ .., b'"'] = text.as_bytes() else {
         return Err(Fault::Form);

@@ -9,13 +9,24 @@ use ubik_calls::FrameFault;
 use ubik_types::Bytes;
 use xdr_base::{XdrFault, XdrReader, XdrWriter};
 
-/// The longest text of a row, in bytes.
-const MAX_TEXT: usize = 1024;
+/// The most bytes of an opaque that is written and read again, or damaged.
+pub const LONGEST_OPAQUE: u32 = 8;
 
-/// How an opaque of the rows is read: it has at most 8 bytes.
-const OPAQUE: &str = "bytes 8";
+/// How an item is read.
+#[derive(Clone, Copy)]
+enum Item {
+    Unsigned,
+    Signed,
+    Truth,
+    /// An opaque of at most so many bytes.
+    Opaque(u32),
+    /// A count of at most so many.
+    Count(u32),
+    /// That nothing is left.
+    End,
+}
 
-/// What the item that a text stands for is written as.
+/// What the item that a text stands for is written as. `Fault::Form` where it stands for none of this kind, or for too long an opaque.
 fn written(alloc: Global, kind: &str, text: &str) -> Result<Bytes, Fault> {
     let mut writer = XdrWriter::new(alloc);
     match (kind, text) {
@@ -25,7 +36,7 @@ fn written(alloc: Global, kind: &str, text: &str) -> Result<Bytes, Fault> {
         ("bool", "no") => writer.put_bool(false)?,
         ("opaque", _) => {
             let inner = unquoted(alloc, text)?;
-            if inner.len() > MAX_TEXT {
+            if inner.len() > LONGEST_OPAQUE as usize {
                 return Err(Fault::Form);
             }
             writer.put_bytes(&inner)?;
@@ -35,33 +46,42 @@ fn written(alloc: Global, kind: &str, text: &str) -> Result<Bytes, Fault> {
     Ok(writer.finish())
 }
 
-/// Reads an item: `u32`, `i32`, `bool`, `bytes` or `count` of at most so many, or that nothing is left, `end`.
-fn read_item<'a>(reader: &mut XdrReader<'a>, kind: &str, most: u32) -> Result<Token<'a>, XdrFault> {
-    match kind {
-        "u32" => Ok(Number(reader.get_u32()?)),
-        "i32" => Ok(Signed(reader.get_i32()?)),
-        "bool" => Ok(Truth(reader.get_bool()?)),
-        "bytes" => Ok(Quoted(reader.get_bytes(most)?)),
-        "count" => Ok(Number(reader.get_count(most)?)),
-        "end" => {
-            reader.end()?;
-            Ok(Word("nothing left"))
+impl Item {
+    /// The item of a word: `u32`, `i32`, `bool`, `bytes MOST`, `count MOST` or `end`. `Fault::Form` where it is another one.
+    fn of(word: &str) -> Result<Item, Fault> {
+        match word.split_once(' ') {
+            Some(("bytes", most)) => Ok(Item::Opaque(number_in(most)?)),
+            Some(("count", most)) => Ok(Item::Count(number_in(most)?)),
+            Some(_) => Err(Fault::Form),
+            None => match word {
+                "u32" => Ok(Item::Unsigned),
+                "i32" => Ok(Item::Signed),
+                "bool" => Ok(Item::Truth),
+                "end" => Ok(Item::End),
+                _ => Err(Fault::Form),
+            },
         }
-        _ => Ok(Word("no item")),
+    }
+
+    fn read<'a>(self, reader: &mut XdrReader<'a>) -> Result<Token<'a>, XdrFault> {
+        match self {
+            Item::Unsigned => Ok(Number(reader.get_u32()?)),
+            Item::Signed => Ok(Signed(reader.get_i32()?)),
+            Item::Truth => Ok(Truth(reader.get_bool()?)),
+            Item::Opaque(most) => Ok(Quoted(reader.get_bytes(most)?)),
+            Item::Count(most) => Ok(Number(reader.get_count(most)?)),
+            Item::End => {
+                reader.end()?;
+                Ok(Word("nothing left"))
+            }
+        }
     }
 }
 
-/// Reads an item, in words; a fault is told as it tells of itself, where that is asked for.
-fn item_text(
-    alloc: Global,
-    reader: &mut XdrReader,
-    item: &str,
-    tells: bool,
-) -> Result<String, Fault> {
-    let (kind, most) = item.split_once(' ').unwrap_or((item, "0"));
-    match read_item(reader, kind, number_in(most)?) {
+/// Reads an item: what it is, or which fault, in words.
+fn item_text(alloc: Global, reader: &mut XdrReader, item: Item) -> Result<String, Fault> {
+    match item.read(reader) {
         Ok(value) => text_of(alloc, &[("", value)]),
-        Err(fault) if tells => Ok(format!(in alloc; "{fault}")?),
         Err(fault) => fault_text(alloc, FrameFault::Xdr(fault)),
     }
 }
@@ -81,33 +101,44 @@ pub fn item_rows(
     )?;
     let bytes = bytes_in(alloc, expected)?;
     let mut reader = XdrReader::new(&bytes);
-    let item = if kind == "opaque" { OPAQUE } else { kind };
-    report.row(text, &item_text(alloc, &mut reader, item, false)?)?;
-    report.row(
-        "nothing left",
-        &item_text(alloc, &mut reader, "end", false)?,
-    )?;
+    let item = match kind {
+        "opaque" => Item::Opaque(LONGEST_OPAQUE),
+        _ => Item::of(kind)?,
+    };
+    report.row(text, &item_text(alloc, &mut reader, item)?)?;
+    report.row("nothing left", &item_text(alloc, &mut reader, Item::End)?)?;
     Ok(bytes)
 }
 
-/// `BYTES: ITEMS`: each of the items that are read one after the other, in words; of a telling one the last alone.
-pub fn read_text(alloc: Global, input: &str, tells: bool) -> Result<String, Fault> {
+/// `BYTES: ITEMS`: each of the items that are read one after the other, what it is, or which fault, in words. `Fault::Form` where one of them
+/// is no item.
+pub fn read_text(alloc: Global, input: &str) -> Result<String, Fault> {
     let (bytes, items) = input.split_once(": ").ok_or(Fault::Form)?;
     let bytes = bytes_in(alloc, bytes)?;
     let mut reader = XdrReader::new(&bytes);
     let mut text = String::new(alloc);
     for item in items.split(", ") {
-        let read = item_text(alloc, &mut reader, item, tells)?;
-        if tells {
-            text = read;
-        } else {
-            if !text.is_empty() {
-                text.push_str(", ")?;
-            }
-            text.push_str(&read)?;
+        if !text.is_empty() {
+            text.push_str(", ")?;
         }
+        text.push_str(&item_text(alloc, &mut reader, Item::of(item)?)?)?;
     }
     Ok(text)
+}
+
+/// `BYTES: ITEMS`: how the fault of the last of these items tells of itself, if it has one. `Fault::Form` where one of them is no item.
+pub fn told_text(alloc: Global, input: &str) -> Result<String, Fault> {
+    let (bytes, items) = input.split_once(": ").ok_or(Fault::Form)?;
+    let bytes = bytes_in(alloc, bytes)?;
+    let mut reader = XdrReader::new(&bytes);
+    let mut last = None;
+    for item in items.split(", ") {
+        last = Item::of(item)?.read(&mut reader).err();
+    }
+    match last {
+        Some(fault) => Ok(format!(in alloc; "{fault}")?),
+        None => Ok(String::from_str(alloc, "no fault")?),
+    }
 }
 
 /// The text of one opaque of this many zero bytes, and then this many words.
@@ -137,6 +168,6 @@ pub fn long_text(alloc: Global, input: &str) -> Result<String, Fault> {
             read = read.wrapping_add(1);
         }
     }
-    let end = item_text(alloc, &mut reader, "end", false)?;
+    let end = item_text(alloc, &mut reader, Item::End)?;
     Ok(format!(in alloc; "{bytes} bytes, {read} words, {end}")?)
 }
