@@ -119,6 +119,16 @@ change_none o size number at beneath laid starts none begins =
     subst (λ (n : ℕ). block_at (bytes_over o beneath) n (block_size o.layout number) ≡ block_at beneath n (block_size o.layout number)) (sym starts)
     (kept_block o size number beneath laid none (omega (arith, starts, begins)))
 
+-- a block without bytes
+pub change_empty : (o : Overlay) (size number at : ℕ) (beneath : List ℕ) → IsLaid o size (Some beneath) → min (o.len - at) (block_size o.layout number) ≡ 0
+    → block_at (bytes_over o beneath) at (block_size o.layout number) ≡ block_at beneath at (block_size o.layout number)
+change_empty o size number at beneath laid none =
+    let new = length_over o beneath at (block_size o.layout number) in
+    let old = block_length beneath at (block_size o.layout number) in
+    ext_get_or 0 (block_at (bytes_over o beneath) at (block_size o.layout number)) (block_at beneath at (block_size o.layout number))
+    (omega (arith, new, old, laid.told beneath refl, laid.longer, none))
+    (λ i below. absurd (omega (arith, new, none, below)))
+
 -- a block that was not changed behind the image's end
 pub change_zero : (o : Overlay) (size number at count : ℕ) (beneath : List ℕ) (found : Option (List ℕ)) → IsLaid o size (Some beneath) → at ≡ block_start o.layout number
     → changed_at o number ≡ None → size ≤ at → count ≡ min (o.len - at) (block_size o.layout number) → IsChangeOf [] (replicate count 0) found

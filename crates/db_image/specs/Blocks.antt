@@ -1,8 +1,8 @@
 -- The blocks of an image: a head, and blocks of one length behind it. The changes of a call are the blocks that differ (own).
-use Rattle.std.specs.Prelude.{ℕ, zero, suc, ◌+◌, if◌then◌else◌, List, [], ◌∷◌, ◌++◌, length, take, drop}
+use Rattle.std.specs.Prelude.{ℕ, zero, suc, ◌+◌, ◌<◌, if◌then◌else◌, List, [], ◌∷◌, ◌++◌, All, length, take, drop}
 use Rattle.std.specs.Str.{bytes_eq}
 use Rattle.ubik_types.specs.declared.images.Change.{Change}
-use Rattle.ubik_types.specs.declared.images.Change.TheVariants.{Put}
+use Rattle.ubik_types.specs.declared.images.Change.TheVariants.{Put, Cut}
 
 -- the bytes of an image from a place on, `size` of them at most
 abbrev pub block_at : List ℕ → (at size : ℕ) → List ℕ
@@ -23,3 +23,12 @@ block_changes old new at size (suc count) =
 abbrev pub changes_between : (head block : ℕ) → (old new : List ℕ) → List Change
 changes_between head block old new =
     block_change old new 0 head ++ block_changes old new head block (length new)
+
+-- it puts some bytes
+abbrev pub PutsSome : Change → Type 0
+PutsSome (Put at bytes) = 0 < length bytes
+PutsSome (Cut len) = ⊥
+
+-- each of them puts some bytes
+abbrev pub PutSome : List Change → Type 0
+PutSome changes = All PutsSome changes

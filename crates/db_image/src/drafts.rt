@@ -4,7 +4,7 @@ ghost use Rattle.std.specs.Option.{option_map};
 ghost use Rattle.ubik_types.specs.Image.{changed};
 ghost use Rattle.ubik_types.specs.declared.images.Change.TheVariants.{Put};
 ghost use Rattle.db_image.specs.Asked.{AsksAtMost};
-ghost use Rattle.db_image.specs.Blocks.{changes_between};
+ghost use Rattle.db_image.specs.Blocks.{changes_between, PutSome};
 ghost use Rattle.db_image.specs.Draft.{StaysAsItWas, put_cost};
 ghost use Rattle.db_image.specs.Images.{ReadsAtMost, IsOfImage};
 
@@ -78,6 +78,7 @@ impl<I: ImageRead> Draft<I> {
         ensures told { IfSome (I.held self.image) (λ old. IsSomeAnd self.bytes (λ new. length new ≡ self.len)) }
         ensures changes { IfOk result.1 (λ changes. IfSome (I.held self.image) (λ old. IfSome self.bytes (λ new.
             changes ≡ changes_between self.layout.head self.layout.block old new))) }
+        ensures puts { IfOk result.1 PutSome }
     {
         let changes = self.over.changes(self.image.len());
         let Self { image, over: _ } = self;

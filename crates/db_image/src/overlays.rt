@@ -4,7 +4,7 @@ ghost use Rattle.std.specs.Option.{ForSome, option_copied};
 ghost use Rattle.ubik_types.specs.Image.{changed};
 ghost use Rattle.ubik_types.specs.declared.images.Change.TheVariants.{Put};
 ghost use Rattle.db_image.specs.Images.{OnlyReads, ReadsAtMost, IsOfImage};
-ghost use Rattle.db_image.specs.Blocks.{block_at, block_change, changes_between};
+ghost use Rattle.db_image.specs.Blocks.{block_at, block_change, changes_between, PutSome};
 ghost use Rattle.db_image.specs.Places.{block_number, block_start, block_size};
 ghost use Rattle.db_image.specs.Draft.{changed_at, byte_of, byte_over, IsLaid, IsFull, SameBytes, IsLoaded, Lays, Replaces, Keeps, IsLaidOver, ShowsFrom, bytes_over, range_cost, put_cost, IsChangeOf};
 
@@ -115,7 +115,8 @@ fn changed_bytes(
     count: usize,
 ) -> Result<Option<Bytes>, NoMemory>
     requires { count ≤ length block.now.new.items }
-    ensures { IfOk result (λ found. IsChangeOf block.now.old.items (take count block.now.new.items) found) }
+    ensures change { IfOk result (λ found. IsChangeOf block.now.old.items (take count block.now.new.items) found) }
+    ensures len { IfOk result (λ found. IfSome found (λ bytes. length bytes ≡ count)) }
 {
     let new = &block.new[..count];
     if new == block.old.as_slice() {
@@ -124,13 +125,12 @@ fn changed_bytes(
     Ok(Some(bytes_of(alloc, new)?))
 }
 
-/// The zero bytes of a new block, which has some.
+/// The zero bytes of a new block.
 fn zero_bytes(alloc: Global, count: usize) -> Result<Option<Bytes>, NoMemory>
-    ensures { IfOk result (λ found. IsChangeOf [] (replicate count 0) found) }
+    requires { 0 < count }
+    ensures change { IfOk result (λ found. IsChangeOf [] (replicate count 0) found) }
+    ensures len { IfOk result (λ found. IfSome found (λ bytes. length bytes ≡ count)) }
 {
-    if count == 0 {
-        return Ok(None);
-    }
     Ok(Some(Bytes::new(padded(alloc, &[], count)?)))
 }
 
@@ -339,12 +339,16 @@ impl Overlay {
     fn change_of(&self, size: u32, number: u64, at: u32) -> Result<Option<Bytes>, NoMemory>
         requires full { IsFull self.now }
         requires at { at ≡ block_start self.now.layout number }
-        ensures { IfOk result (λ found. (beneath : List ℕ) → IsLaid self.now size (Some beneath)
+        ensures change { IfOk result (λ found. (beneath : List ℕ) → IsLaid self.now size (Some beneath)
             → IsChangeOf (block_at beneath at (block_size self.now.layout number))
             (block_at (bytes_over self.now beneath) at (block_size self.now.layout number)) found) }
+        ensures some { IfOk result (λ found. IfSome found (λ bytes. 0 < length bytes)) }
     {
         let block = size_of(self.layout, number);
         let count = self.len.saturating_sub(at).min(block) as usize;
+        if count == 0 {
+            return Ok(None);
+        }
         match self.blocks.get(&number) {
             Some(changed) => changed_bytes(self.alloc, changed, count),
             None if at < size => Ok(None),
@@ -362,7 +366,8 @@ impl Overlay {
     ) -> Result<(), NoMemory>
         requires full { IsFull self.now }
         requires at { at ≡ block_start self.now.layout number }
-        ensures { OnOk result ((beneath : List ℕ) → IsLaid self.now size (Some beneath)
+        ensures puts { OnOk result (PutSome changes.old → PutSome changes.new) }
+        ensures change { OnOk result ((beneath : List ℕ) → IsLaid self.now size (Some beneath)
             → changes.new ≡ changes.old ++ block_change beneath (bytes_over self.now beneath) at (block_size self.now.layout number)) }
     {
         let Some(bytes) = self.change_of(size, number, at)? else {
@@ -374,7 +379,8 @@ impl Overlay {
     /// The puts of all blocks that are new or in which a byte is another one than beneath, ascending.
     pub fn changes(&self, size: u32) -> Result<Changes, NoMemory>
         requires full { IsFull self.now }
-        ensures { IfOk result (λ changes. (beneath : List ℕ) → IsLaid self.now size (Some beneath)
+        ensures puts { IfOk result PutSome }
+        ensures changes { IfOk result (λ changes. (beneath : List ℕ) → IsLaid self.now size (Some beneath)
             → changes ≡ changes_between self.now.layout.head self.now.layout.block beneath (bytes_over self.now beneath)) }
     {
         let mut changes = changes_new(self.alloc);

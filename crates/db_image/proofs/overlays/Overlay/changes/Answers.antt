@@ -1,6 +1,7 @@
-use Rattle.std.proofs.Common.{◌≡◌, ℕ, ◌-◌, ◌+◌, ◌++◌, List, subst, ap, ◌∙◌, arith}
+use Rattle.std.proofs.Common.{◌≡◌, ℕ, ◌-◌, ◌+◌, ◌++◌, List, subst, sym, ap, ◌∙◌, arith}
+use Rattle.std.proofs.lemmas.List.Elements.{All-nil}
 use Rattle.ubik_types.specs.declared.images.Change.{Change}
-use Rattle.db_image.specs.Blocks.{block_change, block_changes, changes_between}
+use Rattle.db_image.specs.Blocks.{block_change, block_changes, changes_between, PutsSome, PutSome}
 use Rattle.db_image.specs.Draft.{bytes_over}
 use Rattle.db_image.proofs.BlockNumbers.{size_behind, mul_more}
 use Rattle.db_image.proofs.Differing.{first_pushed, none_behind}
@@ -13,9 +14,10 @@ loop-index-init c = record {
   rest = λ beneath laid.
       let o = c.args.self.now in
       first_pushed o beneath c.push_change.new.changes c.from-at.result
-      (c.in_ok-push_change.ensures beneath laid
+      (c.in_ok-push_change.ensures.change beneath laid
       ∙ ap (λ (xs : List Change). xs ++ block_change beneath (bytes_over o beneath) 0 o.layout.head) c.changes_new-changes.ensures)
       (omega arith);
+  puts = c.in_ok-push_change.ensures.puts (subst PutSome (sym c.changes_new-changes.ensures) (All-nil PutsSome));
   starts = omega arith;
   near = omega arith;
 }
@@ -33,17 +35,18 @@ loop-index-preserved c =
           let e : k + 1 ≡ 1 + k = omega arith in
           let pushed : after ≡ c.loop-index.changes ++ block_change beneath new at o.layout.block =
           subst (λ (n : ℕ). after ≡ c.loop-index.changes ++ block_change beneath new at n) (size_behind o.layout k (k + 1) e)
-          (c.in_ok-push_change-2.ensures beneath laid) in
+          (c.in_ok-push_change-2.ensures.change beneath laid) in
           let long : o.layout.block ≡ c.from-at-in-loop-index.result = omega arith in
           subst (λ (n : ℕ). after ++ block_changes beneath new (at + n) o.layout.block (o.len - (k + 1)) ≡ all) long
           (one_pushed c.loop-index.changes after all beneath new at o.layout.block (o.len - (k + 1)) (o.len - k) pushed (omega arith)
           (c.loop-index.invariant.rest beneath laid));
+      puts = c.in_ok-push_change-2.ensures.puts c.loop-index.invariant.puts;
       starts = omega (arith, mul_more o.layout.block k);
       near = omega arith;
     }
 
-pub returns : goal.returns
-returns c = λ beneath laid.
+pub returns-clause-changes : goal.returns-clause-changes
+returns-clause-changes c = λ beneath laid.
     let o = c.args.self.now in
     let new : List ℕ = bytes_over o beneath in
     let all : List Change = changes_between o.layout.head o.layout.block beneath new in

@@ -5,18 +5,18 @@ use Rattle.db_image.specs.Draft.{bytes_over, IsChangeOf}
 use Rattle.db_image.proofs.Differing.{push_none, push_some, map_on_ok}
 use Rattle.db_image.proofs.overlays.Overlay.push_change.Goals as goal
 
-pub returns-in_default : goal.returns-in_default
-returns-in_default c = λ beneath laid.
+pub returns-in_default-clause-change : goal.returns-in_default-clause-change
+returns-in_default-clause-change c = λ beneath laid.
     let o = c.args.self.now in
     let size : ℕ = block_size o.layout c.args.number in
     push_none beneath (bytes_over o beneath) c.args.at size c.args.changes.now
     (subst (λ (f : Option (List ℕ)). IsChangeOf (block_at beneath c.args.at size) (block_at (bytes_over o beneath) c.args.at size) f) c.in_default.is
-    (c.in_ok-bytes.ensures beneath laid))
+    (c.in_ok-bytes.ensures.change beneath laid))
 
-pub returns : goal.returns
-returns c = map_on_ok c.changes_push.result _ _ (λ pushed beneath laid.
+pub returns-clause-change : goal.returns-clause-change
+returns-clause-change c = map_on_ok c.changes_push.result _ _ (λ pushed beneath laid.
     let o = c.args.self.now in
     let size : ℕ = block_size o.layout c.args.number in
     let change = subst (λ (f : Option (List ℕ)). IsChangeOf (block_at beneath c.args.at size) (block_at (bytes_over o beneath) c.args.at size) f) c.in-Some.is
-    (c.in_ok-bytes.ensures beneath laid) in
+    (c.in_ok-bytes.ensures.change beneath laid) in
     pushed ∙ push_some beneath (bytes_over o beneath) c.args.at size c.args.changes.now c.in-Some.bytes change.0 change.1) c.changes_push.ensures.ok
