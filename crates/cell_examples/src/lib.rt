@@ -5,5 +5,5 @@ mod runs;
 
 pub use runs::{
     cheats_do_not_fit, half_is_too_few, late_commit_is_undone, polls_of_one_second, servers_run,
-    unknown_is_left_out, unknown_is_ordered, versions_must_agree,
+    told_servers_run, unknown_is_left_out, unknown_is_ordered, versions_must_agree,
 };

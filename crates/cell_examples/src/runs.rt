@@ -1,7 +1,7 @@
 //! Runs that are written out: each is the clause of a call that does nothing.
 ghost use Rattle.cell_examples.specs.Changed.{HalfIsTooFew, VersionsMustAgree};
 ghost use Rattle.cell_examples.specs.Late.{LateCommitIsUndone, PollsOfOneSecond};
-ghost use Rattle.cell_examples.specs.Running.{CheatsDoNotFit, ServersRun};
+ghost use Rattle.cell_examples.specs.Running.{CheatsDoNotFit, ServersRun, ToldServersRun};
 ghost use Rattle.cell_examples.specs.Unknown.{UnknownIsLeftOut, UnknownIsOrdered};
 
 /// A write is answered Unknown, and a later order has it.
@@ -39,8 +39,14 @@ pub fn servers_run()
     ensures { ServersRun }
 {}
 
+/// A schedule fits in whose items something is told that may have come: of an image that stands for a state what the database has, of
+/// another one what it pleases.
+pub fn told_servers_run()
+    ensures { ToldServersRun }
+{}
+
 /// A schedule does not fit that has a packet which nobody sent, a disk with another image, another moment than the clock's, an id twice,
-/// memory that ran out for no reply, or a halted server that goes on.
+/// memory that ran out for no reply, an evaluation that could not have come, or a halted server that goes on.
 pub fn cheats_do_not_fit()
     ensures { CheatsDoNotFit }
 {}

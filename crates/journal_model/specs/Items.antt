@@ -10,8 +10,8 @@ use Rattle.cell_model.specs.declared.events.Output.TheVariants as output
 use Rattle.cell_model.specs.Evaluating.{Told}
 
 -- One step of a server: when it was made, and of what event; which of its replies are for want of memory, bit i of a number standing for
--- the i-th of them from 0 on; and whether the server is halted behind it. Of a server whose image holds no state of its database, where a
--- call may be anything, it also has what was evaluated; no image that a cell made is such.
+-- the i-th of them from 0 on; and whether the server is halted behind it. It also has what was evaluated: that tells of something only where
+-- the image holds no state of the database, and a call may come to anything. No image that a cell made is such.
 pub record JournalItem : Type 0 where
   pub now : ℕ
   pub event : NodeEvent

@@ -2,3 +2,4 @@ pub mod Items
 pub mod Laws
 pub mod Replay
 pub mod Schedules
+pub mod Standings

@@ -1,8 +1,9 @@
 -- The replay of a journal: what a server is after the steps of these items, and what it put out in them (own).
 use Rattle.std.specs.Prelude.{◌≡◌, true, if◌then◌else◌, List, [], ◌∷◌, ◌++◌}
 use Rattle.db_image.specs.Database.{Database}
+use Rattle.db_image.specs.Standing.{Standing}
 use Rattle.cell_model.specs.declared.events.Output.{Output}
-use Rattle.cell_model.specs.Evaluating.{told_by}
+use Rattle.cell_model.specs.Evaluating.{MayAllCome, told_by}
 use Rattle.cell_model.specs.Node.{Node, Down, Halted, Up, Server, halted_from}
 use Rattle.cell_model.specs.NodeRule.{step_by, refusals}
 use Rattle.cell_model.specs.Step.{Member, Stepped, outputs_of}
@@ -46,10 +47,15 @@ abbrev pub StaysHalted : Node → JournalItem → Type 0
 StaysHalted (Halted h) item = item.halted ≡ true
 StaysHalted node item = Unit {0}
 
--- What an item may be, at this server. The bits that are set are those of the replies that are for want of memory, of all replies of the
--- step: where no reply is to be had, or where the rule gives another one, no bit is set.
-pub record IsItemOf (db : Database) (m : Member) (node : Node) (item : JournalItem) : Type 0 where
+-- What an item may be, at this server: of its own making, whatever happens elsewhere. The bits that are set are those of the replies that
+-- are for want of memory, of all replies of the step: where no reply is to be had, or where the rule gives another one, no bit is set. What
+-- was evaluated in the step may have come, so over an image that stands for a state it is what the database has.
+pub record IsItemOf (d : Standing) (m : Member) (node : Node) (item : JournalItem) : Type 0 where
   pub halted : StaysHalted node item
-  pub short : item.short ≡ bits (shorts_of (item_replayed db m node item).outputs)
-  -- of an image that a cell made, each call is evaluated as the database has it
-  pub meant : item.evaluations ≡ []
+  pub short : item.short ≡ bits (shorts_of (item_replayed d.database m node item).outputs)
+  pub may : MayAllCome d item.evaluations
+
+-- the items of a journal, each at the server that those before it leave
+abbrev pub AreItemsOf : Standing → Member → Node → List JournalItem → Type 0
+AreItemsOf d m node [] = Unit {0}
+AreItemsOf d m node (item ∷ items) = IsItemOf d m node item × AreItemsOf d m (item_replayed d.database m node item).node items

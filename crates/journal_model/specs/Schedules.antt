@@ -1,7 +1,9 @@
 -- Schedules: the items of the servers of a cell in one order, with what happened between them, and when such an order fits together
--- (own). Each server may run by itself; that their journals stand in one fitting schedule is what is asked of clocks, disks and packets.
+-- (own). Each server may run by itself, and keeps its own part (`IsOwn`); that its journal stands with the others in one schedule that the
+-- world allows (`IsAllowed`) is what is asked of clocks, disks and packets.
 use Rattle.std.specs.Prelude.{ℕ, ◌≡◌, ◌==◌, Bool, true, false, if◌then◌else◌, Option, Some, None, IsSomeAnd, filter_map, List, [], ◌∷◌, ◌++◌, length}
 use Rattle.db_image.specs.Database.{Database}
+use Rattle.db_image.specs.Standing.{Standing}
 use Rattle.cell_model.specs.declared.events.NodeEvent.{NodeEvent}
 use Rattle.cell_model.specs.declared.events.Output.{Output}
 use Rattle.cell_model.specs.declared.events.Output.TheVariants as output
@@ -11,7 +13,7 @@ use Rattle.cell_model.specs.Step.{Member}
 use Rattle.cell_model.specs.World.{Site, World, Trigger, Event, Happening, Sent, Announced, Replied, IsEvent, is_down, is_new_ask, occasion, member, site_of, world_after, seen_of}
 use Rattle.cell_model.specs.World as world
 use Rattle.journal_model.specs.Items.{JournalItem, choices_of}
-use Rattle.journal_model.specs.Replay.{IsItemOf, replayed}
+use Rattle.journal_model.specs.Replay.{AreItemsOf, IsItemOf, replayed}
 
 -- How far a step came that did not end: which of its calls found no memory until then, and how many of its durable calls were made.
 pub record Progress : Type 0 where
@@ -74,27 +76,42 @@ pub record StepFits (event : NodeEvent) (site : Site) : Type 0 where
   pub up : is_down site.node ≡ false
   pub new : is_new_ask site.asked event ≡ true
 
--- Such a step at the server's clock, whose item is one that may come behind those before it.
-pub record ItemFits (db : Database) (m : Member) (item : JournalItem) (site : Site) : Type 0 where
+-- Such a step at the server's clock.
+pub record ItemFits (item : JournalItem) (site : Site) : Type 0 where
   pub step : StepFits item.event site
   pub moment : item.now ≡ site.clock
-  pub item_of : IsItemOf db m site.node item
 
--- What an entry may be, in the world that those before it left. What brings a step brings it to this server: a packet is one that was sent
--- before, for this server.
-abbrev pub EntryFits : Database → World → ScheduleEntry → Type 0
-EntryFits db w (Tick server seconds) = IsEvent w (world.Tick server seconds)
-EntryFits db w (Tick_all seconds) = IsEvent w (world.Tick_all seconds)
-EntryFits db w (Open server now found) = IsSomeAnd (site_of w server) (OpeningFits now found)
-EntryFits db w (Item server trigger item progress) =
-    (occasion w trigger ≡ Some (server, item.event)) × IsSomeAnd (site_of w server) (ItemFits db (member w server) item)
-EntryFits db w (Stop server trigger progress) =
+-- What is asked of the world that the entries before left. Of clocks: they go on within seven seconds of each other, and each step and opening
+-- has the moment of its server's clock. Of disks: they keep what was durable, and an opening finds it. Of packets: each was sent before, for
+-- this server. Of ids: each is asked once since the opening, of a server that is up.
+abbrev pub IsAllowed : World → ScheduleEntry → Type 0
+IsAllowed w (Tick server seconds) = IsEvent w (world.Tick server seconds)
+IsAllowed w (Tick_all seconds) = IsEvent w (world.Tick_all seconds)
+IsAllowed w (Open server now found) = IsSomeAnd (site_of w server) (OpeningFits now found)
+IsAllowed w (Item server trigger item progress) =
+    (occasion w trigger ≡ Some (server, item.event)) × IsSomeAnd (site_of w server) (ItemFits item)
+IsAllowed w (Stop server trigger progress) =
     (event : NodeEvent) × (occasion w trigger ≡ Some (server, event)) × IsSomeAnd (site_of w server) (StepFits event)
 
+-- What is a server's own: its item is one that may come at it, as the items before it left it. Who keeps its journal step by step sees to
+-- that alone.
+abbrev pub IsOwn : Standing → World → ScheduleEntry → Type 0
+IsOwn d w (Item server trigger item progress) = IsItemOf d (member w server) (node_in (site_of w server)) item
+IsOwn d w entry = Unit {0}
+
+-- what an entry may be, in the world that those before it left
+abbrev pub EntryFits : Standing → World → ScheduleEntry → Type 0
+EntryFits d w entry = IsAllowed w entry × IsOwn d w entry
+
 -- a schedule, each entry of which fits in the world that those before it left
-abbrev pub Fits : Database → World → List ScheduleEntry → Type 0
-Fits db w [] = Unit {0}
-Fits db w (entry ∷ schedule) = EntryFits db w entry × Fits db (entered db w entry) schedule
+abbrev pub Fits : Standing → World → List ScheduleEntry → Type 0
+Fits d w [] = Unit {0}
+Fits d w (entry ∷ schedule) = EntryFits d w entry × Fits d (entered d.database w entry) schedule
+
+-- a schedule, each entry of which the world allows that those before it left, whatever the servers' own parts are
+abbrev pub AllAllowed : Database → World → List ScheduleEntry → Type 0
+AllAllowed db w [] = Unit {0}
+AllAllowed db w (entry ∷ schedule) = IsAllowed w entry × AllAllowed db (entered db w entry) schedule
 
 -- ---- the journals of a schedule
 
@@ -130,6 +147,16 @@ abbrev pub life_in : Database → World → ℕ → Life → List ScheduleEntry 
 life_in db w k life [] = life
 life_in db w k life (entry ∷ schedule) =
     life_in db (entered db w entry) k (life_after (length w.hosts) k life entry (seen_of db w (events_of w entry))) schedule
+
+-- a life of server k ends before these entries: it is opened anew, or there is nothing more
+abbrev pub ends_life : ℕ → List ScheduleEntry → Bool
+ends_life k [] = true
+ends_life k (Open server now found ∷ schedule) = server == k
+ends_life k (entry ∷ schedule) = false
+
+-- the items of a server since it was last opened, each one that may come behind those before it
+abbrev pub HasJournal : Standing → Member → Life → Type 0
+HasJournal d m life = AreItemsOf d m life.opened life.items
 
 -- A server that is not down is the replay of its items, and what was seen of it is what that puts out.
 abbrev pub IsReplay : Database → Member → Life → Node → Type 0

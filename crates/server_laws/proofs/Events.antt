@@ -6,8 +6,7 @@ use Rattle.cell_model.specs.declared.events.NodeEvent.{NodeEvent}
 use Rattle.cell_model.specs.declared.events.Output.{Output}
 use Rattle.cell_model.specs.declared.events.Output.TheVariants as output
 use Rattle.cell_model.specs.Node.{Node, Down, Halted, Up, Server, HaltedServer, halted_from}
-use Rattle.cell_model.specs.NodeRule.{step_by, step_of}
-use Rattle.cell_model.specs.Evaluating.{Told, told_by}
+use Rattle.cell_model.specs.NodeRule.{step_of}
 use Rattle.cell_model.specs.Step.{Evaluation, Shown, Stepped, outputs_of}
 use Rattle.cell_model.specs.World.{World, Site, Trigger, Event, Step, Stop, Fault, Happening, SiteHappened, happened_at, happens_at, triggered}
 use Rattle.cell_model.specs.World.{step_at, stop_at, fault_at, occasion, member, site_of, happens, seen_of_output, seen_from, number_after, packet_of}
@@ -91,15 +90,15 @@ pub record Comes (db : Database) (w : World) (k : ℕ) (event : Event) (r : Repl
   pub silent : filter_map output_in happened.marks ≡ []
 
 module _ (db : Database) (w : World) (trigger : Trigger) (k : ℕ) (item : JournalItem) (progress : Progress) (site : Site)
-    (is : IsBrought w trigger k item.event site) (moment : item.now ≡ site.clock) (meant : item.evaluations ≡ []) where
+    (is : IsBrought w trigger k item.event site) (moment : item.now ≡ site.clock)
+    (meant : (s : Server) → site.node ≡ Up s → step_in db (member w k) s item ≡ step_of db (member w k) s item.now item.event (choices_of item)) where
   abbrev ComesOf : Event → Replayed → Type 0
   ComesOf = Comes db w k
 
   -- the world's step at the server's clock is the item's
-  step_is_in : (s : Server) → step_of db (member w k) s site.clock item.event (choices_of item) ≡ step_in db (member w k) s item
-  step_is_in s =
-      ap (λ (now : ℕ). step_of db (member w k) s now item.event (choices_of item)) (sym moment)
-      ∙ ap (λ (told : Told). step_by (told_by db told) (member w k) s item.now item.event (choices_of item)) (sym meant)
+  step_is_in : (s : Server) → site.node ≡ Up s → step_of db (member w k) s site.clock item.event (choices_of item) ≡ step_in db (member w k) s item
+  step_is_in s at =
+      ap (λ (now : ℕ). step_of db (member w k) s now item.event (choices_of item)) (sym moment) ∙ sym (meant s at)
 
   at_up : (s : Server) → site.node ≡ Up s → ComesOf (item_event (Up s) trigger item progress) (item_replayed db (member w k) (Up s) item)
   at_up s at = by item.halted
@@ -122,8 +121,8 @@ module _ (db : Database) (w : World) (trigger : Trigger) (k : ℕ) (item : Journ
         is =
             step_is db w trigger k item.event site is (choices_of item)
             ∙ ap (λ (node : Node). happened_at w k (step_at db (member w k) trigger item.event (choices_of item) site node)) at;
-        node = ap (λ (t : Stepped). Up t.server) (step_is_in s);
-        shown = ap (λ (t : Stepped). outputs_of t.shown) (step_is_in s);
+        node = ap (λ (t : Stepped). Up t.server) (step_is_in s at);
+        shown = ap (λ (t : Stepped). outputs_of t.shown) (step_is_in s at);
         silent = refl;
       }
 

@@ -1,4 +1,5 @@
 pub mod Events
 pub mod Lives
+pub mod Meant
 pub mod Runs
 pub mod Sites

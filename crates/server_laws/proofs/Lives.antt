@@ -37,7 +37,7 @@ abbrev pub AllReplays : Database → World → (ℕ → Life) → Type 0
 AllReplays db w lives = (k : ℕ) (site : Site) → site_of w k ≡ Some site → IsReplay db (member w k) (lives k) site.node
 
 -- where it is at a place, or at another one
-here : {A : Type 0} (k j : ℕ) (x y : A) → j ≡ k → cond (k == j) x y ≡ x
+pub here : {A : Type 0} (k j : ℕ) (x y : A) → j ≡ k → cond (k == j) x y ≡ x
 here k j x y same = let is : (k == j) ≡ true = grind (arith, nat_tests) in ap (λ (b : Bool). cond b x y) is
 
 elsewhere : {A : Type 0} (k j : ℕ) (x y : A) → (j ≡ k → ⊥) → cond (k == j) x y ≡ y

@@ -6,6 +6,7 @@ use Rattle.std.specs.List.{AllByRecursion}
 use Rattle.std.specs.Prelude.{Some, All, Contains}
 use Rattle.ubik_types.specs.declared.hosts.Host.{Host}
 use Rattle.db_image.specs.Database.{Database}
+use Rattle.db_image.specs.Standing.{Standing}
 use Rattle.cell_model.specs.Book.{Given, Run, first_run, is_ready_site, order_of, run_through}
 use Rattle.cell_model.specs.Durable.{no_database}
 use Rattle.cell_model.specs.KeptLaws.{IsPlaced}
@@ -18,17 +19,15 @@ use Rattle.cell_orders.specs.Laws as orders
 use Rattle.cell_orders.specs.Replies.{IsAtSync}
 use Rattle.journal_model.specs.Replay.{Replayed, replayed}
 use Rattle.journal_model.specs.Schedules.{ScheduleEntry, Fits, IsReplay, all_events, entered, events_of, life_from, scheduled}
-use Rattle.server_laws.specs.Laws.{FrontsFit, SchedulesAreRuns, ServersAreReplays}
+use Rattle.journal_model.specs.Standings.{each_image}
+use Rattle.server_laws.specs.Laws.{AnyMakeAWorld, MakesAWorld, ServersMakeAWorld}
 use Rattle.server_laws.proofs.Lives.{replay_is}
-use Rattle.server_promises.specs.Promises.{IsSinglePut, KeepsPromises, RunningServersKeepPromises, life_at, run_in}
+use Rattle.server_promises.specs.Promises.{AnyServersKeepPromises, IsSinglePut, KeepsPromises, RunningServersKeepPromises, life_at, run_in}
 use Rattle.server_promises.proofs.Given.{AllPut, all_single}
 use Rattle.server_promises.proofs.Schedules.{first_reached, schedule_put, through-append, world_of_run}
 
 -- the laws that they rest on
 pub record Laws : Type 0 where
-  pub runs : SchedulesAreRuns
-  pub replays : ServersAreReplays
-  pub fronts : FrontsFit
   pub leases : LeasesExclude
   pub epochs : EpochsRise
   pub label : OneLabel
@@ -53,7 +52,11 @@ back_run : (db : Database) (w : World) (front back : List Event) → IsRun db w 
 back_run db w [] back run = run
 back_run db w (e ∷ front) back run = back_run db (happens db w e).world front back run.1
 
-module _ (is : Laws) (db : Database) (hosts : List Host) (clock : ℕ) (failed : List Bool) (first : IsFirst hosts clock failed) where
+module _ (is : Laws) (d : Standing) (hosts : List Host) (clock : ℕ) (failed : List Bool) (first : IsFirst hosts clock failed)
+    (makes : MakesAWorld d hosts clock failed) where
+  abbrev db : Database
+  db = d.database
+
   abbrev start : World
   start = first_world hosts clock failed
 
@@ -62,19 +65,19 @@ module _ (is : Laws) (db : Database) (hosts : List Host) (clock : ℕ) (failed :
 
   -- ---- at a place
 
-  module _ (front : List ScheduleEntry) (fits : Fits db start front) where
+  module _ (front : List ScheduleEntry) (fits : Fits d start front) where
     abbrev run_here : Run
     run_here = run_in db hosts clock failed front
 
     legal : IsRun db start (events_at front)
-    legal = (is.runs db hosts clock failed front fits).run
+    legal = (makes.run front fits).run
 
     world_is : run_here.world ≡ scheduled db start front
-    world_is = world_of_run db (first_run start) (events_at front) ∙ (is.runs db hosts clock failed front fits).world
+    world_is = world_of_run db (first_run start) (events_at front) ∙ (makes.run front fits).world
 
     leases_at : (h k : ℕ) → IsInLease (scheduled db start front) h → IsInLease (scheduled db start front) k → h ≡ k
     leases_at =
-        subst (λ (w : World). (h k : ℕ) → IsInLease w h → IsInLease w k → h ≡ k) (is.runs db hosts clock failed front fits).world
+        subst (λ (w : World). (h k : ℕ) → IsInLease w h → IsInLease w k → h ≡ k) (makes.run front fits).world
         (is.leases db hosts clock failed (events_at front) first legal)
 
     sites_at : (k : ℕ) (site : Site) (s : Server) → site_of (scheduled db start front) k ≡ Some site → site.node ≡ Up s
@@ -87,8 +90,8 @@ module _ (is : Laws) (db : Database) (hosts : List Host) (clock : ℕ) (failed :
 
     put_at : (k : ℕ) → AllPut run_here.given k (life_at db hosts clock failed front k).outputs
     put_at k =
-        schedule_put is.given db hosts clock failed first k (first_run start) (life_from (length hosts) no_database clock) front
-        (first_reached is.given db hosts clock failed first) fits tt
+        schedule_put is.given d hosts clock failed first makes.meant k (first_run start) (life_from (length hosts) no_database clock) front
+        (first_reached is.given d hosts clock failed first makes.meant) fits tt
 
     replies_at : (k : ℕ) (node : Node) → is_down node ≡ false → IsReplay db (member (scheduled db start front) k) (life_at db hosts clock failed front k) node
         → AllByRecursion (IsSinglePut db run_here (events_at front) k)
@@ -102,12 +105,12 @@ module _ (is : Laws) (db : Database) (hosts : List Host) (clock : ℕ) (failed :
 
   -- ---- between two places
 
-  module _ (front middle : List ScheduleEntry) (fits : Fits db start (front ++ middle)) where
+  module _ (front middle : List ScheduleEntry) (fits : Fits d start (front ++ middle)) where
     abbrev run_before : Run
     run_before = run_in db hosts clock failed front
 
     front_legal : IsRun db start (events_at front)
-    front_legal = legal front (is.fronts db hosts clock failed front middle fits)
+    front_legal = legal front (makes.fronts front middle fits)
 
     abbrev middle_events : List Event
     middle_events = all_events db (scheduled db start front) middle
@@ -141,9 +144,9 @@ module _ (is : Laws) (db : Database) (hosts : List Host) (clock : ℕ) (failed :
 
   -- ---- a schedule
 
-  module _ (schedule : List ScheduleEntry) (fits : Fits db start schedule) where
-    front_fits : (front rest : List ScheduleEntry) → schedule ≡ front ++ rest → Fits db start front
-    front_fits front rest split = is.fronts db hosts clock failed front rest (subst (Fits db start) split fits)
+  module _ (schedule : List ScheduleEntry) (fits : Fits d start schedule) where
+    front_fits : (front rest : List ScheduleEntry) → schedule ≡ front ++ rest → Fits d start front
+    front_fits front rest split = makes.fronts front rest (subst (Fits d start) split fits)
 
     pub keeps_promises : KeepsPromises db hosts clock failed schedule
     keeps_promises = record {
@@ -156,10 +159,15 @@ module _ (is : Laws) (db : Database) (hosts : List Host) (clock : ℕ) (failed :
       sites = λ front rest split. sites_at front (front_fits front rest split);
       replies = λ front rest split k site there up.
           replies_at front (front_fits front rest split) k site.node up
-          (is.replays db hosts clock failed front rest (subst (Fits db start) split fits) k site there);
+          (makes.replays front rest (subst (Fits d start) split fits) k site there);
       acknowledged = λ front middle rest split. acknowledged_at front middle (front_fits (front ++ middle) rest split);
       prefixes = is.prefixes db hosts clock failed (events_at schedule) first (legal schedule fits);
     }
 
-pub running_servers_keep_promises : Laws → RunningServersKeepPromises
-running_servers_keep_promises is db hosts clock failed schedule first fits = keeps_promises is db hosts clock failed first schedule fits
+pub running_servers_keep_promises : Laws → (d : Standing) → ServersMakeAWorld d → RunningServersKeepPromises d
+running_servers_keep_promises is d makes block hosts clock failed schedule first fits =
+    keeps_promises is d hosts clock failed first (makes block hosts clock failed first) schedule fits
+
+pub any_servers_keep_promises : Laws → AnyMakeAWorld → AnyServersKeepPromises
+any_servers_keep_promises is makes db hosts clock failed schedule first fits =
+    keeps_promises is (each_image db) hosts clock failed first (makes db hosts clock failed) schedule fits

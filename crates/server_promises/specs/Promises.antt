@@ -1,7 +1,8 @@
 -- What servers that run are worth: the laws of runs, of each schedule that fits (own).
-use Rattle.std.specs.Prelude.{◌≡◌, ℕ, Bool, true, false, Some, List, ◌++◌, All}
+use Rattle.std.specs.Prelude.{◌≡◌, ◌≢◌, ℕ, Bool, true, false, Some, List, ◌++◌, All}
 use Rattle.std.specs.List.{AllByRecursion}
 use Rattle.db_image.specs.Database.{Database}
+use Rattle.db_image.specs.Standing.{Standing}
 use Rattle.ubik_types.specs.declared.hosts.Host.{Host}
 use Rattle.ubik_calls.specs.declared.replies.Reply.{Reply}
 use Rattle.ubik_calls.specs.declared.replies.Reply.TheVariants as reply
@@ -20,6 +21,7 @@ use Rattle.cell_orders.specs.Laws.{ServesOrder}
 use Rattle.cell_orders.specs.Replies.{IsSingleReply, IsAtSync, PrefixesStay}
 use Rattle.journal_model.specs.Replay.{replayed}
 use Rattle.journal_model.specs.Schedules.{ScheduleEntry, Fits, Life, all_events, scheduled}
+use Rattle.journal_model.specs.Standings.{each_image}
 use Rattle.server_laws.specs.Laws.{life_of}
 
 -- A reply of server k is one of those that its database gave in a run: it is to a call that was asked there, and is that of the single
@@ -82,8 +84,14 @@ module _ (db : Database) (hosts : List Host) (clock : ℕ) (failed : List Bool) 
     -- the lists from which one server replied grow as prefixes, openings included
     pub prefixes : PrefixesStay (run_in schedule).book (run_in schedule).given
 
--- In each cell, so of each schedule that fits.
-abbrev pub RunningServersKeepPromises : Type 0
-RunningServersKeepPromises =
+-- In each cell, so of each schedule that fits: over a database over drafts, whose blocks have a length.
+abbrev pub RunningServersKeepPromises : Standing → Type 0
+RunningServersKeepPromises d =
+    d.database.block ≢ 0 → (hosts : List Host) (clock : ℕ) (failed : List Bool) (schedule : List ScheduleEntry) →
+    IsFirst hosts clock failed → Fits d (first_world hosts clock failed) schedule → KeepsPromises d.database hosts clock failed schedule
+
+-- so over any database, no image of which is without a state
+abbrev pub AnyServersKeepPromises : Type 0
+AnyServersKeepPromises =
     (db : Database) (hosts : List Host) (clock : ℕ) (failed : List Bool) (schedule : List ScheduleEntry) →
-    IsFirst hosts clock failed → Fits db (first_world hosts clock failed) schedule → KeepsPromises db hosts clock failed schedule
+    IsFirst hosts clock failed → Fits (each_image db) (first_world hosts clock failed) schedule → KeepsPromises db hosts clock failed schedule

@@ -1,11 +1,9 @@
-use Rattle.server_laws.proofs.Runs.{fronts_fit, schedules_are_runs, servers_are_replays}
+use Rattle.server_laws.proofs.Meant.{any_make_a_world, servers_make_a_world}
 use Rattle.server_laws.proofs.laws.law_servers_make_a_world.Goals as goal
 
-pub returns-clause-run : goal.returns-clause-run
-returns-clause-run c = schedules_are_runs
+pub returns-clause-service : goal.returns-clause-service
+returns-clause-service g c =
+    servers_make_a_world g.S.DraftService.standing c.law_images_stand.ensures.service c.law_images_stand.ensures.stand c.law_writes_stand.ensures
 
-pub returns-clause-replays : goal.returns-clause-replays
-returns-clause-replays c = servers_are_replays
-
-pub returns-clause-fronts : goal.returns-clause-fronts
-returns-clause-fronts c = fronts_fit
+pub returns-clause-any : goal.returns-clause-any
+returns-clause-any g c = any_make_a_world
