@@ -29,6 +29,7 @@ pub mod Relabelled
 pub mod Rested
 pub mod Senders
 pub mod Served
+pub mod ShortTexts
 pub mod Stepping
 pub mod Stored
 pub mod Turns

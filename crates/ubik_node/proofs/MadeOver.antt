@@ -1,6 +1,6 @@
 -- What was made of a call over a draft is of an outcome that may come.
-use Rattle.std.proofs.Common.{◌≡◌, ◌≢◌, ◌≤◌, ◌∙◌, ℕ, true, List, Option, Some, None, IfSome, length, refl, sym, ap, subst, arith}
-use Rattle.std.specs.Prelude.{IsSomeAnd, IfOk, Result, Ok, Err}
+use Rattle.std.proofs.Common.{◌≡◌, ◌≢◌, ◌≤◌, ◌∙◌, ℕ, true, List, Option, Some, None, IfSome, length, refl, ap, subst, arith}
+use Rattle.std.specs.Prelude.{IsSomeAnd}
 use Rattle.db_image.specs.declared.services.CallReply.{CallReply}
 use Rattle.db_image.specs.declared.services.CallReply.TheVariants as reply
 use Rattle.db_image.specs.declared.draft_services.CallEnd.{CallEnd}
@@ -67,15 +67,3 @@ made_over d (Some image) began later after len grown head block now call ended e
         changes = changes ∙ ap (λ (h : ℕ). changes_between h block image new) heads ∙ ap (λ (b : ℕ). changes_between d.database.head b image new) blocks;
       };
     }
-
--- so where the changes could be made
-pub all_made : {E : Type 0} (d : Standing) (held began later after : Option (List ℕ)) (len grown head block now : ℕ) (call : List ℕ) (ended : CallEnd) (r : CallReply) (made : Result Evaluation E)
-    → ended ≡ end_of r → IfOk made (λ e. e.reply ≡ r)
-    → began ≡ held → later ≡ held → head ≡ d.database.head → block ≡ d.database.block
-    → IfSome began (λ bytes. (s : d.State) → d.StandsFor bytes s → EndsBy (d.database.call bytes now call) ended after)
-    → KeepsGrammar (d.database.writes call) ended → (d.database.writes call ≢ Some true → after ≡ began) → IsShort ended → len ≤ grown
-    → IfSome held (λ bytes. length bytes ≡ len) → IfSome later (λ old. IsSomeAnd after (λ new. length new ≡ grown))
-    → IfOk made (λ e. IfSome later (λ old. IfSome after (λ new. e.changes ≡ changes_between head block old new))) → IfOk made (IsMadeOf d held now call)
-all_made d held began later after len grown head block now call ended r (Err why) is replied first still heads blocks meant grammar rests short longer size told changes = tt
-all_made d held began later after len grown head block now call ended r (Ok e) is replied first still heads blocks meant grammar rests short longer size told changes =
-    made_over d held began later after len grown head block now call ended e (is ∙ ap end_of (sym replied)) first still heads blocks meant grammar rests short longer size told changes

@@ -5,6 +5,7 @@ pub mod Database
 pub mod Debug
 pub mod Disk
 pub mod Evaluation
+pub mod Faults
 pub mod Lone
 pub mod Node
 pub mod Serving

@@ -5,6 +5,7 @@ use Rattle.ubik_types.specs.declared.limits.TheConstants.{MAX_IMAGE}
 use Rattle.ubik_types.specs.declared.versions.TheConstants.{MAX_COUNTER}
 use Rattle.ubik_types.specs.Image.{effect}
 use Rattle.ubik_types.specs.Logged.{logged, too_large}
+use Rattle.db_image.specs.Blocks.{PutSome}
 use Rattle.cell_model.specs.declared.events.Output.{Output}
 use Rattle.cell_model.specs.declared.events.Output.TheVariants as output
 use Rattle.cell_model.specs.Durable.{Made}
@@ -30,11 +31,13 @@ pub record IsWritten (old new : List ℕ) (changes : List Change) : Type 0 where
   pub fits : length new ≤ MAX_IMAGE
   pub puts : CutsNoPut changes
 
--- a reply has a spelling; changes are to be made only where there is a next counter, and within the limits, whatever they lead to
+-- A reply has a spelling. Changes are to be made only where there is a next counter, within the limits, whatever they lead to; each puts some
+-- bytes, and so their text is short.
 abbrev pub CanBeMade : Server → Verdict → Type 0
 CanBeMade s (verdict.Reply r) = IsPlainReply r
 CanBeMade s verdict.NewPoll = Unit {0}
-CanBeMade s (verdict.Commit answer changes) = (s.version.counter < MAX_COUNTER) × (too_large 0 (length s.image) changes ≡ None) × IsAnswer answer
+CanBeMade s (verdict.Commit answer changes) =
+    (s.version.counter < MAX_COUNTER) × (too_large 0 (length s.image) changes ≡ None) × IsAnswer answer × PutSome changes
 
 -- the step at a turn, given the verdict on its call, which leads to this image
 abbrev pub Judges : Member → Server → (now id : ℕ) → (call image : List ℕ) → Verdict → Stepped → Type 0

@@ -2,15 +2,18 @@
 ghost use Rattle.std.specs.Prelude.{◌≡◌, ◌<◌, ◌≤◌, ◌⊎◌, false, IfOk, IfErr, IsErrOf};
 ghost use Rattle.std.specs.Option.{option_map};
 ghost use Rattle.disk_base.specs.Runs.{OnlyReads};
+ghost use Rattle.db_image.specs.Blocks.{PutSome};
 ghost use Rattle.db_image.specs.Images as images;
 ghost use Rattle.ubik_write.specs.Undo.{image_before};
 ghost use Rattle.ubik_store.specs.DurableCall.{HasFailed};
 ghost use Rattle.ubik_store.specs.Store.{IsSound, StaysAsItWas, image_in};
 ghost use Rattle.ubik_node.specs.Evaluation.{IsMadeOf, IsShortReply};
 
+use crate::faults::{ImageFault, outcome_over};
 use crate::store_images::StoreImage;
 use db_image::{CallEnd, CallReply, DraftService, ImageRead};
 use disk_base::Disk;
+use ghost_values::Tally;
 use std::alloc::Global;
 use ubik_store::{Store, StoreFault};
 use ubik_types::{Changes, NoMemory};
@@ -24,20 +27,20 @@ pub struct Evaluation {
     pub len: u32,
 }
 
-/// Makes a call at a moment over an image, of which it reads what it needs, and gives the image back. Nothing is changed there. Whether a read
-/// has failed, the image tells.
+/// Makes a call at a moment over an image, of which it reads what it needs, and gives the image back. Nothing is changed there.
 fn evaluate_over<I: ImageRead, V: DraftService>(
     alloc: Global,
     image: I,
     now: u32,
     call: &[u8],
-) -> (I, Result<Evaluation, NoMemory>)
+) -> (I, Result<Evaluation, ImageFault>)
     requires { I.size image ≤ 16777216 }
     ensures made { IfOk result.1 (IsMadeOf V.standing (I.held image) now call.now) }
     ensures len { IfOk result.1 (λ made. made.len ≡ I.size image) }
     ensures short { IfOk result.1 (λ made. IsShortReply made.reply) }
+    ensures puts { IfOk result.1 (λ made. PutSome made.changes) }
     ensures block { 0 < V.standing.database.block }
-    ensures reads { images.OnlyReads I.ImageRead image result.0 ⊥ }
+    ensures reads { images.OnlyReads I.ImageRead image result.0 (IsErrOf result.1 ImageFault.DiskFault) }
 {
     let len = image.len();
     let mut draft = V::draft(alloc, image);
@@ -48,14 +51,18 @@ fn evaluate_over<I: ImageRead, V: DraftService>(
         CallEnd::Rule(number) => CallReply::Rule(number),
         CallEnd::Malformed => CallReply::Malformed,
         CallEnd::BadRecord { at } => CallReply::BadRecord { at },
-        CallEnd::DiskFault | CallEnd::NoMemory => return (image, Err(NoMemory)),
+        CallEnd::DiskFault => return (image, Err(ImageFault::DiskFault)),
+        CallEnd::NoMemory => return (image, Err(ImageFault::NoMemory)),
     };
-    let made = changes.map(|changes| Evaluation {
-        reply,
-        changes,
-        len,
-    });
-    (image, made)
+    let made = match changes {
+        Ok(changes) => Evaluation {
+            reply,
+            changes,
+            len,
+        },
+        Err(NoMemory) => return (image, Err(ImageFault::NoMemory)),
+    };
+    (image, Ok(made))
 }
 
 /// Makes a call at a moment over the image of a store. A read that fails is a fault of the disk, whatever the database makes of it.
@@ -71,6 +78,7 @@ pub fn evaluate<D: Disk, V: DraftService>(
     ensures len { IfOk result (λ made. made.len ≡ store.old.len) }
     ensures block { 0 < V.standing.database.block }
     ensures short { IfOk result (λ made. IsShortReply made.reply) }
+    ensures puts { IfOk result (λ made. PutSome made.changes) }
     ensures sound { IsSound D.Disk store.new }
     ensures same { ¬ IsErrOf result StoreFault.DiskFault → StaysAsItWas store.old store.new }
     ensures failed { IsErrOf result StoreFault.DiskFault → HasFailed store.old store.new }
@@ -79,17 +87,21 @@ pub fn evaluate<D: Disk, V: DraftService>(
 {
     let (image, made) = evaluate_over::<StoreImage<D>, V>(
         alloc,
-        StoreImage { store, faults: 0 },
+        StoreImage {
+            store,
+            faults: Tally::new(),
+        },
         now,
         call,
     );
-    let StoreImage { store, faults } = image;
+    let StoreImage {
+        store,
+        faults: _faults,
+    } = image;
+    let failed = store.failed();
     // From here on the store is known again.
     let _store = store;
-    if faults > 0 {
-        return Err(StoreFault::DiskFault);
-    }
-    Ok(made?)
+    outcome_over(failed, made)
 }
 
 /// Makes a call at a moment over the image before the write in flight. Else as `evaluate`.
@@ -105,6 +117,7 @@ pub fn evaluate_before<D: Disk, V: DraftService>(
     requires fits { flight.now.old_len ≤ 16777216 }
     ensures made { IfOk result (IsMadeOf V.standing (option_map (image_before flight.now.undo flight.now.old_len) (image_in (D.files store.old.disk))) now call.now) }
     ensures short { IfOk result (λ made. IsShortReply made.reply) }
+    ensures puts { IfOk result (λ made. PutSome made.changes) }
     ensures sound { IsSound D.Disk store.new }
     ensures same { ¬ IsErrOf result StoreFault.DiskFault → StaysAsItWas store.old store.new }
     ensures failed { IsErrOf result StoreFault.DiskFault → HasFailed store.old store.new }
@@ -112,16 +125,20 @@ pub fn evaluate_before<D: Disk, V: DraftService>(
     ensures disk { OnlyReads D.Disk store.old.disk store.new.disk (IsErrOf result StoreFault.DiskFault) }
 {
     let before = BeforeImage {
-        image: StoreImage { store, faults: 0 },
+        image: StoreImage {
+            store,
+            faults: Tally::new(),
+        },
         flight,
     };
     let (before, made) = evaluate_over::<BeforeImage<StoreImage<D>>, V>(alloc, before, now, call);
     let BeforeImage { image, flight: _ } = before;
-    let StoreImage { store, faults } = image;
+    let StoreImage {
+        store,
+        faults: _faults,
+    } = image;
+    let failed = store.failed();
     // From here on the store is known again.
     let _store = store;
-    if faults > 0 {
-        return Err(StoreFault::DiskFault);
-    }
-    Ok(made?)
+    outcome_over(failed, made)
 }

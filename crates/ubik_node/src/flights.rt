@@ -1,7 +1,9 @@
 //! The own write of a sync site: it is committed here first, goes to each other server, and is over once a majority has it.
-ghost use Rattle.std.specs.Prelude.{◌≡◌, ◌≤◌, ◌<◌, ◌⊎◌, ℕ, None, length, take, false, IfOk, IfErr, IfSome, IsErrOf, IsSome, List, OnErr, OnOk};
+ghost use Rattle.std.specs.Prelude.{◌≡◌, ◌≤◌, ◌<◌, ◌^◌, ◌⊎◌, ℕ, None, length, take, false, IfOk, IfErr, IfSome, IsErrOf, IsSome, List, OnErr, OnOk};
 ghost use Rattle.ubik_types.specs.declared.versions.TheConstants.{MAX_COUNTER};
 ghost use Rattle.ubik_types.specs.Logged.{too_large};
+ghost use Rattle.xdr_base.specs.ChangeText.{text_of};
+ghost use Rattle.db_image.specs.Blocks.{PutSome};
 ghost use Rattle.disk_base.specs.Runs.{OnlyReads};
 ghost use Rattle.site_writes.specs.OwnWrite.{own_write};
 ghost use Rattle.ubik_store.specs.DurableCall.{HasFailed};
@@ -12,15 +14,17 @@ ghost use Rattle.server_state.specs.Recovering.{IsServing};
 ghost use Rattle.server_state.specs.Writing.{own_of, waiting_of};
 
 use crate::database::commit_all;
+use crate::faults::{ImageFault, outcome_over};
 use crate::nodes::Node;
 use crate::store_images::StoreImage;
 use db_image::DraftService;
 use disk_base::Disk;
+use ghost_values::Tally;
 use server_state::{HeldImage, Outputs, own_write};
 use std::alloc::Global;
 use ubik_store::{Store, StoreFault};
-use ubik_types::{Bytes, Changes, MAXSERVERS, Marks, NoMemory, Version};
-use ubik_write::{Flight, FlightFault, text_len};
+use ubik_types::{Bytes, Changes, MAXSERVERS, Marks, Version};
+use ubik_write::Flight;
 
 /// The flight of changes that are to be made to the image of a store, of which it reads what they overwrite.
 pub fn flight_over<D: Disk>(
@@ -34,6 +38,7 @@ pub fn flight_over<D: Disk>(
 ) -> Result<Flight, StoreFault>
     requires sound { IsSound D.Disk store.old }
     requires fresh { store.old.failed ≡ false }
+    requires short { length (text_of changes.now) < 2 ^ 32 }
     ensures flight { IfOk result (λ f. IsFlightOf id old new now changes.now f) }
     ensures undo { IfOk result (λ f. IfSome (image_in (D.files store.old.disk)) (λ bytes. Undoes f bytes changes.now)) }
     ensures len { IfOk result (λ f. f.old_len ≡ store.old.len) }
@@ -43,23 +48,19 @@ pub fn flight_over<D: Disk>(
     ensures fault { IfErr result (λ fault. (fault ≡ StoreFault.DiskFault) ⊎ (fault ≡ StoreFault.NoMemory)) }
     ensures disk { OnlyReads D.Disk store.old.disk store.new.disk (IsErrOf result StoreFault.DiskFault) }
 {
-    // No memory holds a text of 4 GiB and its packets.
-    if text_len(changes) > u64::from(u32::MAX) {
-        return Err(StoreFault::NoMemory);
-    }
-    let mut image = StoreImage { store, faults: 0 };
+    let mut image = StoreImage {
+        store,
+        faults: Tally::new(),
+    };
     let made = Flight::make(alloc, id, old, new, now, changes, &mut image);
-    let StoreImage { store, faults } = image;
+    let StoreImage {
+        store,
+        faults: _faults,
+    } = image;
+    let failed = store.failed();
     // From here on the store is known again.
     let _store = store;
-    if faults > 0 {
-        return Err(StoreFault::DiskFault);
-    }
-    match made {
-        Ok(flight) => Ok(flight),
-        // No read has failed.
-        Err(FlightFault::DiskFault | FlightFault::NoMemory) => Err(StoreFault::NoMemory),
-    }
+    outcome_over(failed, made.map_err(ImageFault::from))
 }
 
 impl<D: Disk, V: DraftService> Node<D, V> {
@@ -84,6 +85,7 @@ impl<D: Disk, V: DraftService> Node<D, V> {
         requires counter { self.old.state.version.counter < MAX_COUNTER }
         requires others { 1 < length self.old.state.cell }
         requires within { too_large 0 (length self.old.state.image) changes.now ≡ None }
+        requires puts { PutSome changes.now }
         requires answer { IsAnswer answer }
         ensures ends { (image : List ℕ) → Ends D.Disk (IsSome (D.files self.old.store.disk) × IsWritten self.old.state.image image changes.now)
             (written_in (own_member self.old) (up_server self.old) now id call.now answer image changes.now (up_server self.old).phase)

@@ -8,6 +8,7 @@ mod acts;
 mod asking;
 mod database;
 mod evaluations;
+mod faults;
 mod flights;
 mod lines;
 mod nodes;

@@ -3,6 +3,7 @@ ghost use Rattle.std.specs.Prelude.{None};
 
 use db_image::{ImageRead, ReadEnd};
 use disk_base::Disk;
+use ghost_values::Tally;
 use std::marker::Model;
 use ubik_store::Store;
 
@@ -11,8 +12,8 @@ use ubik_store::Store;
 #[derive(Drop)]
 pub struct StoreImage<'a, D: Disk> {
     pub store: &'a mut Store<D>,
-    /// How many reads have failed.
-    pub faults: u64,
+    /// How many reads have failed: for contracts alone. Code asks the store whether it has failed.
+    pub faults: Tally,
 }
 
 impl<'a, D: Disk> Model for StoreImage<'a, D> {
@@ -50,13 +51,7 @@ impl<'a, D: Disk> ImageRead for StoreImage<'a, D> {
         if self.store.read(at, buf).is_ok() {
             return ReadEnd::Done;
         }
-        match self.faults.checked_add(1) {
-            Some(faults) => {
-                self.faults = faults;
-                ReadEnd::DiskFault
-            }
-            // Only so many faults can be told apart.
-            None => ReadEnd::NoMemory,
-        }
+        self.faults = self.faults.next();
+        ReadEnd::DiskFault
     }
 }

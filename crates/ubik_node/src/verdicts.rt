@@ -1,5 +1,6 @@
 //! What becomes of a writing call at its turn, once the database has evaluated it.
 ghost use Rattle.std.specs.Prelude.{◌≡◌, ℕ, List, ◌<◌, ◌≤◌, length};
+ghost use Rattle.db_image.specs.Blocks.{PutSome};
 ghost use Rattle.db_image.specs.Database.{changes_of};
 ghost use Rattle.cell_model.specs.Step.{Member};
 ghost use Rattle.cell_model.specs.Writes.{turned, written};
@@ -30,6 +31,7 @@ pub enum Verdict {
 pub fn verdict_of<V: DraftService>(state: &State, made: Evaluation) -> Verdict
     requires len { made.len ≡ length state.now.image }
     requires short { IsShortReply made.reply }
+    requires puts { PutSome made.changes }
     requires block { 0 < V.standing.database.block }
     ensures judged { (image : List ℕ) → length state.now.image ≤ length image
         → made.changes ≡ changes_of V.standing.database state.now.image image → (m : Member) (now id : ℕ) (call : List ℕ)
@@ -57,6 +59,7 @@ fn verdict_of_write<V: DraftService>(
 ) -> Verdict
     requires len { len ≡ length state.now.image }
     requires answer { IsAnswer answer }
+    requires puts { PutSome changes }
     requires block { 0 < V.standing.database.block }
     ensures judged { (image : List ℕ) → length state.now.image ≤ length image
         → changes ≡ changes_of V.standing.database state.now.image image → (m : Member) (now id : ℕ) (call : List ℕ)

@@ -49,4 +49,5 @@ returns-else-state-eq-MAX_COUNTER-clause-can g c =
       omega (arith, c.args.state.now.counter_fits, apart),
       rw c.requires.len at (sym c.too_large.ensures ∙ c.in_default.is),
       c.requires.answer,
+      c.requires.puts,
     )

@@ -30,11 +30,15 @@ use Rattle.ubik_node.proofs.Calling.{ended, held_as, known_call_failed, known_ca
 use Rattle.ubik_node.proofs.Committing.{flown, next_is_newer, spread_to_each, undone_here, written_begun}
 use Rattle.ubik_node.proofs.Endings.{handed_ends, ok_not, told_still}
 use Rattle.ubik_node.proofs.HeldImages.{held_after, held_length, held_there}
+use Rattle.ubik_node.proofs.ShortTexts.{short_text}
 use Rattle.ubik_node.proofs.Stored.{made_keeps, read_keeps}
 use Rattle.ubik_types.specs.Version.{IsVersion}
 use Rattle.server_state.specs.Plain.{IsAnswer}
 use Rattle.server_state.proofs.Plain.{own_version}
 use Rattle.ubik_node.proofs.nodes.Node.begin_write.Goals as goal
+
+pub flight_over-requires-clause-short : goal.flight_over-requires-clause-short
+flight_over-requires-clause-short g c = short_text (length c.args.self.now.state.image) c.args.changes.now c.requires.puts c.requires.within
 
 pub returns-in_err-flight-clause-ends : goal.returns-in_err-flight-clause-ends
 returns-in_err-flight-clause-ends g c = λ image.
