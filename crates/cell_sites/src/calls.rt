@@ -24,6 +24,7 @@ impl Model for Calls {
 }
 
 impl Calls {
+    /// No calls yet.
     pub fn new(alloc: Global) -> Self
         ensures { result ≡ [] }
     {
@@ -51,7 +52,7 @@ impl Calls {
         &self.events[id as usize - 1]
     }
 
-    /// The bytes of the call of an id; none where there is no such call.
+    /// The bytes of the call of an id, which counts from 1; none where there is no such call.
     pub fn call(&self, id: u32) -> &[u8]
         ensures { result.now ≡ call_under self.now id }
     {

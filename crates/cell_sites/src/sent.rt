@@ -23,6 +23,7 @@ impl Model for Sent {
 }
 
 impl Sent {
+    /// A packet that was sent just now.
     pub fn new(packet: Packet) -> Self
         ensures { result ≡ packet }
     {
@@ -31,6 +32,7 @@ impl Sent {
         }
     }
 
+    /// The packet itself.
     pub fn packet(&self) -> &Packet
         ensures { result.now ≡ self.now }
     {
@@ -40,6 +42,7 @@ impl Sent {
         packet
     }
 
+    /// What it is for the server at which it arrives.
     pub fn event(&self) -> &NodeEvent
         ensures { result.now ≡ event.Packet self.now }
     {

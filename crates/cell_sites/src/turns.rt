@@ -14,6 +14,7 @@ pub struct Turns {
 }
 
 impl Turns {
+    /// Both turns.
     pub fn new() -> Self {
         Turns {
             beacon: NodeEvent::BeaconTurn,
