@@ -66,7 +66,8 @@ written_may = record {
 }
 
 -- over one that stands for none
-stateless_may : MayCome one_byte (record { image = 8 ∷ 9 ∷ []; moment = 176; call = []; outcome = record { reply = call_reply.Rule 5; image = 8 ∷ 9 ∷ [] } })
+stateless_may : MayCome one_byte
+    (record { image = 8 ∷ 9 ∷ []; moment = 176; call = []; outcome = record { reply = call_reply.Rule 5; image = 8 ∷ 9 ∷ [] } })
 stateless_may = record {
   meant = λ s stands. absurd (many s stands.0 stands.1);
   grammar = refl;
@@ -119,7 +120,8 @@ cheats_do_not_fit = record {
   short = λ fits. two_more 0 fits.0.1.short;
   reply = λ fits. other_reply ((told_may (evaluated [] (7 ∷ []) (call_reply.Rule 5) (7 ∷ [])) (7 ∷ []) fits).0.meant [] (refl, omega arith));
   image = λ fits. other_after ((told_may (evaluated [] (7 ∷ []) (call_reply.Done []) (8 ∷ [])) (7 ∷ []) fits).0.meant [] (refl, omega arith));
-  rests = λ fits. rests_not ((told_may (evaluated (8 ∷ 9 ∷ []) [] (call_reply.Done []) (7 ∷ 7 ∷ [])) [] fits).0.rests (λ is. true≢false (sym (of_some is))));
+  rests = λ fits.
+      rests_not ((told_may (evaluated (8 ∷ 9 ∷ []) [] (call_reply.Done []) (7 ∷ 7 ∷ [])) [] fits).0.rests (λ is. true≢false (sym (of_some is))));
   halted = λ fits. true≢false (sym (behind one_byte one serves (turns_beacon 176 ∷ []) fits).0.1.halted);
   tick = λ fits. true≢false (sym fits.0.0);
 }

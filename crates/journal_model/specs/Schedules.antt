@@ -113,6 +113,16 @@ abbrev pub AllAllowed : Database → World → List ScheduleEntry → Type 0
 AllAllowed db w [] = Unit {0}
 AllAllowed db w (entry ∷ schedule) = IsAllowed w entry × AllAllowed db (entered db w entry) schedule
 
+-- ---- what is told
+
+-- an item, and an entry, without what was evaluated: so a server of code keeps it
+abbrev pub item_untold : JournalItem → JournalItem
+item_untold item = record item { evaluations = [] }
+
+abbrev pub untold : ScheduleEntry → ScheduleEntry
+untold (Item server trigger item progress) = Item server trigger (item_untold item) progress
+untold entry = entry
+
 -- ---- the journals of a schedule
 
 -- A server since it was last opened: what it was then, its items, and what the world saw of it in their steps.

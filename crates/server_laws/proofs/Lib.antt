@@ -3,3 +3,5 @@ pub mod Lives
 pub mod Meant
 pub mod Runs
 pub mod Sites
+pub mod Untold
+pub mod Worlds

@@ -14,7 +14,7 @@ use Rattle.recovery_laws.specs.Stands.{ImagesStand, IsMeantImage, IsService}
 use Rattle.flight_laws.specs.Flights.{WritesStand}
 use Rattle.journal_model.specs.Standings.{each_image}
 use Rattle.server_laws.specs.Laws.{AllMeant, AnyMakeAWorld, IsMeantAt, ServersMakeAWorld}
-use Rattle.server_laws.proofs.Runs.{makes_a_world}
+use Rattle.server_laws.proofs.Worlds.{makes_a_world}
 
 -- where the images of a server stand for states
 meant_by : (d : Standing) → KeepsStates d → (s : Server) → IsMeantImage d s.image → IsMeantImage d (announced_image s) → IsMeantAt d s

@@ -20,7 +20,7 @@ use Rattle.journal_model.proofs.Replaying.{items_front, items_last, items_more}
 use Rattle.journal_model.specs.Schedules.{ScheduleEntry, Tick, Tick_all, Open, Item, Stop, Progress, AllAllowed, EntryFits, Fits, HasJournal, IsAllowed, IsOwn}
 use Rattle.journal_model.specs.Schedules.{IsReplay, ItemFits, Life, OpeningFits, StepFits}
 use Rattle.journal_model.specs.Schedules.{all_events, ends_life, entered, events_of, item_event, life_after, life_from, life_in, life_with, node_in, scheduled}
-use Rattle.server_laws.specs.Laws.{AllMeant, IsWorldRun, MakesAWorld}
+use Rattle.server_laws.specs.Laws.{AllMeant, IsWorldRun}
 use Rattle.server_laws.proofs.Events.{Comes, IsBrought, item_comes, stop_event, stop_is, stopped}
 use Rattle.server_laws.proofs.Lives.{AllReplays, at_down, at_one, here, item_goes, replay_is}
 use Rattle.server_laws.proofs.Sites.{SameNodes, hosts_stay, set_same, some_site, ticked_each, ticked_one}
@@ -161,7 +161,7 @@ goes d w (Stop k trigger progress) meant fits =
     stop_goes d.database w k trigger progress fits.0.0 site.0 site.1 fits.0.1 site.2
 
 -- the servers of the first world were just opened
-first_replays : (db : Database) (n : ℕ) (m : Member) (clock : ℕ) (failed : List Bool) (k : ℕ) (site : Site)
+pub first_replays : (db : Database) (n : ℕ) (m : Member) (clock : ℕ) (failed : List Bool) (k : ℕ) (site : Site)
     → slice_get (map (first_site n clock) failed) k ≡ Some site → IsReplay db m (life_from n no_database clock) site.node
 first_replays db n m clock [] k site is = absurd (cc)
 first_replays db n m clock (one ∷ failed) zero site is =
@@ -177,7 +177,7 @@ first_replays db n m clock (one ∷ failed) (suc k) site is = first_replays db n
 
 -- ---- schedules
 
-front_fits : (d : Standing) (w : World) (front rest : List ScheduleEntry) → Fits d w (front ++ rest) → Fits d w front
+pub front_fits : (d : Standing) (w : World) (front rest : List ScheduleEntry) → Fits d w (front ++ rest) → Fits d w front
 front_fits d w [] rest fits = tt
 front_fits d w (entry ∷ front) rest fits = (fits.0, front_fits d (entered d.database w entry) front rest fits.1)
 
@@ -216,7 +216,7 @@ module _ (d : Standing) (hosts : List Host) (clock : ℕ) (failed : List Bool)
   next : (w : World) (entry : ScheduleEntry) → Reached w → EntryFits d w entry → Reached (entered db w entry)
   next w entry reached fits = reached_more db start w (events_of w entry) reached (goes_at w entry reached fits).run
 
-  schedule_runs : (w : World) (schedule : List ScheduleEntry) → Reached w → Fits d w schedule → IsWorldRun db w schedule
+  pub schedule_runs : (w : World) (schedule : List ScheduleEntry) → Reached w → Fits d w schedule → IsWorldRun db w schedule
   schedule_runs w [] reached fits = record { run = tt; world = refl }
   schedule_runs w (entry ∷ schedule) reached fits =
       let later = schedule_runs (entered db w entry) schedule (next w entry reached fits.0) fits.1 in
@@ -231,7 +231,7 @@ module _ (d : Standing) (hosts : List Host) (clock : ℕ) (failed : List Bool)
   abbrev lives_after : World → (ℕ → Life) → ScheduleEntry → ℕ → Life
   lives_after w lives entry k = life_after (length w.hosts) k (lives k) entry (seen_of db w (events_of w entry))
 
-  schedule_replays : (w : World) (schedule : List ScheduleEntry) (lives : ℕ → Life) → Reached w → Fits d w schedule → AllReplays db w lives
+  pub schedule_replays : (w : World) (schedule : List ScheduleEntry) (lives : ℕ → Life) → Reached w → Fits d w schedule → AllReplays db w lives
       → AllReplays db (scheduled db w schedule) (λ k. life_in db w k (lives k) schedule)
   schedule_replays w [] lives reached fits all = all
   schedule_replays w (entry ∷ schedule) lives reached fits all =
@@ -289,7 +289,7 @@ module _ (d : Standing) (hosts : List Host) (clock : ℕ) (failed : List Bool)
           (next_of w server item site.0 (lives server) same site.1 site.2.step.up (all server site.0 site.1) fits.1)
   journal_after w (Stop server trigger progress) lives same all fits journals k = journals k
 
-  schedule_journals : (w : World) (schedule : List ScheduleEntry) (lives : ℕ → Life) → Reached w → w.hosts ≡ hosts → AllReplays db w lives
+  pub schedule_journals : (w : World) (schedule : List ScheduleEntry) (lives : ℕ → Life) → Reached w → w.hosts ≡ hosts → AllReplays db w lives
       → Fits d w schedule → ((k : ℕ) → Journal k (lives k)) → (k : ℕ) → Journal k (life_in db w k (lives k) schedule)
   schedule_journals w [] lives reached same all fits journals k = journals k
   schedule_journals w (entry ∷ schedule) lives reached same all fits journals k =
@@ -346,7 +346,7 @@ module _ (d : Standing) (hosts : List Host) (clock : ℕ) (failed : List Bool)
       in_either k (server == k) more life (λ is later. items_front d (member start k) life.opened life.items item later)
       (within (entered db w entry) k (cond (server == k) more life) schedule (behind w k life entry schedule ends))
 
-  schedule_fits : (w : World) (schedule : List ScheduleEntry) (lives : ℕ → Life) → Reached w → w.hosts ≡ hosts → AllReplays db w lives
+  pub schedule_fits : (w : World) (schedule : List ScheduleEntry) (lives : ℕ → Life) → Reached w → w.hosts ≡ hosts → AllReplays db w lives
       → AllAllowed db w schedule → ((k : ℕ) → AtEnds w k (lives k) schedule) → Fits d w schedule
   schedule_fits w [] lives reached same all allowed ends = tt
   schedule_fits w (entry ∷ schedule) lives reached same all allowed ends =
@@ -358,26 +358,3 @@ module _ (d : Standing) (hosts : List Host) (clock : ℕ) (failed : List Bool)
         schedule_fits after schedule (lives_after w lives entry) (next w entry reached fits)
             (hosts_stay db w (events_of w entry) ∙ same) ((goes_at w entry reached fits).replays lives all) allowed.1 later,
       )
-
-  -- ---- the law
-
-  abbrev first_lives : ℕ → Life
-  first_lives k = life_from (length hosts) no_database clock
-
-  first_reached : Reached start
-  first_reached = record { events = []; run = tt; is = refl }
-
-  first_all : AllReplays db start first_lives
-  first_all k site is = first_replays db (length hosts) (member start k) clock failed k site is
-
-  pub makes_a_world : MakesAWorld d hosts clock failed
-  makes_a_world = record {
-    meant = meant;
-    run = λ schedule fits. schedule_runs start schedule first_reached fits;
-    replays = λ front rest fits.
-        schedule_replays start front first_lives first_reached (front_fits d start front rest fits) first_all;
-    fronts = λ front rest fits. front_fits d start front rest fits;
-    journals = λ schedule fits. schedule_journals start schedule first_lives first_reached refl first_all fits (λ k. tt);
-    fits = λ schedule allowed ends.
-        schedule_fits start schedule first_lives first_reached refl first_all allowed (λ k front rest split. ends front rest split k);
-  }

@@ -1,5 +1,5 @@
 -- Fitting schedules of running servers are runs of the world (own).
-use Rattle.std.specs.Prelude.{◌≡◌, ◌≢◌, ℕ, Bool, true, Some, List, ◌++◌, length}
+use Rattle.std.specs.Prelude.{◌≡◌, ◌≢◌, ℕ, Bool, true, Some, List, ◌++◌, length, map}
 use Rattle.db_image.specs.Database.{Database}
 use Rattle.db_image.specs.Standing.{Standing}
 use Rattle.ubik_types.specs.declared.hosts.Host.{Host}
@@ -10,7 +10,7 @@ use Rattle.cell_model.specs.Node.{Up, Server}
 use Rattle.cell_model.specs.NodeRule.{step_by, step_of}
 use Rattle.cell_model.specs.Step.{Member}
 use Rattle.cell_model.specs.World.{World, Site, Event, IsFirst, IsRun, first_world, member, site_of, world_after}
-use Rattle.journal_model.specs.Schedules.{ScheduleEntry, AllAllowed, Fits, HasJournal, IsReplayAt, Life, all_events, ends_life, life_from, life_in, scheduled}
+use Rattle.journal_model.specs.Schedules.{ScheduleEntry, AllAllowed, Fits, HasJournal, IsReplayAt, Life, all_events, ends_life, life_from, life_in, scheduled, untold}
 use Rattle.journal_model.specs.Standings.{each_image}
 
 -- The events of a schedule are a run of the world, and lead to the world of the schedule.
@@ -57,6 +57,11 @@ pub record MakesAWorld (d : Standing) (hosts : List Host) (clock : ℕ) (failed 
       ((front rest : List ScheduleEntry) → schedule ≡ front ++ rest → (k : ℕ) → ends_life k rest ≡ true →
       HasJournal d (member (first_world hosts clock failed) k) (life_of d.database hosts clock failed front k)) →
       Fits d (first_world hosts clock failed) schedule
+  -- What its items tell of evaluations may be left out: it fits without, and has the same events.
+  pub silent : (schedule : List ScheduleEntry) → Fits d (first_world hosts clock failed) schedule →
+      Fits d (first_world hosts clock failed) (map untold schedule)
+  pub same : (schedule : List ScheduleEntry) →
+      all_events d.database (first_world hosts clock failed) (map untold schedule) ≡ all_events d.database (first_world hosts clock failed) schedule
 
 -- In each cell, over a database over drafts, whose blocks have a length.
 abbrev pub ServersMakeAWorld : Standing → Type 0
