@@ -1,7 +1,7 @@
 -- Rules that are changed in one place: the runs are computed.
 use Rattle.std.proofs.Common.{refl}
 use Rattle.xdr_base.specs.Reading.{opaque_at, count_at}
-use Rattle.cell_model.specs.NodeRule.{step_of, step_by}
+use Rattle.cell_model.specs.NodeRule.{step_by}
 use Rattle.cell_examples.specs.Changed.{HalfIsTooFew, VersionsMustAgree}
 
 pub is_too_few : HalfIsTooFew

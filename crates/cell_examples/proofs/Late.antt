@@ -3,7 +3,7 @@ use Rattle.std.proofs.Common.{◌≡◌, refl, sym, ◌∙◌}
 use Rattle.std.specs.Prelude.{List, [], ◌∷◌}
 use Rattle.xdr_base.specs.Reading.{opaque_at, count_at}
 use Rattle.cell_model.specs.Book.{Announcement}
-use Rattle.cell_model.specs.NodeRule.{step_of, step_by}
+use Rattle.cell_model.specs.NodeRule.{step_by}
 use Rattle.cell_examples.specs.Late.{LateCommitIsUndone, PollsOfOneSecond, fetched, late_commit}
 use Rattle.cell_examples.specs.Showing.{three, version, announcements_of}
 

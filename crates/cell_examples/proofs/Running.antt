@@ -21,7 +21,7 @@ use Rattle.cell_examples.specs.Showing.{version}
 pub servers_run : ServersRun
 unfolding step_by opaque_at count_at
 servers_run = record {
-  fits = ((refl, tt), (((refl, record { step = record { up = refl; new = refl }; moment = refl }), record { halted = tt; short = refl; may = tt }), (((refl, record { step = record { up = refl; new = refl }; moment = refl }), record { halted = tt; short = refl; may = tt }), (((refl, record { step = record { up = refl; new = refl }; moment = refl }), record { halted = tt; short = refl; may = tt }), (((refl, record { step = record { up = refl; new = refl }; moment = refl }), record { halted = tt; short = refl; may = tt }), (((refl, record { step = record { up = refl; new = refl }; moment = refl }), record { halted = tt; short = refl; may = tt }), (((refl, record { step = record { up = refl; new = refl }; moment = refl }), record { halted = tt; short = refl; may = tt }), ((refl, tt), ((record { moment = refl; disk = refl }, tt), ((refl, tt), (((refl, record { step = record { up = refl; new = refl }; moment = refl }), record { halted = tt; short = refl; may = tt }), (((refl, record { step = record { up = refl; new = refl }; moment = refl }), record { halted = tt; short = refl; may = tt }), (((refl, record { step = record { up = refl; new = refl }; moment = refl }), record { halted = tt; short = refl; may = tt }), tt)))))))))))));
+  fits = ((refl, tt), (((refl, record { up = refl; moment = refl }), record { item_of = record { halted = tt; short = refl; may = tt }; new = refl }), (((refl, record { up = refl; moment = refl }), record { item_of = record { halted = tt; short = refl; may = tt }; new = refl }), (((refl, record { up = refl; moment = refl }), record { item_of = record { halted = tt; short = refl; may = tt }; new = refl }), (((refl, record { up = refl; moment = refl }), record { item_of = record { halted = tt; short = refl; may = tt }; new = refl }), (((refl, record { up = refl; moment = refl }), record { item_of = record { halted = tt; short = refl; may = tt }; new = refl }), (((refl, record { up = refl; moment = refl }), record { item_of = record { halted = tt; short = refl; may = tt }; new = refl }), ((refl, tt), ((record { moment = refl; disk = refl }, tt), ((refl, tt), (((refl, record { up = refl; moment = refl }), record { item_of = record { halted = tt; short = refl; may = tt }; new = refl }), (((refl, record { up = refl; moment = refl }), record { item_of = record { halted = tt; short = refl; may = tt }; new = refl }), (((refl, record { up = refl; moment = refl }), record { item_of = record { halted = tt; short = refl; may = tt }; new = refl }), tt)))))))))))));
   halted = refl;
   again = refl;
 }
@@ -99,13 +99,13 @@ of_some is = cc
 
 -- what is told of the ask behind these may have come
 told_may : (told : Told) (call : List ℕ) → Fits one_byte one (leads ++ asked_told told 176 1 call ∷ []) → MayAllCome one_byte told
-told_may told call fits = (behind one_byte one leads (asked_told told 176 1 call ∷ []) fits).0.1.may
+told_may told call fits = (behind one_byte one leads (asked_told told 176 1 call ∷ []) fits).0.1.item_of.may
 
 pub told_servers_run : ToldServersRun
 unfolding step_by opaque_at count_at
 told_servers_run = record {
   states = keeps_states;
-  fits = ((refl, tt), (((refl, record { step = record { up = refl; new = refl }; moment = refl }), record { halted = tt; short = refl; may = tt }), (((refl, record { step = record { up = refl; new = refl }; moment = refl }), record { halted = tt; short = refl; may = tt }), (((refl, record { step = record { up = refl; new = refl }; moment = refl }), record { halted = tt; short = refl; may = (written_may, tt) }), (((refl, record { step = record { up = refl; new = refl }; moment = refl }), record { halted = tt; short = refl; may = (stateless_may, tt) }), tt)))));
+  fits = ((refl, tt), (((refl, record { up = refl; moment = refl }), record { item_of = record { halted = tt; short = refl; may = tt }; new = refl }), (((refl, record { up = refl; moment = refl }), record { item_of = record { halted = tt; short = refl; may = tt }; new = refl }), (((refl, record { up = refl; moment = refl }), record { item_of = record { halted = tt; short = refl; may = (written_may, tt) }; new = refl }), (((refl, record { up = refl; moment = refl }), record { item_of = record { halted = tt; short = refl; may = (stateless_may, tt) }; new = refl }), tt)))));
   outputs = refl;
 }
 
@@ -116,12 +116,12 @@ cheats_do_not_fit = record {
   disk = λ fits. other_image (version 176 3) (behind one_byte one serves (Open 0 176 (durable (version 176 3) (8 ∷ [])) ∷ []) fits).0.0.disk;
   moment = λ fits. one_more 176 (behind one_byte one serves (Open 0 177 (durable (version 176 3) (9 ∷ [])) ∷ []) fits).0.0.moment;
   clock = λ fits. one_more 100 fits.0.0.1.moment;
-  id = λ fits. true≢false (sym fits.1.0.0.1.step.new);
-  short = λ fits. two_more 0 fits.0.1.short;
+  id = λ fits. true≢false (sym fits.1.0.1.new);
+  short = λ fits. two_more 0 fits.0.1.item_of.short;
   reply = λ fits. other_reply ((told_may (evaluated [] (7 ∷ []) (call_reply.Rule 5) (7 ∷ [])) (7 ∷ []) fits).0.meant [] (refl, omega arith));
   image = λ fits. other_after ((told_may (evaluated [] (7 ∷ []) (call_reply.Done []) (8 ∷ [])) (7 ∷ []) fits).0.meant [] (refl, omega arith));
   rests = λ fits.
       rests_not ((told_may (evaluated (8 ∷ 9 ∷ []) [] (call_reply.Done []) (7 ∷ 7 ∷ [])) [] fits).0.rests (λ is. true≢false (sym (of_some is))));
-  halted = λ fits. true≢false (sym (behind one_byte one serves (turns_beacon 176 ∷ []) fits).0.1.halted);
+  halted = λ fits. true≢false (sym (behind one_byte one serves (turns_beacon 176 ∷ []) fits).0.1.item_of.halted);
   tick = λ fits. true≢false (sym fits.0.0);
 }

@@ -1,5 +1,5 @@
 -- A schedule of a server that runs, and what does not fit into it (own).
-use Rattle.std.specs.Prelude.{◌≡◌, ℕ, Bool, true, false, Some, List, [], ◌∷◌, ◌++◌}
+use Rattle.std.specs.Prelude.{◌≡◌, ℕ, true, false, Some, List, [], ◌∷◌, ◌++◌}
 use Rattle.db_image.specs.declared.services.CallReply.{CallReply}
 use Rattle.db_image.specs.declared.services.CallReply.TheVariants as call_reply
 use Rattle.ubik_calls.specs.declared.packets.Packet.{Packet}
@@ -7,7 +7,7 @@ use Rattle.ubik_calls.specs.declared.replies.Reply.TheVariants as reply
 use Rattle.cell_model.specs.declared.events.NodeEvent.{NodeEvent}
 use Rattle.cell_model.specs.declared.events.NodeEvent.TheVariants as event
 use Rattle.cell_model.specs.declared.events.Output.TheVariants as output
-use Rattle.cell_model.specs.Durable.{Durable, durable, no_database}
+use Rattle.cell_model.specs.Durable.{durable, no_database}
 use Rattle.cell_model.specs.Evaluating.{KeepsStates, Told}
 use Rattle.cell_model.specs.World.{World, Trigger, Beacon_turn, Recover_turn, Asking, first_world}
 use Rattle.journal_model.specs.Items.{JournalItem}

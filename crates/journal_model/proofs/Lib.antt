@@ -1,3 +1,4 @@
+pub mod Asking
 pub mod Choices
 pub mod Few
 pub mod Replaying

@@ -1,3 +1,4 @@
+pub mod Asking
 pub mod Items
 pub mod Laws
 pub mod Replay

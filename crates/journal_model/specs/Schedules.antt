@@ -12,6 +12,7 @@ use Rattle.cell_model.specs.Node.{Node, Down, Up, opened_server}
 use Rattle.cell_model.specs.Step.{Member}
 use Rattle.cell_model.specs.World.{Site, World, Trigger, Event, Happening, Sent, Announced, Replied, IsEvent, is_down, is_new_ask, occasion, member, site_of, world_after, seen_of}
 use Rattle.cell_model.specs.World as world
+use Rattle.journal_model.specs.Asking.{asks_once}
 use Rattle.journal_model.specs.Items.{JournalItem, choices_of}
 use Rattle.journal_model.specs.Replay.{AreItemsOf, IsItemOf, replayed}
 
@@ -43,6 +44,11 @@ item_event node trigger item progress = world.Step trigger (choices_of item)
 abbrev pub node_in : Option Site → Node
 node_in None = Down
 node_in (Some site) = site.node
+
+-- the ids that were asked there since its opening
+abbrev pub asked_at : Option Site → List ℕ
+asked_at None = []
+asked_at (Some site) = site.asked
 
 abbrev pub events_of : World → ScheduleEntry → List Event
 events_of w (Tick server seconds) = world.Tick server seconds ∷ []
@@ -76,14 +82,19 @@ pub record StepFits (event : NodeEvent) (site : Site) : Type 0 where
   pub up : is_down site.node ≡ false
   pub new : is_new_ask site.asked event ≡ true
 
--- Such a step at the server's clock.
+-- A step of a server that is up, at its clock.
 pub record ItemFits (item : JournalItem) (site : Site) : Type 0 where
-  pub step : StepFits item.event site
+  pub up : is_down site.node ≡ false
   pub moment : item.now ≡ site.clock
+
+-- An item that may come at a server, and asks under no id that was asked there before.
+pub record IsOwnItem (d : Standing) (m : Member) (node : Node) (asked : List ℕ) (item : JournalItem) : Type 0 where
+  pub item_of : IsItemOf d m node item
+  pub new : is_new_ask asked item.event ≡ true
 
 -- What is asked of the world that the entries before left. Of clocks: they go on within seven seconds of each other, and each step and opening
 -- has the moment of its server's clock. Of disks: they keep what was durable, and an opening finds it. Of packets: each was sent before, for
--- this server. Of ids: each is asked once since the opening, of a server that is up.
+-- this server. And a server that makes a step is up; where it stops in an ask, no journal has it, and the id is new since the opening.
 abbrev pub IsAllowed : World → ScheduleEntry → Type 0
 IsAllowed w (Tick server seconds) = IsEvent w (world.Tick server seconds)
 IsAllowed w (Tick_all seconds) = IsEvent w (world.Tick_all seconds)
@@ -93,10 +104,11 @@ IsAllowed w (Item server trigger item progress) =
 IsAllowed w (Stop server trigger progress) =
     (event : NodeEvent) × (occasion w trigger ≡ Some (server, event)) × IsSomeAnd (site_of w server) (StepFits event)
 
--- What is a server's own: its item is one that may come at it, as the items before it left it. Who keeps its journal step by step sees to
--- that alone.
+-- What is a server's own: its item is one that may come at it, as the items before it left it, and an id is asked once. Who keeps its journal
+-- step by step, and numbers its calls, sees to that alone.
 abbrev pub IsOwn : Standing → World → ScheduleEntry → Type 0
-IsOwn d w (Item server trigger item progress) = IsItemOf d (member w server) (node_in (site_of w server)) item
+IsOwn d w (Item server trigger item progress) =
+    IsOwnItem d (member w server) (node_in (site_of w server)) (asked_at (site_of w server)) item
 IsOwn d w entry = Unit {0}
 
 -- what an entry may be, in the world that those before it left
@@ -164,9 +176,10 @@ ends_life k [] = true
 ends_life k (Open server now found ∷ schedule) = server == k
 ends_life k (entry ∷ schedule) = false
 
--- the items of a server since it was last opened, each one that may come behind those before it
-abbrev pub HasJournal : Standing → Member → Life → Type 0
-HasJournal d m life = AreItemsOf d m life.opened life.items
+-- The items of a server since it was last opened: each is one that may come behind those before it, and no id is asked twice.
+pub record HasJournal (d : Standing) (m : Member) (life : Life) : Type 0 where
+  pub each : AreItemsOf d m life.opened life.items
+  pub once : asks_once [] life.items ≡ true
 
 -- A server that is not down is the replay of its items, and what was seen of it is what that puts out.
 abbrev pub IsReplay : Database → Member → Life → Node → Type 0

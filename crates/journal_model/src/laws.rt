@@ -1,4 +1,5 @@
 //! Laws of items: each is the clause of a call that does nothing.
+ghost use Rattle.journal_model.specs.Asking.{NumberedAskOnce};
 ghost use Rattle.journal_model.specs.Laws.{ItemsTellSteps, StepsKeepJournals, StepsReplyFew};
 
 use db_image::DraftService;
@@ -13,6 +14,11 @@ pub fn law_items_tell_steps()
 /// item of a server that keeps its journal so is one that a fitting schedule may have, for what is the server's own.
 pub fn law_steps_keep_journals<S: DraftService>()
     ensures { StepsKeepJournals S.standing }
+{}
+
+/// A server that numbers its calls from 1 on asks none under an id that it asked before.
+pub fn law_numbered_ask_once()
+    ensures { NumberedAskOnce }
 {}
 
 /// A step has at most two replies more than there are calls that wait, so an item has a bit for each.

@@ -4,4 +4,6 @@
 
 mod laws;
 
-pub use laws::{law_items_tell_steps, law_steps_keep_journals, law_steps_reply_few};
+pub use laws::{
+    law_items_tell_steps, law_numbered_ask_once, law_steps_keep_journals, law_steps_reply_few,
+};

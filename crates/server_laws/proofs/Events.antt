@@ -10,7 +10,7 @@ use Rattle.cell_model.specs.NodeRule.{step_of}
 use Rattle.cell_model.specs.Step.{Evaluation, Shown, Stepped, outputs_of}
 use Rattle.cell_model.specs.World.{World, Site, Trigger, Event, Step, Stop, Fault, Happening, SiteHappened, happened_at, happens_at, triggered}
 use Rattle.cell_model.specs.World.{step_at, stop_at, fault_at, occasion, member, site_of, happens, seen_of_output, seen_from, number_after, packet_of}
-use Rattle.cell_model.specs.World.{is_down, has_disk, is_new_ask, holds_at, occurs, may_be_down, may_step, may_stop, may_fail, IsEvent}
+use Rattle.cell_model.specs.World.{asked_after, is_down, has_disk, is_new_ask, holds_at, occurs, may_be_down, may_step, may_stop, may_fail, IsEvent}
 use Rattle.journal_model.specs.Items.{JournalItem, choices_of}
 use Rattle.journal_model.specs.Replay.{Replayed, item_replayed, made, refused, step_in}
 use Rattle.journal_model.specs.Schedules.{Progress, StepFits, item_event, output_in}
@@ -80,12 +80,13 @@ module _ (db : Database) (w : World) (trigger : Trigger) (k : ℕ) (e : NodeEven
 
 -- ---- an item
 
--- What comes of an event at a server: it is one of the world, leaves this server, and puts this out.
-pub record Comes (db : Database) (w : World) (k : ℕ) (event : Event) (r : Replayed) : Type 0 where
+-- What comes of an event at a server: it is one of the world, leaves this server and these ids that were asked there, and puts this out.
+pub record Comes (db : Database) (w : World) (k : ℕ) (event : Event) (r : Replayed) (ids : List ℕ) : Type 0 where
   pub happened : SiteHappened
   pub event_of : IsEvent w event
   pub is : happens db w event ≡ happened_at w k happened
   pub node : happened.site.node ≡ r.node
+  pub asked : happened.site.asked ≡ ids
   pub shown : outputs_of happened.shown ≡ r.outputs
   pub silent : filter_map output_in happened.marks ≡ []
 
@@ -93,7 +94,7 @@ module _ (db : Database) (w : World) (trigger : Trigger) (k : ℕ) (item : Journ
     (is : IsBrought w trigger k item.event site) (moment : item.now ≡ site.clock)
     (meant : (s : Server) → site.node ≡ Up s → step_in db (member w k) s item ≡ step_of db (member w k) s item.now item.event (choices_of item)) where
   abbrev ComesOf : Event → Replayed → Type 0
-  ComesOf = Comes db w k
+  ComesOf event r = Comes db w k event r (asked_after site.asked item.event)
 
   -- the world's step at the server's clock is the item's
   step_is_in : (s : Server) → site.node ≡ Up s → step_of db (member w k) s site.clock item.event (choices_of item) ≡ step_in db (member w k) s item
@@ -112,6 +113,7 @@ module _ (db : Database) (w : World) (trigger : Trigger) (k : ℕ) (item : Journ
             fault_is db w trigger k item.event site is progress.short progress.made
             ∙ ap (λ (node : Node). happened_at w k (fault_at db (member w k) item.event progress.short progress.made site node)) at;
         node = refl;
+        asked = refl;
         shown = refl;
         silent = refl;
       }
@@ -122,6 +124,7 @@ module _ (db : Database) (w : World) (trigger : Trigger) (k : ℕ) (item : Journ
             step_is db w trigger k item.event site is (choices_of item)
             ∙ ap (λ (node : Node). happened_at w k (step_at db (member w k) trigger item.event (choices_of item) site node)) at;
         node = ap (λ (t : Stepped). Up t.server) (step_is_in s at);
+        asked = refl;
         shown = ap (λ (t : Stepped). outputs_of t.shown) (step_is_in s at);
         silent = refl;
       }
@@ -135,6 +138,7 @@ module _ (db : Database) (w : World) (trigger : Trigger) (k : ℕ) (item : Journ
         step_is db w trigger k item.event site is (choices_of item)
         ∙ ap (λ (node : Node). happened_at w k (step_at db (member w k) trigger item.event (choices_of item) site node)) at;
     node = at;
+    asked = refl;
     shown = refl;
     silent = refl;
   }

@@ -1,13 +1,11 @@
 -- The images of a run stand for states, so each step of a server in it is that of the world, whatever may have come of its calls.
-use Rattle.std.proofs.Common.{◌≡◌, ◌≢◌, ℕ, List, [], ◌∷◌, refl, subst}
-use Rattle.std.specs.Prelude.{Some}
-use Rattle.ubik_types.specs.declared.hosts.Host.{Host}
+use Rattle.std.proofs.Common.{◌≡◌, ◌≢◌, List, [], ◌∷◌, refl, subst}
 use Rattle.db_image.specs.Database.{Database}
 use Rattle.db_image.specs.Standing.{Standing}
 use Rattle.cell_model.specs.Book.{first_run, run_after, run_through, Run}
 use Rattle.cell_model.specs.Evaluating.{KeepsStates}
-use Rattle.cell_model.specs.Node.{Up, Server}
-use Rattle.cell_model.specs.World.{World, Site, Event, IsFirst, IsRun, first_world, happens, site_of, world_after}
+use Rattle.cell_model.specs.Node.{Server}
+use Rattle.cell_model.specs.World.{Event, first_world, world_after}
 use Rattle.cell_model.specs.Writes.{announced_image}
 use Rattle.cell_model.proofs.MeantSteps.{step_is_meant}
 use Rattle.recovery_laws.specs.Stands.{ImagesStand, IsMeantImage, IsService}

@@ -12,17 +12,19 @@ use Rattle.cell_model.specs.Evaluating.{MayAllCome}
 use Rattle.cell_model.specs.Node.{Node, Up, Server, opened_server}
 use Rattle.cell_model.specs.NodeRule.{step_of}
 use Rattle.cell_model.specs.Step.{Member}
-use Rattle.cell_model.specs.World.{World, Site, Trigger, Event, Crash, Restart, Happened, happened_at, happens_at, crash_at, restart_at, stop_at, happens}
-use Rattle.cell_model.specs.World.{holds_at, is_down, member, site_of, occasion, seen_of, ticked, tick_at, world_after, first_site, first_world, IsEvent, IsRun}
+use Rattle.cell_model.specs.World.{World, Site, Trigger, Event, Crash, Restart, Happened, Happening, happened_at, happens_at, crash_at, restart_at, stop_at, happens}
+use Rattle.cell_model.specs.World.{asked_after, holds_at, is_down, is_new_ask, member, site_of, occasion, seen_of, ticked, tick_at, world_after, first_site, first_world, IsEvent, IsRun}
+use Rattle.journal_model.specs.Asking.{asked_in}
 use Rattle.journal_model.specs.Items.{JournalItem, choices_of}
-use Rattle.journal_model.specs.Replay.{IsItemOf, Replayed, item_replayed, replayed, step_in}
+use Rattle.journal_model.specs.Replay.{Replayed, item_replayed, replayed, step_in}
+use Rattle.journal_model.proofs.Asking.{once_front, once_last, once_more}
 use Rattle.journal_model.proofs.Replaying.{items_front, items_last, items_more}
 use Rattle.journal_model.specs.Schedules.{ScheduleEntry, Tick, Tick_all, Open, Item, Stop, Progress, AllAllowed, EntryFits, Fits, HasJournal, IsAllowed, IsOwn}
-use Rattle.journal_model.specs.Schedules.{IsReplay, ItemFits, Life, OpeningFits, StepFits}
-use Rattle.journal_model.specs.Schedules.{all_events, ends_life, entered, events_of, item_event, life_after, life_from, life_in, life_with, node_in, scheduled}
+use Rattle.journal_model.specs.Schedules.{IsOwnItem, IsReplay, ItemFits, Life, OpeningFits, StepFits}
+use Rattle.journal_model.specs.Schedules.{all_events, asked_at, ends_life, entered, events_of, item_event, life_after, life_from, life_in, life_with, node_in, scheduled}
 use Rattle.server_laws.specs.Laws.{AllMeant, IsWorldRun}
 use Rattle.server_laws.proofs.Events.{Comes, IsBrought, item_comes, stop_event, stop_is, stopped}
-use Rattle.server_laws.proofs.Lives.{AllReplays, at_down, at_one, here, item_goes, replay_is}
+use Rattle.server_laws.proofs.Lives.{AllLives, IsLife, at_down, at_one, here, item_goes, replay_is}
 use Rattle.server_laws.proofs.Sites.{SameNodes, hosts_stay, set_same, some_site, ticked_each, ticked_one}
 
 -- ---- runs
@@ -70,23 +72,28 @@ module _ (db : Database) (w : World) (k : ℕ) (site : Site) (there : site_of w 
 -- what an entry that fits comes to
 pub record Goes (db : Database) (w : World) (entry : ScheduleEntry) : Type 0 where
   pub run : IsRun db w (events_of w entry)
-  pub replays : (lives : ℕ → Life) → AllReplays db w lives
-      → AllReplays db (entered db w entry) (λ k. life_after (length w.hosts) k (lives k) entry (seen_of db w (events_of w entry)))
+  pub replays : (lives : ℕ → Life) → AllLives db w lives
+      → AllLives db (entered db w entry) (λ k. life_after (length w.hosts) k (lives k) entry (seen_of db w (events_of w entry)))
 
-tick_goes : (db : Database) (w : World) (sites : List Site) (lives : ℕ → Life) → SameNodes w.sites sites → AllReplays db w lives
-    → AllReplays db (record w { sites = sites }) lives
+tick_goes : (db : Database) (w : World) (sites : List Site) (lives : ℕ → Life) → SameNodes w.sites sites → AllLives db w lives
+    → AllLives db (record w { sites = sites }) lives
 tick_goes db w sites lives same all k z there =
-    let old = same k z there in subst (IsReplay db (member w k) (lives k)) (sym old.2) (all k old.0 old.1)
+    let old = same k z there in
+    let was = all k old.0 old.1 in
+    record {
+      replay = subst (IsReplay db (member w k) (lives k)) (sym old.2) was.replay;
+      asked = λ up. old.3 ∙ was.asked (ap is_down (sym old.2) ∙ up);
+    }
 
 open_goes : (db : Database) (w : World) (k now : ℕ) (found : Durable) (site : Site) → site_of w k ≡ Some site → OpeningFits now found site
     → Goes db w (Open k now found)
 open_goes db w k now found site there fits = record {
   run = opening_run db w k site there;
   replays = λ lives all.
-      subst (λ (x : World). AllReplays db x (λ j. cond (k == j) (life_from (length w.hosts) found now) (lives j)))
+      subst (λ (x : World). AllLives db x (λ j. cond (k == j) (life_from (length w.hosts) found now) (lives j)))
       (sym (opening_is db w k site there))
       (at_one db (crashed db w k site there) k (restart_at (length w.hosts) k false (crash_at site).site) lives (λ j. life_from (length w.hosts) found now)
-      (at_down db w k (crash_at site) lives all refl) opened);
+      (at_down db w k (crash_at site) lives all refl) (record { replay = opened; asked = λ up. refl }));
 }
   where
     opened : IsReplay db (member w k) (life_from (length w.hosts) found now) (Up (opened_server (length w.hosts) site.durable site.clock))
@@ -103,31 +110,34 @@ told_as_had d w k item site meant there may s up =
 
 -- what comes of an item that fits
 pub item_fit_comes : (d : Standing) (w : World) (k : ℕ) (trigger : Trigger) (item : JournalItem) (progress : Progress) (site : Site) → AllMeant d w
-    → site_of w k ≡ Some site → occasion w trigger ≡ Some (k, item.event) → ItemFits item site → MayAllCome d item.evaluations
+    → site_of w k ≡ Some site → occasion w trigger ≡ Some (k, item.event) → ItemFits item site → (own : IsOwnItem d (member w k) (node_in (site_of w k)) (asked_at (site_of w k)) item)
     → Comes d.database w k (item_event (node_in (site_of w k)) trigger item progress)
-    (item_replayed d.database (member w k) (node_in (site_of w k)) item)
-item_fit_comes d w k trigger item progress site meant there brought fits may =
-    item_comes d.database w trigger k item progress site (record { brought = brought; there = there; fits = fits.step }) fits.moment
-    (told_as_had d w k item site meant there may) (node_in (site_of w k)) (sym (ap node_in there))
+    (item_replayed d.database (member w k) (node_in (site_of w k)) item) (asked_after site.asked item.event)
+item_fit_comes d w k trigger item progress site meant there brought fits own =
+    let new : is_new_ask site.asked item.event ≡ true = ap (λ (ids : List ℕ). is_new_ask ids item.event) (sym (ap asked_at there)) ∙ own.new in
+    item_comes d.database w trigger k item progress site
+    (record { brought = brought; there = there; fits = record { up = fits.up; new = new } }) fits.moment
+    (told_as_had d w k item site meant there own.item_of.may) (node_in (site_of w k)) (sym (ap node_in there))
 
 item_goes_on : (d : Standing) (w : World) (k : ℕ) (trigger : Trigger) (item : JournalItem) (progress : Progress) (site : Site) → AllMeant d w
-    → site_of w k ≡ Some site → occasion w trigger ≡ Some (k, item.event) → ItemFits item site → MayAllCome d item.evaluations
+    → site_of w k ≡ Some site → occasion w trigger ≡ Some (k, item.event) → ItemFits item site → (own : IsOwnItem d (member w k) (node_in (site_of w k)) (asked_at (site_of w k)) item)
     → Goes d.database w (Item k trigger item progress)
-item_goes_on d w k trigger item progress site meant there brought fits may =
-    by (node_in (site_of w k)) (sym (ap node_in there)) (item_fit_comes d w k trigger item progress site meant there brought fits may)
+item_goes_on d w k trigger item progress site meant there brought fits own =
+    by (node_in (site_of w k)) (sym (ap node_in there)) (item_fit_comes d w k trigger item progress site meant there brought fits own)
   where
     by : (node : Node) → site.node ≡ node
         → Comes d.database w k (item_event (node_in (site_of w k)) trigger item progress) (item_replayed d.database (member w k) node item)
-        → Goes d.database w (Item k trigger item progress)
+        (asked_after site.asked item.event) → Goes d.database w (Item k trigger item progress)
     by node at c = record {
       run = (c.event_of, tt);
       replays = λ lives all.
           let seen = seen_of d.database w (events_of w (Item k trigger item progress)) in
-          let kept : IsReplay d.database (member w k) (lives k) node = subst (IsReplay d.database (member w k) (lives k)) at (all k site there) in
-          subst (λ (h : Happened). AllReplays d.database h.world (λ j. cond (k == j) (life_with (lives j) item seen) (lives j))) (sym c.is)
+          let was = all k site there in
+          let kept : IsReplay d.database (member w k) (lives k) node = subst (IsReplay d.database (member w k) (lives k)) at was.replay in
+          subst (λ (h : Happened). AllLives d.database h.world (λ j. cond (k == j) (life_with (lives j) item seen) (lives j))) (sym c.is)
           (at_one d.database w k c.happened lives (λ j. life_with (lives j) item seen) all
-          (item_goes d.database w k node (lives k) item (item_event (node_in (site_of w k)) trigger item progress) c
-          (ap is_down (sym at) ∙ fits.step.up) kept));
+          (item_goes d.database w k node (lives k) item (item_event (node_in (site_of w k)) trigger item progress) site.asked c
+          (ap is_down (sym at) ∙ fits.up) (was.asked fits.up) kept));
     }
 
 stop_goes : (db : Database) (w : World) (k : ℕ) (trigger : Trigger) (progress : Progress) (event : NodeEvent) (site : Site)
@@ -137,7 +147,7 @@ stop_goes db w k trigger progress event site there brought fits =
     record {
       run = (stop_event db w trigger k event site is progress.short progress.made, tt);
       replays = λ lives all.
-          subst (λ (h : Happened). AllReplays db h.world lives) (sym (stop_is db w trigger k event site is progress.short progress.made))
+          subst (λ (h : Happened). AllLives db h.world lives) (sym (stop_is db w trigger k event site is progress.short progress.made))
           (at_down db w k (stop_at db (member w k) event progress.short progress.made site site.node) lives all
           (stopped db w trigger k event site is progress.short progress.made site.node fits.up));
     }
@@ -155,17 +165,17 @@ goes d w (Open k now found) meant fits =
     let site = some_site (OpeningFits now found) (site_of w k) fits.0 in open_goes d.database w k now found site.0 site.1 site.2
 goes d w (Item k trigger item progress) meant fits =
     let site = some_site (ItemFits item) (site_of w k) fits.0.1 in
-    item_goes_on d w k trigger item progress site.0 meant site.1 fits.0.0 site.2 fits.1.may
+    item_goes_on d w k trigger item progress site.0 meant site.1 fits.0.0 site.2 fits.1
 goes d w (Stop k trigger progress) meant fits =
     let site = some_site (StepFits fits.0.0) (site_of w k) fits.0.2 in
     stop_goes d.database w k trigger progress fits.0.0 site.0 site.1 fits.0.1 site.2
 
 -- the servers of the first world were just opened
 pub first_replays : (db : Database) (n : ℕ) (m : Member) (clock : ℕ) (failed : List Bool) (k : ℕ) (site : Site)
-    → slice_get (map (first_site n clock) failed) k ≡ Some site → IsReplay db m (life_from n no_database clock) site.node
+    → slice_get (map (first_site n clock) failed) k ≡ Some site → IsLife db m (life_from n no_database clock) site
 first_replays db n m clock [] k site is = absurd (cc)
 first_replays db n m clock (one ∷ failed) zero site is =
-    subst (λ (site : Site). IsReplay db m (life_from n no_database clock) site.node) (same is) (by one)
+    subst (IsLife db m (life_from n no_database clock)) (same is) (record { replay = by one; asked = λ up. refl })
   where
     same : Some (first_site n clock one) ≡ Some site → first_site n clock one ≡ site
     same is = cc
@@ -231,8 +241,8 @@ module _ (d : Standing) (hosts : List Host) (clock : ℕ) (failed : List Bool)
   abbrev lives_after : World → (ℕ → Life) → ScheduleEntry → ℕ → Life
   lives_after w lives entry k = life_after (length w.hosts) k (lives k) entry (seen_of db w (events_of w entry))
 
-  pub schedule_replays : (w : World) (schedule : List ScheduleEntry) (lives : ℕ → Life) → Reached w → Fits d w schedule → AllReplays db w lives
-      → AllReplays db (scheduled db w schedule) (λ k. life_in db w k (lives k) schedule)
+  pub schedule_replays : (w : World) (schedule : List ScheduleEntry) (lives : ℕ → Life) → Reached w → Fits d w schedule → AllLives db w lives
+      → AllLives db (scheduled db w schedule) (λ k. life_in db w k (lives k) schedule)
   schedule_replays w [] lives reached fits all = all
   schedule_replays w (entry ∷ schedule) lives reached fits all =
       schedule_replays (entered db w entry) schedule (lives_after w lives entry) (next w entry reached fits.0) fits.1
@@ -248,35 +258,64 @@ module _ (d : Standing) (hosts : List Host) (clock : ℕ) (failed : List Bool)
 
   -- an item at a server that is the replay of its items is one behind these
   module _ (w : World) (k : ℕ) (item : JournalItem) (site : Site) (life : Life) (same : w.hosts ≡ hosts) (there : site_of w k ≡ Some site)
-      (up : is_down site.node ≡ false) (replay : IsReplay db (member w k) life site.node) where
+      (up : is_down site.node ≡ false) (is : IsLife db (member w k) life site) where
     abbrev IsNext : Type 0
-    IsNext = IsItemOf d (member start k) (replayed db (member start k) life.opened life.items).node item
+    IsNext = IsOwnItem d (member start k) (replayed db (member start k) life.opened life.items).node (asked_in [] life.items) item
 
     abbrev IsHere : Type 0
-    IsHere = IsItemOf d (member w k) (node_in (site_of w k)) item
+    IsHere = IsOwnItem d (member w k) (node_in (site_of w k)) (asked_at (site_of w k)) item
 
     node_is : node_in (site_of w k) ≡ (replayed db (member start k) life.opened life.items).node
     node_is =
-        ap node_in there ∙ sym (ap (λ (r : Replayed). r.node) (replay_is db (member w k) life site.node up replay))
+        ap node_in there ∙ sym (ap (λ (r : Replayed). r.node) (replay_is db (member w k) life site.node up is.replay))
         ∙ ap (λ (m : Member). (replayed db m life.opened life.items).node) (same_member w k same)
+
+    asked_is : asked_at (site_of w k) ≡ asked_in [] life.items
+    asked_is = ap asked_at there ∙ is.asked up
 
     next_of : IsHere → IsNext
     next_of own =
-        subst (λ (node : Node). IsItemOf d (member start k) node item) node_is
-        (subst (λ (m : Member). IsItemOf d m (node_in (site_of w k)) item) (same_member w k same) own)
+        subst (λ (ids : List ℕ). IsOwnItem d (member start k) (replayed db (member start k) life.opened life.items).node ids item) asked_is
+        (subst (λ (node : Node). IsOwnItem d (member start k) node (asked_at (site_of w k)) item) node_is
+        (subst (λ (m : Member). IsOwnItem d m (node_in (site_of w k)) (asked_at (site_of w k)) item) (same_member w k same) own))
 
     here_of : IsNext → IsHere
     here_of own =
-        subst (λ (m : Member). IsItemOf d m (node_in (site_of w k)) item) (sym (same_member w k same))
-        (subst (λ (node : Node). IsItemOf d (member start k) node item) (sym node_is) own)
+        subst (λ (m : Member). IsOwnItem d m (node_in (site_of w k)) (asked_at (site_of w k)) item) (sym (same_member w k same))
+        (subst (λ (node : Node). IsOwnItem d (member start k) node (asked_at (site_of w k)) item) (sym node_is)
+        (subst (λ (ids : List ℕ). IsOwnItem d (member start k) (replayed db (member start k) life.opened life.items).node ids item) (sym asked_is)
+        own))
+
+  -- one item more in a journal
+  journal_more : (k : ℕ) (life : Life) (item : JournalItem) (seen : List Happening) → Journal k life
+      → IsOwnItem d (member start k) (replayed db (member start k) life.opened life.items).node (asked_in [] life.items) item
+      → Journal k (life_with life item seen)
+  journal_more k life item seen journal own = record {
+    each = items_more d (member start k) life.opened life.items item journal.each own.item_of;
+    once = once_more [] life.items item journal.once own.new;
+  }
+
+  journal_last : (k : ℕ) (life : Life) (item : JournalItem) (seen : List Happening) → Journal k (life_with life item seen)
+      → IsOwnItem d (member start k) (replayed db (member start k) life.opened life.items).node (asked_in [] life.items) item
+  journal_last k life item seen journal = record {
+    item_of = items_last d (member start k) life.opened life.items item journal.each;
+    new = once_last [] life.items item journal.once;
+  }
+
+  journal_front : (k : ℕ) (life : Life) (item : JournalItem) (seen : List Happening) → Journal k (life_with life item seen) → Journal k life
+  journal_front k life item seen journal = record {
+    each = items_front d (member start k) life.opened life.items item journal.each;
+    once = once_front [] life.items item journal.once;
+  }
 
   -- an item that fits is the next one of its server's journal
-  journal_after : (w : World) (entry : ScheduleEntry) (lives : ℕ → Life) → w.hosts ≡ hosts → AllReplays db w lives → EntryFits d w entry
+  journal_after : (w : World) (entry : ScheduleEntry) (lives : ℕ → Life) → w.hosts ≡ hosts → AllLives db w lives → EntryFits d w entry
       → ((k : ℕ) → Journal k (lives k)) → (k : ℕ) → Journal k (lives_after w lives entry k)
   journal_after w (Tick server seconds) lives same all fits journals k = journals k
   journal_after w (Tick_all seconds) lives same all fits journals k = journals k
   journal_after w (Open server now found) lives same all fits journals k =
-      cond_both (server == k) (life_from (length w.hosts) found now) (lives k) (Journal k) (λ _. tt) (λ _. journals k)
+      cond_both (server == k) (life_from (length w.hosts) found now) (lives k) (Journal k) (λ _. record { each = tt; once = refl })
+      (λ _. journals k)
   journal_after w (Item server trigger item progress) lives same all fits journals k =
       let seen = seen_of db w (events_of w (Item server trigger item progress)) in
       cond_both (server == k) (life_with (lives k) item seen) (lives k) (Journal k)
@@ -285,11 +324,11 @@ module _ (d : Standing) (hosts : List Host) (clock : ℕ) (failed : List Bool)
       here_more : Journal server (life_with (lives server) item (seen_of db w (events_of w (Item server trigger item progress))))
       here_more =
           let site = some_site (ItemFits item) (site_of w server) fits.0.1 in
-          items_more d (member start server) (lives server).opened (lives server).items item (journals server)
-          (next_of w server item site.0 (lives server) same site.1 site.2.step.up (all server site.0 site.1) fits.1)
+          journal_more server (lives server) item (seen_of db w (events_of w (Item server trigger item progress))) (journals server)
+          (next_of w server item site.0 (lives server) same site.1 site.2.up (all server site.0 site.1) fits.1)
   journal_after w (Stop server trigger progress) lives same all fits journals k = journals k
 
-  pub schedule_journals : (w : World) (schedule : List ScheduleEntry) (lives : ℕ → Life) → Reached w → w.hosts ≡ hosts → AllReplays db w lives
+  pub schedule_journals : (w : World) (schedule : List ScheduleEntry) (lives : ℕ → Life) → Reached w → w.hosts ≡ hosts → AllLives db w lives
       → Fits d w schedule → ((k : ℕ) → Journal k (lives k)) → (k : ℕ) → Journal k (life_in db w k (lives k) schedule)
   schedule_journals w [] lives reached same all fits journals k = journals k
   schedule_journals w (entry ∷ schedule) lives reached same all fits journals k =
@@ -298,7 +337,7 @@ module _ (d : Standing) (hosts : List Host) (clock : ℕ) (failed : List Bool)
       (journal_after w entry lives same all fits.0 journals) k
 
   -- an item that the world allows is its server's own, where it is the next one of its journal
-  own_by : (w : World) (entry : ScheduleEntry) (lives : ℕ → Life) → w.hosts ≡ hosts → AllReplays db w lives → IsAllowed w entry
+  own_by : (w : World) (entry : ScheduleEntry) (lives : ℕ → Life) → w.hosts ≡ hosts → AllLives db w lives → IsAllowed w entry
       → ((k : ℕ) → Journal k (lives_after w lives entry k)) → IsOwn d w entry
   own_by w (Tick server seconds) lives same all allowed journals = tt
   own_by w (Tick_all seconds) lives same all allowed journals = tt
@@ -308,8 +347,8 @@ module _ (d : Standing) (hosts : List Host) (clock : ℕ) (failed : List Bool)
       let seen = seen_of db w (events_of w (Item server trigger item progress)) in
       let journal : Journal server (life_with (lives server) item seen) =
       subst (Journal server) (here server server (life_with (lives server) item seen) (lives server) refl) (journals server) in
-      here_of w server item site.0 (lives server) same site.1 site.2.step.up (all server site.0 site.1)
-      (items_last d (member start server) (lives server).opened (lives server).items item journal)
+      here_of w server item site.0 (lives server) same site.1 site.2.up (all server site.0 site.1)
+      (journal_last server (lives server) item seen journal)
   own_by w (Stop server trigger progress) lives same all allowed journals = tt
 
   -- what is so at the end of each life of server k
@@ -343,10 +382,10 @@ module _ (d : Standing) (hosts : List Host) (clock : ℕ) (failed : List Bool)
   within w k life (Item server trigger item progress ∷ schedule) ends =
       let entry = Item server trigger item progress in
       let more = life_with life item (seen_of db w (events_of w entry)) in
-      in_either k (server == k) more life (λ is later. items_front d (member start k) life.opened life.items item later)
+      in_either k (server == k) more life (λ is later. journal_front k life item (seen_of db w (events_of w entry)) later)
       (within (entered db w entry) k (cond (server == k) more life) schedule (behind w k life entry schedule ends))
 
-  pub schedule_fits : (w : World) (schedule : List ScheduleEntry) (lives : ℕ → Life) → Reached w → w.hosts ≡ hosts → AllReplays db w lives
+  pub schedule_fits : (w : World) (schedule : List ScheduleEntry) (lives : ℕ → Life) → Reached w → w.hosts ≡ hosts → AllLives db w lives
       → AllAllowed db w schedule → ((k : ℕ) → AtEnds w k (lives k) schedule) → Fits d w schedule
   schedule_fits w [] lives reached same all allowed ends = tt
   schedule_fits w (entry ∷ schedule) lives reached same all allowed ends =

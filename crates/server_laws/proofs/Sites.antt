@@ -62,17 +62,17 @@ site_either (y ∷ sites) (suc k) (suc j) site z is = later (site_either sites k
 
 -- the servers after a tick are those before it
 abbrev pub SameNodes : List Site → List Site → Type 0
-SameNodes sites later = (j : ℕ) (z : Site) → slice_get later j ≡ Some z → (y : Site) × (slice_get sites j ≡ Some y) × (z.node ≡ y.node)
+SameNodes sites later = (j : ℕ) (z : Site) → slice_get later j ≡ Some z → (y : Site) × (slice_get sites j ≡ Some y) × (z.node ≡ y.node) × (z.asked ≡ y.asked)
 
 later_ticked : (sites : List Site) (j : ℕ) (y z : Site) (seconds : ℕ) → slice_get sites j ≡ Some y → ticked seconds y ≡ z →
-    (y : Site) × (slice_get sites j ≡ Some y) × (z.node ≡ y.node)
-later_ticked sites j y z seconds get same = (y, get, ap (λ (s : Site). s.node) (sym same))
+    (y : Site) × (slice_get sites j ≡ Some y) × (z.node ≡ y.node) × (z.asked ≡ y.asked)
+later_ticked sites j y z seconds get same = (y, get, ap (λ (s : Site). s.node) (sym same), ap (λ (s : Site). s.asked) (sym same))
 
 pub ticked_one : (sites : List Site) (k seconds : ℕ) → SameNodes sites (tick_at sites k seconds)
 ticked_one [] k seconds j z is = absurd (cc)
 ticked_one (y ∷ sites) zero seconds zero z is = later_ticked (y ∷ sites) 0 y z seconds refl (cc)
-ticked_one (y ∷ sites) zero seconds (suc j) z is = (z, is, refl)
-ticked_one (y ∷ sites) (suc k) seconds zero z is = (z, is, refl)
+ticked_one (y ∷ sites) zero seconds (suc j) z is = (z, is, refl, refl)
+ticked_one (y ∷ sites) (suc k) seconds zero z is = (z, is, refl, refl)
 ticked_one (y ∷ sites) (suc k) seconds (suc j) z is = ticked_one sites k seconds j z is
 
 pub ticked_each : (sites : List Site) (seconds : ℕ) → SameNodes sites (map (ticked seconds) sites)

@@ -1,12 +1,10 @@
 -- What the items of a fitting schedule tell of evaluations may be left out.
-use Rattle.std.proofs.Common.{Bool, true, false, cond, ◌≡◌, ℕ, List, [], ◌∷◌, ◌++◌, map, refl, sym, ap, subst, ◌∙◌}
+use Rattle.std.proofs.Common.{cond, ◌≡◌, ℕ, List, [], ◌∷◌, ◌++◌, map, refl, sym, ap, subst, ◌∙◌}
 use Rattle.std.specs.Prelude.{Option, Some, None, IsSomeAnd}
-use Rattle.ubik_types.specs.declared.hosts.Host.{Host}
 use Rattle.db_image.specs.Database.{Database}
 use Rattle.db_image.specs.Standing.{Standing}
-use Rattle.cell_model.specs.declared.events.NodeEvent.{NodeEvent}
 use Rattle.cell_model.specs.Node.{Node, Down, Halted, Up, halted_from}
-use Rattle.cell_model.specs.Step.{Member, Stepped}
+use Rattle.cell_model.specs.Step.{Stepped}
 use Rattle.cell_model.specs.World.{World, Site, Trigger, Event, member, site_of, world_after}
 use Rattle.journal_model.specs.Items.{JournalItem, bits, shorts_of}
 use Rattle.journal_model.specs.Replay.{IsItemOf, Replayed, StaysHalted, item_replayed, made, refused}
@@ -54,7 +52,7 @@ allowed_untold w (Tick_all seconds) allowed = allowed
 allowed_untold w (Open server now found) allowed = allowed
 allowed_untold w (Item server trigger item progress) allowed = (
   allowed.0,
-  some_map (ItemFits item) (ItemFits (item_untold item)) (λ site fits. record { step = fits.step; moment = fits.moment }) (site_of w server) allowed.1,
+  some_map (ItemFits item) (ItemFits (item_untold item)) (λ site fits. record { up = fits.up; moment = fits.moment }) (site_of w server) allowed.1,
 )
 allowed_untold w (Stop server trigger progress) allowed = allowed
 
@@ -84,12 +82,15 @@ own_untold d w (Item server trigger item progress) meant fits =
     let site = some_site (ItemFits item) (site_of w server) fits.0.1 in
     let at : site.0.node ≡ node_in (site_of w server) = sym (ap node_in site.1) in
     let own : IsItemOf d (member w server) site.0.node item =
-    subst (λ (node : Node). IsItemOf d (member w server) node item) (sym at) fits.1 in
+    subst (λ (node : Node). IsItemOf d (member w server) node item) (sym at) fits.1.item_of in
     let same = replayed_same d w server site.0 item meant site.1 own (node_in (site_of w server)) at in
     record {
-      halted = stays_untold (node_in (site_of w server)) item fits.1.halted;
-      short = fits.1.short ∙ ap (λ (r : Replayed). bits (shorts_of r.outputs)) (sym same);
-      may = tt;
+      item_of = record {
+        halted = stays_untold (node_in (site_of w server)) item fits.1.item_of.halted;
+        short = fits.1.item_of.short ∙ ap (λ (r : Replayed). bits (shorts_of r.outputs)) (sym same);
+        may = tt;
+      };
+      new = fits.1.new;
     }
 own_untold d w (Stop server trigger progress) meant fits = tt
 

@@ -48,11 +48,11 @@ pub record MakesAWorld (d : Standing) (hosts : List Host) (clock : ℕ) (failed 
   -- each front of it fits
   pub fronts : (front rest : List ScheduleEntry) → Fits d (first_world hosts clock failed) (front ++ rest) →
       Fits d (first_world hosts clock failed) front
-  -- After it the items of each server since it was last opened are each one that may come behind those before it.
+  -- After it each server has a journal, of the items since it was last opened.
   pub journals : (schedule : List ScheduleEntry) → Fits d (first_world hosts clock failed) schedule →
       (k : ℕ) → HasJournal d (member (first_world hosts clock failed) k) (life_of d.database hosts clock failed schedule k)
-  -- And where they are so at the end of each life of each server, what the world allows fits: so this is all that is asked of the servers
-  -- themselves, each by itself.
+  -- And where each has one at the end of each of its lives, what the world allows fits: so this is all that is asked of the servers, of each
+  -- by itself.
   pub fits : (schedule : List ScheduleEntry) → AllAllowed d.database (first_world hosts clock failed) schedule →
       ((front rest : List ScheduleEntry) → schedule ≡ front ++ rest → (k : ℕ) → ends_life k rest ≡ true →
       HasJournal d (member (first_world hosts clock failed) k) (life_of d.database hosts clock failed front k)) →

@@ -8,7 +8,7 @@ use Rattle.ubik_types.specs.declared.hosts.Host.{Host}
 use Rattle.db_image.specs.Database.{Database}
 use Rattle.db_image.specs.Standing.{Standing}
 use Rattle.cell_model.specs.Book.{Run, entered, first_run, run_after, run_through}
-use Rattle.cell_model.specs.World.{World, Site, Trigger, Event, Happened, IsFirst, IsRun, first_world, happens, member, seen_of, site_of, world_after}
+use Rattle.cell_model.specs.World.{World, Site, Trigger, Event, Happened, IsFirst, IsRun, asked_after, first_world, happens, member, seen_of, site_of, world_after}
 use Rattle.cell_model.specs.World as world
 use Rattle.cell_pages.specs.Laws.{run_of}
 use Rattle.cell_orders.specs.Laws.{RepliesAreGiven}
@@ -90,8 +90,9 @@ module _ (given : RepliesAreGiven) (d : Standing) (hosts : List Host) (clock : �
     item_at : IsReached r → EntryFits d r.world (Item server trigger item progress) → AllAt server (happens db r.world event_of_item).seen
     item_at reached fits =
         let site = some_site (ItemFits item) (site_of r.world server) fits.0.1 in
-        let c : Comes db r.world server event_of_item (item_replayed db (member r.world server) (node_in (site_of r.world server)) item) =
-        item_fit_comes d r.world server trigger item progress site.0 (meant_at r reached) site.1 fits.0.0 site.2 fits.1.may in
+        let c : Comes db r.world server event_of_item (item_replayed db (member r.world server) (node_in (site_of r.world server)) item)
+        (asked_after site.0.asked item.event) =
+        item_fit_comes d r.world server trigger item progress site.0 (meant_at r reached) site.1 fits.0.0 site.2 fits.1 in
         subst (λ (h : Happened). AllAt server h.seen) (sym c.is)
         (all_at server (length r.world.packets + 1) c.happened.shown c.happened.marks c.silent)
 
