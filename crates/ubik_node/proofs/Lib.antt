@@ -15,6 +15,7 @@ pub mod Fronts
 pub mod Gapless
 pub mod HeldImages
 pub mod Images
+pub mod Keeping
 pub mod Lapsed
 pub mod Least
 pub mod Lending

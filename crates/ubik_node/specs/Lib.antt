@@ -9,6 +9,7 @@ pub mod Faults
 pub mod Lone
 pub mod Node
 pub mod Serving
+pub mod States
 pub mod StoreImages
 pub mod Stored
 pub mod Taking

@@ -19,13 +19,13 @@ use Rattle.cell_model.specs.Lapse.{lapsed}
 use Rattle.cell_model.specs.Node as model
 use Rattle.cell_model.specs.NodeRule.{step_by, step_of, refusals}
 use Rattle.cell_model.specs.Step.{Member, Stepped, cell_size, outputs_of}
-use Rattle.cell_model.specs.Writes.{announced_image}
 use Rattle.ubik_node.specs.declared.nodes.Node.{Node}
 use Rattle.ubik_node.specs.declared.nodes.StepEnd.{StepEnd}
 use Rattle.ubik_node.specs.declared.nodes.StepEnd.TheVariants.{Done, Halted, NoMemory}
 use Rattle.ubik_node.specs.Choices.{Choices, dbs_of}
 use Rattle.ubik_node.specs.Disk.{FailsIn, Serves}
 use Rattle.ubik_node.specs.Evaluation.{is_evaluated}
+use Rattle.ubik_node.specs.States.{HasStates, TakesStates}
 use Rattle.ubik_node.specs.Stored.{IsStoredAs}
 use Rattle.server_state.specs.State.{server_of, member_of}
 
@@ -90,8 +90,13 @@ Steps g db m end event now before after outputs old new =
 
 -- the image stands for a state of the database, and so does the one before the write in flight
 abbrev pub HoldsStates : Standing → model.Node → Type 0
-HoldsStates d (model.Up s) = ((x : d.State) × d.StandsFor s.image x) × ((y : d.State) × d.StandsFor (announced_image s) y)
+HoldsStates d (model.Up s) = HasStates d s
 HoldsStates d _ = Unit {0}
+
+-- what a step takes over from another server leads to an image that stands for a state
+abbrev pub BringsStates : Standing → Member → model.Node → NodeEvent → ℕ → Type 0
+BringsStates d m (model.Up s) event now = TakesStates d m s event now
+BringsStates d m _ event now = Unit {0}
 
 -- a packet that may be answered from the image, or changes it, needs a disk that tells its files
 abbrev pub NeedsFiles : Body → (tells : Type 0) → Type 0

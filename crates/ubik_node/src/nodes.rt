@@ -74,7 +74,7 @@ impl<D: Disk, V: DraftService> Node<D, V> {
     ghost use Rattle.ubik_node.specs.Disk.{StandsAs};
     ghost use Rattle.server_state.specs.Lapsing.{IsDroppedOf, returned};
     ghost use Rattle.ubik_node.specs.Choices.{dbs_of};
-    ghost use Rattle.ubik_node.specs.Node.{Calls, Closes, EndsSo, held, HoldsStates, Needs, NeedsFiles, NeedsThen, Steps, StepsFreely, last_after, node_of, own_member, up_server};
+    ghost use Rattle.ubik_node.specs.Node.{BringsStates, Calls, Closes, EndsSo, held, HoldsStates, Needs, NeedsFiles, NeedsThen, Steps, StepsFreely, last_after, node_of, own_member, up_server};
 
     /// Opens a server over its disk, on which nothing is pending, at a moment in seconds: the server at a place of the cell. An
     /// empty disk is an empty database of version 0.0. A refusal is that of the store, and hands the disk back as the store left it.
@@ -142,6 +142,9 @@ impl<D: Disk, V: DraftService> Node<D, V> {
             → HoldsStates V.standing (node_of self.old)
             → Steps D.Disk V.standing.database (own_member self.old) result event now (node_of self.old) (node_of self.new) out.new
             self.old.store.disk self.new.store.disk }
+        ensures keeps { Needs V.standing.database (own_member self.old) (node_of self.old) event now (D.files self.old.store.disk)
+            → BringsStates V.standing (own_member self.old) (node_of self.old) event now
+            → HoldsStates V.standing (node_of self.old) → HoldsStates V.standing (node_of self.new) }
         ensures member { own_member self.new ≡ own_member self.old }
         ensures memory { TakesNoMemory event → result ≢ StepEnd.NoMemory }
         ensures halts { (result ≡ StepEnd.Halted) ↔ (self.new.store.failed ≡ true) }
@@ -165,6 +168,9 @@ impl<D: Disk, V: DraftService> Node<D, V> {
             → HoldsStates V.standing (node_of self.old)
             → Steps D.Disk V.standing.database (own_member self.old) result event.now now (node_of self.old) (node_of self.new) out.new
             self.old.store.disk self.new.store.disk }
+        ensures keeps { Needs V.standing.database (own_member self.old) (node_of self.old) event.now now (D.files self.old.store.disk)
+            → BringsStates V.standing (own_member self.old) (node_of self.old) event.now now
+            → HoldsStates V.standing (node_of self.old) → HoldsStates V.standing (node_of self.new) }
         ensures member { own_member self.new ≡ own_member self.old }
         ensures memory { TakesNoMemory event.now → result ≢ StepEnd.NoMemory }
         ensures halts { (result ≡ StepEnd.Halted) ↔ (self.new.store.failed ≡ true) }
@@ -280,6 +286,9 @@ impl<D: Disk, V: DraftService> Node<D, V> {
             → HoldsStates V.standing (node_of self.old)
             → Steps D.Disk V.standing.database (own_member self.old) result event.now now (node_of self.old) (node_of self.new) out.new
             self.old.store.disk self.new.store.disk }
+        ensures keeps { Needs V.standing.database (own_member self.old) (node_of self.old) event.now now (D.files self.old.store.disk)
+            → BringsStates V.standing (own_member self.old) (node_of self.old) event.now now
+            → HoldsStates V.standing (node_of self.old) → HoldsStates V.standing (node_of self.new) }
         ensures member { own_member self.new ≡ own_member self.old }
         ensures memory { TakesNoMemory event.now → result ≢ StepEnd.NoMemory }
         ensures halts { (result ≡ StepEnd.Halted) ↔ (self.new.store.failed ≡ true) }

@@ -9,13 +9,13 @@ use Rattle.cell_model.specs.NodeRule.{handled}
 use Rattle.cell_model.specs.Step.{Member, Stepped, outputs_of}
 use Rattle.server_state.specs.Lapsing.{returned}
 use Rattle.ubik_node.specs.Choices.{dbs_of}
-use Rattle.ubik_node.specs.Node.{Needs, StepsFreely, durable_in, held, node_of}
+use Rattle.ubik_node.specs.Node.{HoldsStates, Needs, StepsFreely, durable_in, held, node_of}
 use Rattle.server_state.specs.State.{member_of, server_of}
 use Rattle.ubik_node.proofs.Closing.{closed, closed_memory, closed_step, err_map}
 use Rattle.ubik_node.proofs.Endings.{behind_ends}
 use Rattle.ubik_node.proofs.Lapsed.{needs_lapsed}
 use Rattle.ubik_node.proofs.Rested.{back_keeps, back_same, short_behind, step_comes}
-use Rattle.ubik_node.proofs.Stepping.{steps_at, steps_meant, up_if}
+use Rattle.ubik_node.proofs.Stepping.{steps_at, steps_keep, steps_meant, up_if}
 use Rattle.ubik_node.proofs.nodes.Node.step_up.Goals as goal
 
 pub returns : goal.returns
@@ -51,9 +51,12 @@ returns g c =
     (λ failed. back_keeps c.lapse-given.result later.state mid (ends.keeps failed) ∙ sym (ap model.halted_from c.lapse-given.ensures.back)) c.end.ensures) in
     let keeps : KeepsStates d = λ image s now call stands.
     ((d.meaning.call s now call).state, (g.met.V.DraftService.is_meant image s now call stands).stands) in
+    let meant = λ (needs : Needs d.database (member_of st) (node_of n) e now (g.D.Disk.files n.store.disk)) (holds : HoldsStates d (node_of n)).
+    steps_meant g.D.Disk d keeps (member_of st) c.end.result e now (node_of n) (node_of c.end.new.self) c.end.new.out n.store.disk c.end.new.self.store.disk holds (step needs) in
     record {
       step = step;
-      meant = λ needs holds. steps_meant g.D.Disk d keeps (member_of st) c.end.result e now (node_of n) (node_of c.end.new.self) c.end.new.out n.store.disk c.end.new.self.store.disk holds (step needs);
+      meant = meant;
+      keeps = λ needs brings holds. steps_keep g.D.Disk d keeps (member_of st) c.end.result e now (node_of n) (node_of c.end.new.self) c.end.new.out n.store.disk c.end.new.self.store.disk holds brings (meant needs holds);
       member = so.member ∙ kept.member;
       memory = λ none. closed_memory e (held later) (held c.end.new.self) c.handle-end.new.out c.end.new.out back c.end.result c.handle-end.result (c.handle-end.ensures.memory none) c.end.ensures;
       halts = so.halts;
