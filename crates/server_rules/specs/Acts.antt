@@ -91,12 +91,14 @@ CanAct st (act.EndText end source at bytes) =
 CanAct st (act.Relabel next new) = MayTake st new × IsOfCell (length st.cell) next
 CanAct st act.Settle = Unit {0}
 
--- what an act needs of the disk: 1, that it tells its files where there is another server; 2, that it tells them
+-- what an act needs of the disk: 1, that it tells its files where there is another server; 2, that it tells them; 3, that too, and calls that
+-- wait may have their turns
 abbrev pub act_need : Act → ℕ
 act_need act.Rest = 0
 act_need (act.Send host b) = 0
 act_need (act.TakeVersion host new) = 0
 act_need (act.Relabel next new) = 1
+act_need act.Settle = 3
 act_need _ = 2
 
 -- behind so many outputs there is room for what it puts out

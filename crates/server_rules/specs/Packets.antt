@@ -35,6 +35,8 @@ body_need (body.SetVersion poll old new) = 0
 body_need (body.Begin old new pieces len) = 0
 body_need (body.PutPiece new number bytes) = 0
 body_need (body.Abort new) = 0
+body_need (body.VersionIs poll version) = 3
+body_need (body.VersionKept version) = 3
 body_need _ = 2
 
 -- a step with a packet that says this never ends for want of memory

@@ -36,6 +36,7 @@ pub fn packet_heard<'a>(
         ≡ stepped_by dbs (member_of state.new) now short (server_of state.new) act) }
     ensures leaves { IfOk result (Leaves state.old state.new) }
     ensures need { IfOk result (λ act. act_need act ≤ body_need packet.now) }
+    ensures line { IfOk result (λ act. 2 < act_need act → (server_of state.new).waiting ≡ (server_of state.old).waiting) }
     ensures memory { BodyTakesNoMemory packet.now → IsOk result × IfOk result (λ act. ¬ MayEndShort act) }
     ensures err { OnErr result (state.new ≡ state.old) }
 {
@@ -91,6 +92,7 @@ fn small_heard(
         ≡ stepped_by dbs (member_of state.new) now short (server_of state.new) act) }
     ensures leaves { IfOk result (Leaves state.old state.new) }
     ensures need { IfOk result (λ act. act_need act ≤ body_need packet.now) }
+    ensures line { IfOk result (λ act. 2 < act_need act → (server_of state.new).waiting ≡ (server_of state.old).waiting) }
     ensures memory { BodyTakesNoMemory packet.now → IsOk result × IfOk result (λ act. ¬ MayEndShort act) }
     ensures err { OnErr result (state.new ≡ state.old) }
 {
@@ -139,6 +141,7 @@ fn write_heard(
         ≡ stepped_by dbs (member_of state.new) now short (server_of state.new) act) }
     ensures leaves { IfOk result (Leaves state.old state.new) }
     ensures need { IfOk result (λ act. act_need act ≤ body_need packet.now) }
+    ensures line { IfOk result (λ act. 2 < act_need act → (server_of state.new).waiting ≡ (server_of state.old).waiting) }
     ensures memory { BodyTakesNoMemory packet.now → IsOk result × IfOk result (λ act. ¬ MayEndShort act) }
     ensures err { OnErr result (state.new ≡ state.old) }
 {

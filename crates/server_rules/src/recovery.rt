@@ -201,6 +201,7 @@ pub fn version_told(
         ≡ stepped_by dbs (member_of state.new) now short (server_of state.new) result }
     ensures leaves { Leaves state.old state.new result }
     ensures need { act_need result ≤ 3 }
+    ensures line { 2 < act_need result → (server_of state.new).waiting ≡ (server_of state.old).waiting }
 {
     match state.recovery.phase() {
         Phase::Poll if poll == state.recovery.poll() => {
@@ -233,6 +234,7 @@ fn version_spread(
         ≡ stepped_by dbs (member_of state.new) now short (server_of state.new) result }
     ensures leaves { Leaves state.old state.new result }
     ensures need { act_need result ≤ 3 }
+    ensures line { 2 < act_need result → (server_of state.new).waiting ≡ (server_of state.old).waiting }
 {
     if poll != state.recovery.poll() {
         return Act::Rest;
@@ -282,6 +284,7 @@ pub fn version_kept(state: &mut State, from: usize, version: Version) -> Act<'st
         ≡ stepped_by dbs (member_of state.new) now short (server_of state.new) result }
     ensures leaves { Leaves state.old state.new result }
     ensures need { act_need result ≤ 3 }
+    ensures line { 2 < act_need result → (server_of state.new).waiting ≡ (server_of state.old).waiting }
     ensures memory { ¬ MayEndShort result }
 {
     if !state.is_spreading() || version != state.version {
