@@ -7,6 +7,7 @@ use Rattle.cell_model.specs.Lapse.{lapsed}
 use Rattle.cell_model.specs.Node.{Server}
 use Rattle.cell_model.specs.Node as model
 use Rattle.cell_model.specs.Step.{Member}
+use Rattle.ubik_node.specs.Alike.{NeedsTurn, NeedsTurnThen}
 use Rattle.ubik_node.specs.Node.{Needs, NeedsThen}
 
 -- what a step needs is there for the event after the lapse
@@ -14,3 +15,9 @@ pub needs_lapsed : (db : Database) (m at : Member) (s mid : Server) (e : NodeEve
     → Needs db m (model.Up s) e now files → NeedsThen db at mid e now files
 needs_lapsed db m at s mid e now files after place needs =
     subst (λ (k : Member). NeedsThen db k mid e now files) (sym place) (subst (λ (x : Server). NeedsThen db m x e now files) after needs)
+
+-- so what its turns need
+pub turn_lapsed : (db : Database) (m at : Member) (s mid : Server) (e : NodeEvent) (now : ℕ) (files : Option Files) → (lapsed m s now).server ≡ mid → at ≡ m
+    → NeedsTurn db m (model.Up s) e now files → NeedsTurnThen db at mid e now files
+turn_lapsed db m at s mid e now files after place needs =
+    subst (λ (k : Member). NeedsTurnThen db k mid e now files) (sym place) (subst (λ (x : Server). NeedsTurnThen db m x e now files) after needs)

@@ -1,4 +1,5 @@
 pub mod AfterReads
+pub mod Alike
 pub mod Alone
 pub mod Begun
 pub mod Calling

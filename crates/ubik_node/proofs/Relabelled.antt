@@ -21,7 +21,7 @@ use Rattle.server_rules.proofs.Turns.{sends_same}
 use Rattle.server_state.specs.declared.spreading.Given.{Given}
 use Rattle.server_state.specs.Spreading.{given_bodies}
 
-alone_sends : (m : Member) (a : ℕ → List Body) → length m.hosts ≤ 1 → m.me < length m.hosts → sends_to_each m a ≡ []
+pub alone_sends : (m : Member) (a : ℕ → List Body) → length m.hosts ≤ 1 → m.me < length m.hosts → sends_to_each m a ≡ []
 alone_sends m a one inside = by m.hosts m.me one inside
   where
     by : (hosts : List Host) (me : ℕ) → length hosts ≤ 1 → me < length hosts → sends_from (record { hosts = hosts; me = me }) 0 hosts a ≡ []

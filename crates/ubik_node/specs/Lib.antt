@@ -1,4 +1,5 @@
 pub mod Acts
+pub mod Alike
 pub mod Built
 pub mod Choices
 pub mod Database

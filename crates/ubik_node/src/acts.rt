@@ -1,5 +1,5 @@
 //! What is left of a rule after its decision: the disk is read or changed, and packets go out. Here alone an act is performed.
-ghost use Rattle.std.specs.Prelude.{◌≡◌, ◌≤◌, ◌<◌, ◌⊎◌, if◌then◌else◌, length, false, IsErrOf, IsOk, IsSome};
+ghost use Rattle.std.specs.Prelude.{◌≡◌, ◌≤◌, ◌<◌, ◌⊎◌, if◌then◌else◌, length, false, IsErrOf, IsOk, IsSome, OnOk};
 ghost use Rattle.ubik_types.specs.Moment.{IsMoment};
 ghost use Rattle.cell_model.specs.NodeRule.{received_from};
 ghost use Rattle.cell_model.specs.Recovery.{recovery_turn};
@@ -21,6 +21,7 @@ use ubik_store::StoreFault;
 use ubik_types::{Bytes, Host};
 
 impl<D: Disk, V: DraftService> Node<D, V> {
+    ghost use Rattle.ubik_node.specs.Alike.{ActNeedsTurn, AlikeSo, IsAlike, NeedsHolder, free_dbs};
     ghost use Rattle.ubik_node.specs.Node.{Ends, EndsSo, held, Knows, NeedsFiles, own_member, up_server};
 
     /// A packet of a server of the cell: what is to be done is decided, and then done.
@@ -40,6 +41,9 @@ impl<D: Disk, V: DraftService> Node<D, V> {
         ensures ends { EndsSo D.Disk V.standing (NeedsFiles packet.now (IsSome (D.files self.old.store.disk)))
             (λ o. received_from (dbs_of o) (own_member self.old) (up_server self.old) now host from packet.now o.short)
             out.old out.new (held self.old) (held self.new) result }
+        ensures alike { NeedsHolder packet.now (up_server self.old).waiting (IsSome (D.files self.old.store.disk)) → OnOk result (AlikeSo
+            (λ free. received_from (free_dbs V.standing.database free) (own_member self.old) (up_server self.old) now host from packet.now free.short)
+            (up_server self.new) out.old out.new) }
         ensures memory { BodyTakesNoMemory packet.now → IsErrOf result StoreFault.DiskFault ⊎ IsOk result }
     {
         let act = packet_heard(&mut self.state, self.alloc, now, from, host, packet)?;
@@ -51,8 +55,9 @@ impl<D: Disk, V: DraftService> Node<D, V> {
         requires moment { IsMoment now }
         requires not_halted { self.old.store.failed ≡ false }
         requires few { length out.old ≤ 100 }
-        ensures { EndsSo D.Disk V.standing (Knows D.Disk self.old) (λ _. recovery_turn (own_member self.old) (up_server self.old) now)
+        ensures ends { EndsSo D.Disk V.standing (Knows D.Disk self.old) (λ _. recovery_turn (own_member self.old) (up_server self.old) now)
             out.old out.new (held self.old) (held self.new) result }
+        ensures alike { OnOk result (IsAlike (recovery_turn (own_member self.old) (up_server self.old) now) (up_server self.new) out.old out.new) }
     {
         let act = recovery_turn(&mut self.state, self.alloc, now, out)?;
         self.perform(now, act, out)
@@ -72,6 +77,9 @@ impl<D: Disk, V: DraftService> Node<D, V> {
         ensures ends { EndsSo D.Disk V.standing (ActNeeds act.entry (Knows D.Disk self.old) (IsSome (D.files self.old.store.disk)))
             (λ o. stepped_by (dbs_of o) (own_member self.old) now o.short (up_server self.old) act.entry)
             out.old out.new (held self.old) (held self.new) result }
+        ensures alike { ActNeedsTurn act.entry (up_server self.old).waiting (IsSome (D.files self.old.store.disk)) → OnOk result (AlikeSo
+            (λ free. stepped_by (free_dbs V.standing.database free) (own_member self.old) now free.short (up_server self.old) act.entry)
+            (up_server self.new) out.old out.new) }
         ensures memory { ¬ MayEndShort act.entry → IsErrOf result StoreFault.DiskFault ⊎ IsOk result }
         ensures fine { ¬ MayFail act.entry → IsOk result }
     {
@@ -112,9 +120,12 @@ impl<D: Disk, V: DraftService> Node<D, V> {
         requires not_halted { self.old.store.failed ≡ false }
         requires few { length out.old ≤ 100 }
         requires within { at ≤ length self.old.state.image }
-        ensures { Ends D.Disk (IsSome (D.files self.old.store.disk))
+        ensures ends { Ends D.Disk (IsSome (D.files self.old.store.disk))
             (showing (up_server self.old) (sends_to (own_member self.old) to (own_piece (up_server self.old) poll at asked)))
             out.old out.new (held self.old) (held self.new) result }
+        ensures alike { OnOk result (IsAlike
+            (showing (up_server self.old) (sends_to (own_member self.old) to (own_piece (up_server self.old) poll at asked)))
+            (up_server self.new) out.old out.new) }
     {
         let bytes = read_piece(self.alloc, &mut self.store, at)?;
         let piece = piece_of(&self.state, poll, at, asked, bytes);

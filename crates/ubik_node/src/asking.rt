@@ -1,5 +1,5 @@
 //! Calls that a server is asked: they are read, written, put into the line of those that wait, or refused.
-ghost use Rattle.std.specs.Prelude.{◌≡◌, ◌<◌, ◌≤◌, ◌+◌, ◌++◌, ◌∷◌, ◌⊎◌, ◌↔◌, ℕ, List, None, [], false, true, length, take, IfOk, IsErrOf, IsOk, IsSome, OnErr, OnOk};
+ghost use Rattle.std.specs.Prelude.{◌≡◌, ◌<◌, ◌≤◌, ◌+◌, ◌++◌, ◌∷◌, ◌⊎◌, ◌↔◌, ℕ, List, None, Some, [], false, true, length, take, IfOk, IsErrOf, IsOk, IsSome, OnErr, OnOk};
 ghost use Rattle.ubik_types.specs.declared.versions.TheConstants.{MAX_COUNTER};
 ghost use Rattle.ubik_types.specs.Logged.{too_large};
 ghost use Rattle.cell_model.specs.declared.events.Output.TheVariants as outputs;
@@ -27,6 +27,7 @@ impl<D: Disk, V: DraftService> Node<D, V> {
     ghost use Rattle.cell_model.specs.Asks.{asked};
     ghost use Rattle.cell_model.specs.Step.{is_short};
     ghost use Rattle.cell_model.specs.Writes.{announced_image, is_free, next_version, write_turn, written_in};
+    ghost use Rattle.ubik_node.specs.Alike.{AlikeSo, ReadsAlike, free_dbs};
     ghost use Rattle.ubik_node.specs.Choices.{dbs_of};
     ghost use Rattle.ubik_node.specs.Node.{Ends, EndsSo, held, own_member, up_server};
     ghost use Rattle.ubik_node.specs.Serving.{IsRepliedTo, ReadsFrom};
@@ -46,6 +47,11 @@ impl<D: Disk, V: DraftService> Node<D, V> {
             (is_evaluated (own_member self.old) (up_server self.old) now (V.standing.database.writes call.now) ≡ true → IsSome (D.files self.old.store.disk))
             (λ o. asked (dbs_of o 0) (own_member self.old) (up_server self.old) now id call.now (is_short o.short))
             out.old out.new (held self.old) (held self.new) result }
+        ensures alike { (V.standing.database.writes call.now ≡ Some true
+            → is_evaluated (own_member self.old) (up_server self.old) now (V.standing.database.writes call.now) ≡ true
+            → IsSome (D.files self.old.store.disk)) → OnOk result (AlikeSo
+            (λ free. asked (free_dbs V.standing.database free 0) (own_member self.old) (up_server self.old) now id call.now (is_short free.short))
+            (up_server self.new) out.old out.new) }
         ensures memory { IsErrOf result StoreFault.DiskFault ⊎ IsOk result }
     {
         let Some(writes) = V::writes(call) else {
@@ -72,6 +78,7 @@ impl<D: Disk, V: DraftService> Node<D, V> {
         requires not_halted { self.old.store.failed ≡ false }
         requires few { length out.old ≤ 100 }
         ensures ends { ReadsFrom D.Disk V.standing (held self.old) (held self.new) (announced_image (up_server self.old)) now id call.now out.old out.new result }
+        ensures alike { OnOk result (ReadsAlike V.standing.database (up_server self.old) now id call.now (up_server self.new) out.old out.new) }
         ensures memory { IsErrOf result StoreFault.DiskFault ⊎ IsOk result }
     {
         let Some(write) = self.state.in_flight() else {
@@ -92,6 +99,7 @@ impl<D: Disk, V: DraftService> Node<D, V> {
         requires not_halted { self.old.store.failed ≡ false }
         requires few { length out.old ≤ 100 }
         ensures ends { ReadsFrom D.Disk V.standing (held self.old) (held self.new) self.old.state.image now id call.now out.old out.new result }
+        ensures alike { OnOk result (ReadsAlike V.standing.database (up_server self.old) now id call.now (up_server self.new) out.old out.new) }
         ensures memory { IsErrOf result StoreFault.DiskFault ⊎ IsOk result }
     {
         let made = evaluate::<D, V>(self.alloc, &mut self.store, now, call);

@@ -1,5 +1,5 @@
 //! A server of a cell, one step at a time.
-ghost use Rattle.std.specs.Prelude.{◌≡◌, IsErrOf, ◌⊎◌, ◌≢◌, ◌↔◌, IsTrue, ◌+◌, ◌<◌, ◌≤◌, ◌^◌, ℕ, [], length, Ok, Err, IfOk, IfErr, IfSome, IsOk, IsSome, MatchResult, None, true, false};
+ghost use Rattle.std.specs.Prelude.{◌≡◌, IsErrOf, ◌⊎◌, ◌≢◌, ◌↔◌, IsTrue, ◌+◌, ◌<◌, ◌≤◌, ◌^◌, ℕ, [], length, Ok, Err, IfOk, IfErr, IfSome, IsOk, IsSome, MatchResult, OnOk, None, true, false};
 ghost use Rattle.ubik_types.specs.declared.hosts.Host.{Host};
 ghost use Rattle.ubik_types.specs.Moment.{IsMoment};
 ghost use Rattle.disk_base.specs.Crash.{IsSettled};
@@ -73,6 +73,7 @@ impl<D: Disk, V: DraftService> Node<D, V> {
     ghost use Rattle.cell_model.specs.Durable.{Durable};
     ghost use Rattle.ubik_node.specs.Disk.{StandsAs};
     ghost use Rattle.server_state.specs.Lapsing.{IsDroppedOf, returned};
+    ghost use Rattle.ubik_node.specs.Alike.{AlikeSo, NeedsHolder, NeedsTurn, NeedsTurnThen, StepsAlike, free_dbs};
     ghost use Rattle.ubik_node.specs.Choices.{dbs_of};
     ghost use Rattle.ubik_node.specs.Node.{BringsStates, Calls, Closes, EndsSo, held, HoldsStates, Needs, NeedsFiles, NeedsThen, Steps, StepsFreely, last_after, node_of, own_member, up_server};
 
@@ -145,6 +146,8 @@ impl<D: Disk, V: DraftService> Node<D, V> {
         ensures keeps { Needs V.standing.database (own_member self.old) (node_of self.old) event now (D.files self.old.store.disk)
             → BringsStates V.standing (own_member self.old) (node_of self.old) event now
             → HoldsStates V.standing (node_of self.old) → HoldsStates V.standing (node_of self.new) }
+        ensures alike { NeedsTurn V.standing.database (own_member self.old) (node_of self.old) event now (D.files self.old.store.disk)
+            → StepsAlike V.standing.database (own_member self.old) result event now (node_of self.old) (node_of self.new) out.new }
         ensures member { own_member self.new ≡ own_member self.old }
         ensures memory { TakesNoMemory event → result ≢ StepEnd.NoMemory }
         ensures halts { (result ≡ StepEnd.Halted) ↔ (self.new.store.failed ≡ true) }
@@ -171,6 +174,8 @@ impl<D: Disk, V: DraftService> Node<D, V> {
         ensures keeps { Needs V.standing.database (own_member self.old) (node_of self.old) event.now now (D.files self.old.store.disk)
             → BringsStates V.standing (own_member self.old) (node_of self.old) event.now now
             → HoldsStates V.standing (node_of self.old) → HoldsStates V.standing (node_of self.new) }
+        ensures alike { NeedsTurn V.standing.database (own_member self.old) (node_of self.old) event.now now (D.files self.old.store.disk)
+            → StepsAlike V.standing.database (own_member self.old) result event.now now (node_of self.old) (node_of self.new) out.new }
         ensures member { own_member self.new ≡ own_member self.old }
         ensures memory { TakesNoMemory event.now → result ≢ StepEnd.NoMemory }
         ensures halts { (result ≡ StepEnd.Halted) ↔ (self.new.store.failed ≡ true) }
@@ -289,6 +294,8 @@ impl<D: Disk, V: DraftService> Node<D, V> {
         ensures keeps { Needs V.standing.database (own_member self.old) (node_of self.old) event.now now (D.files self.old.store.disk)
             → BringsStates V.standing (own_member self.old) (node_of self.old) event.now now
             → HoldsStates V.standing (node_of self.old) → HoldsStates V.standing (node_of self.new) }
+        ensures alike { NeedsTurn V.standing.database (own_member self.old) (node_of self.old) event.now now (D.files self.old.store.disk)
+            → StepsAlike V.standing.database (own_member self.old) result event.now now (node_of self.old) (node_of self.new) out.new }
         ensures member { own_member self.new ≡ own_member self.old }
         ensures memory { TakesNoMemory event.now → result ≢ StepEnd.NoMemory }
         ensures halts { (result ≡ StepEnd.Halted) ↔ (self.new.store.failed ≡ true) }
@@ -309,6 +316,10 @@ impl<D: Disk, V: DraftService> Node<D, V> {
         requires few { length out.old ≤ 100 }
         ensures ends { EndsSo D.Disk V.standing (NeedsThen V.standing.database (own_member self.old) (up_server self.old) event.now now (D.files self.old.store.disk))
             (λ o. handled (dbs_of o) (own_member self.old) (up_server self.old) now event.now o.short) out.old out.new (held self.old) (held self.new) result }
+        ensures alike { NeedsTurnThen V.standing.database (own_member self.old) (up_server self.old) event.now now (D.files self.old.store.disk)
+            → OnOk result (AlikeSo
+            (λ free. handled (free_dbs V.standing.database free) (own_member self.old) (up_server self.old) now event.now free.short)
+            (up_server self.new) out.old out.new) }
         ensures memory { TakesNoMemory event.now → IsErrOf result StoreFault.DiskFault ⊎ IsOk result }
     {
         match event {
@@ -360,6 +371,10 @@ impl<D: Disk, V: DraftService> Node<D, V> {
         ensures ends { EndsSo D.Disk V.standing (NeedsFiles packet.now.body (IsSome (D.files self.old.store.disk)))
             (λ o. received_packet (dbs_of o) (own_member self.old) (up_server self.old) now packet.now o.short (place_of self.old.state.cell packet.now.from))
             out.old out.new (held self.old) (held self.new) result }
+        ensures alike { NeedsHolder packet.now.body (up_server self.old).waiting (IsSome (D.files self.old.store.disk)) → OnOk result (AlikeSo
+            (λ free. received_packet (free_dbs V.standing.database free) (own_member self.old) (up_server self.old) now packet.now free.short
+            (place_of self.old.state.cell packet.now.from))
+            (up_server self.new) out.old out.new) }
         ensures memory { BodyTakesNoMemory packet.now.body → IsErrOf result StoreFault.DiskFault ⊎ IsOk result }
     {
         let host = packet.from;

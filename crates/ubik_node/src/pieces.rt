@@ -1,7 +1,8 @@
 //! Pieces of the own image, as the store has it.
-ghost use Rattle.std.specs.Prelude.{◌≡◌, ◌⊎◌, ◌+◌, ◌≤◌, ◌<◌, drop, length, take, false, IfOk, IfErr, IfSome, IsErrOf};
+ghost use Rattle.std.specs.Prelude.{◌≡◌, ◌⊎◌, ◌+◌, ◌-◌, ◌≤◌, ◌<◌, min, drop, length, take, false, IfOk, IfErr, IfSome, IsErrOf};
 ghost use Rattle.disk_base.specs.Runs.{OnlyReads};
 ghost use Rattle.cell_model.specs.Pieces.{piece_from};
+ghost use Rattle.ubik_calls.specs.declared.packets.TheConstants.{MAX_PIECE};
 ghost use Rattle.ubik_store.specs.DurableCall.{HasFailed};
 ghost use Rattle.ubik_store.specs.Store.{IsSound, StaysAsItWas, image_in};
 ghost use Rattle.server_state.specs.Plain.{IsPiece};
@@ -52,6 +53,7 @@ pub fn read_piece<D: Disk>(
     requires fresh { store.old.failed ≡ false }
     requires within { at ≤ store.old.len }
     ensures piece { IfOk result (λ piece. IfSome (image_in (D.files store.old.disk)) (λ image. piece ≡ piece_from image at)) }
+    ensures len { IfOk result (λ piece. length piece ≡ min MAX_PIECE (store.old.len - at)) }
     ensures short { IfOk result IsPiece }
     ensures sound { IsSound D.Disk store.new }
     ensures same { ¬ IsErrOf result StoreFault.DiskFault → StaysAsItWas store.old store.new }
@@ -73,6 +75,7 @@ pub fn first_piece<D: Disk>(
     requires sound { IsSound D.Disk store.old }
     requires fresh { store.old.failed ≡ false }
     ensures piece { IfOk result (λ piece. 1 < servers → IfSome (image_in (D.files store.old.disk)) (λ image. piece ≡ piece_from image 0)) }
+    ensures len { IfOk result (λ piece. 1 < servers → length piece ≡ min MAX_PIECE (store.old.len - 0)) }
     ensures short { IfOk result IsPiece }
     ensures sound { IsSound D.Disk store.new }
     ensures same { ¬ IsErrOf result StoreFault.DiskFault → StaysAsItWas store.old store.new }

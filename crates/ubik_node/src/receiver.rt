@@ -1,12 +1,12 @@
 //! Receiver: what a server takes over of another one's database: a version, a write, or an image. All memory is taken before the disk is changed.
-ghost use Rattle.std.specs.Prelude.{◌≡◌, ◌≤◌, ◌++◌, [], length, true, false, None, IsSome, OnOk, OnErr};
+ghost use Rattle.std.specs.Prelude.{ℕ, List, ◌≡◌, ◌≤◌, ◌++◌, [], length, true, false, None, IsSome, OnOk, OnErr};
 ghost use Rattle.ubik_types.specs.declared.limits.TheConstants.{MAX_IMAGE};
 ghost use Rattle.ubik_types.specs.Logged.{too_large};
 ghost use Rattle.ubik_types.specs.Phase as phases;
 ghost use Rattle.ubik_types.specs.Version.{IsVersion, version_lt};
 ghost use Rattle.cell_model.specs.Receiver.{answers_version_kept, committed_by, relabelled_by};
 ghost use Rattle.cell_model.specs.Recovery.{installed};
-ghost use Rattle.cell_model.specs.Step.{followed, quiet, with_phase};
+ghost use Rattle.cell_model.specs.Step.{followed, quiet, with_database, with_phase};
 ghost use Rattle.ubik_recovery.specs.Record.{polled_of};
 ghost use Rattle.ubik_recovery.specs.Text.{with_piece};
 ghost use Rattle.server_rules.specs.Acts.{CanFollow, EndsText, IsOver, MayTake, begins_text, then_ended};
@@ -24,6 +24,7 @@ use ubik_store::StoreFault;
 use ubik_types::{Changes, Host, NoMemory, Version};
 
 impl<D: Disk, V: DraftService> Node<D, V> {
+    ghost use Rattle.ubik_node.specs.Alike.{IsAlike};
     ghost use Rattle.ubik_node.specs.Node.{Ends, held, own_member, up_server};
 
     /// The database gets another version, and a host is told so.
@@ -57,9 +58,12 @@ impl<D: Disk, V: DraftService> Node<D, V> {
         requires few { length out.old ≤ 100 }
         requires may { MayTake self.old.state new }
         requires fits { too_large 0 (length self.old.state.image) changes.now ≡ None }
-        ensures { Ends D.Disk (IsSome (D.files self.old.store.disk))
+        ensures ends { Ends D.Disk (IsSome (D.files self.old.store.disk))
             (followed (committed_by (up_server self.old) new changes.now) (answers_version_kept (own_member self.old) to))
             out.old out.new (held self.old) (held self.new) result }
+        ensures alike { OnOk result (IsAlike
+            (followed (committed_by (up_server self.old) new changes.now) (answers_version_kept (own_member self.old) to))
+            (up_server self.new) out.old out.new) }
     {
         commit_all(&mut self.store, changes.as_slice(), new)?;
         self.state.take_over(new, HeldImage::of(&self.store));
@@ -81,9 +85,13 @@ impl<D: Disk, V: DraftService> Node<D, V> {
         requires may { MayTake self.old.state source.version }
         requires follow { CanFollow self.old.state source.version end }
         requires ends { EndsText (begins_text end self.old.state.recovery.text) self.old.state.recovery.text source offset bytes.now }
-        ensures { Ends D.Disk (IsSome (D.files self.old.store.disk))
+        ensures ends { Ends D.Disk (IsSome (D.files self.old.store.disk))
             (followed (installed (up_server self.old) source.version (with_piece source offset bytes.now self.old.state.recovery.text).bytes)
             (then_ended (own_member self.old) end)) out.old out.new (held self.old) (held self.new) result }
+        ensures alike { OnOk result (IsAlike
+            (followed (installed (up_server self.old) source.version (with_piece source offset bytes.now self.old.state.recovery.text).bytes)
+            (then_ended (own_member self.old) end))
+            (up_server self.new) out.old out.new) }
     {
         let mut text = self.state.take_front(self.alloc, offset);
         let short = extended(&mut text, bytes).is_err();
@@ -113,9 +121,12 @@ impl<D: Disk, V: DraftService> Node<D, V> {
         requires may { MayTake self.old.state version }
         requires follow { CanFollow self.old.state version end }
         requires fits { length text.now ≤ MAX_IMAGE }
-        ensures { Ends D.Disk (IsSome (D.files self.old.store.disk))
+        ensures ends { Ends D.Disk (IsSome (D.files self.old.store.disk))
             (followed (installed (up_server self.old) version text.now) (then_ended (own_member self.old) end))
             out.old out.new (held self.old) (held self.new) result }
+        ensures alike { OnOk result (IsAlike
+            (followed (installed (up_server self.old) version text.now) (then_ended (own_member self.old) end))
+            (up_server self.new) out.old out.new) }
     {
         match end {
             TextEnd::Told { to } => self.take_image(to, version, text, out),
@@ -138,9 +149,12 @@ impl<D: Disk, V: DraftService> Node<D, V> {
         requires few { length out.old ≤ 100 }
         requires may { MayTake self.old.state version }
         requires fits { length text.now ≤ MAX_IMAGE }
-        ensures { Ends D.Disk (IsSome (D.files self.old.store.disk))
+        ensures ends { Ends D.Disk (IsSome (D.files self.old.store.disk))
             (followed (installed (up_server self.old) version text.now) (answers_version_kept (own_member self.old) to))
             out.old out.new (held self.old) (held self.new) result }
+        ensures alike { OnOk result (IsAlike
+            (followed (installed (up_server self.old) version text.now) (answers_version_kept (own_member self.old) to))
+            (up_server self.new) out.old out.new) }
     {
         self.install(text, version)?;
         self.state.send(to, Body::VersionKept { version }, out);
@@ -158,9 +172,12 @@ impl<D: Disk, V: DraftService> Node<D, V> {
         requires may { MayTake self.old.state version }
         requires over { IsOver self.old.state next }
         requires fits { length text.now ≤ MAX_IMAGE }
-        ensures { Ends D.Disk (IsSome (D.files self.old.store.disk))
+        ensures ends { Ends D.Disk (IsSome (D.files self.old.store.disk))
             (followed (installed (up_server self.old) version text.now) (λ after. quiet (with_phase after (phases.Relabel (polled_of next)))))
             [] [] (held self.old) (held self.new) result }
+        ensures alike { OnOk result (IsAlike
+            (followed (installed (up_server self.old) version text.now) (λ after. quiet (with_phase after (phases.Relabel (polled_of next)))))
+            (up_server self.new) [] []) }
     {
         self.install(text, version)?;
         self.state.wait(next);
@@ -175,6 +192,8 @@ impl<D: Disk, V: DraftService> Node<D, V> {
         requires version { IsVersion version }
         requires newer { version_lt self.old.state.version version ≡ true }
         ensures ends { Ends D.Disk (IsSome (D.files self.old.store.disk)) (installed (up_server self.old) version text.now) [] [] (held self.old) (held self.new) result }
+        ensures bytes { OnOk result ((bytes : List ℕ) × (length bytes ≡ length text.now)
+            × (up_server self.new ≡ with_database (up_server self.old) version bytes)) }
         ensures resting { OnOk result (¬ IsServing self.new.state.recovery) }
     {
         self.store.install(text, version)?;

@@ -1,6 +1,6 @@
 //! Recovery: relabelling, the own database or a fetched one: it gets the first version of a moment past its epoch, and goes to the servers that
 //! answered the poll. All memory is taken before the disk is changed.
-ghost use Rattle.std.specs.Prelude.{◌≡◌, ◌≤◌, length, true, false, IsSome};
+ghost use Rattle.std.specs.Prelude.{◌≡◌, ◌≤◌, length, true, false, IsSome, OnOk};
 ghost use Rattle.ubik_types.specs.declared.limits.TheConstants.{MAX_IMAGE};
 ghost use Rattle.ubik_types.specs.Version.{IsVersion, version_lt};
 ghost use Rattle.cell_model.specs.Recovery.{installed, relabelled_to};
@@ -21,6 +21,7 @@ use ubik_store::StoreFault;
 use ubik_types::{Version, bytes_of};
 
 impl<D: Disk, V: DraftService> Node<D, V> {
+    ghost use Rattle.ubik_node.specs.Alike.{IsAlike};
     ghost use Rattle.ubik_node.specs.Node.{Ends, held, Knows, own_member, up_server};
 
     /// The database gets a version, the first of its epoch, for the poll of a recovery.
@@ -34,9 +35,12 @@ impl<D: Disk, V: DraftService> Node<D, V> {
         requires few { length out.old ≤ 120 }
         requires may { MayTake self.old.state new }
         requires of_cell { IsOfCell (length self.old.state.cell) next }
-        ensures { Ends D.Disk (Knows D.Disk self.old)
+        ensures ends { Ends D.Disk (Knows D.Disk self.old)
             (followed (relabelled_to (own_member self.old) (up_server self.old) (polled_of next) new) (settled (own_member self.old)))
             out.old out.new (held self.old) (held self.new) result }
+        ensures alike { OnOk result (IsAlike
+            (followed (relabelled_to (own_member self.old) (up_server self.old) (polled_of next) new) (settled (own_member self.old)))
+            (up_server self.new) out.old out.new) }
     {
         let piece = first_piece(self.alloc, &mut self.store, self.state.cell.len())?;
         let given = Given {
@@ -69,10 +73,13 @@ impl<D: Disk, V: DraftService> Node<D, V> {
         requires new { IsVersion new }
         requires newer { version_lt best new ≡ true }
         requires fits { length text.now ≤ MAX_IMAGE }
-        ensures { Ends D.Disk (IsSome (D.files self.old.store.disk))
+        ensures ends { Ends D.Disk (IsSome (D.files self.old.store.disk))
             (followed (installed (up_server self.old) best text.now) (λ after.
             followed (relabelled_to (own_member self.old) after (polled_of next) new) (settled (own_member self.old))))
             out.old out.new (held self.old) (held self.new) result }
+        ensures alike { OnOk result (IsAlike (followed (installed (up_server self.old) best text.now) (λ after.
+            followed (relabelled_to (own_member self.old) after (polled_of next) new) (settled (own_member self.old))))
+            (up_server self.new) out.old out.new) }
     {
         let first = &text[..text.len().min(MAX_PIECE)];
         let given = Given {

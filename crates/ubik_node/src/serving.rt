@@ -41,6 +41,7 @@ pub fn turn_of(state: &State, now: u32, writes: bool) -> Turn
     ensures serving { IsWrite result → IsServing state.now.recovery }
     ensures writing { IsWait result → IsSome (own_of state.now.writes) }
     ensures free { IsWrite result → own_of state.now.writes ≡ None }
+    ensures writing_call { IsWrite result → writes ≡ true }
     ensures evaluates { IsEvaluation result → is_evaluated (member_of state.now) (server_of state.now) now (Some writes) ≡ true }
     ensures plain { IsPlainTurn result }
 {

@@ -1,7 +1,11 @@
-use Rattle.std.proofs.Common.{◌∙◌, Bool, Option, Some, None, [], ◌∷◌, false, refl, ap, sym}
-use Rattle.cell_model.specs.Asks.{asked_as, put_into_line}
-use Rattle.cell_model.specs.Node.{Flight}
-use Rattle.cell_model.specs.Step.{is_short}
+use Rattle.db_image.specs.Database.{Database}
+use Rattle.cell_model.specs.Writes.{announced_image}
+use Rattle.ubik_node.specs.Alike.{Frees, ReadsAlike, free_dbs}
+use Rattle.ubik_node.proofs.Alike.{alike_same, alike_shows, frees_of, made_so, none_free, on_made}
+use Rattle.std.proofs.Common.{◌∙◌, Bool, Option, Some, None, [], ◌∷◌, false, refl, ap, sym, ℕ, List}
+use Rattle.cell_model.specs.Asks.{asked_as, put_into_line, asked}
+use Rattle.cell_model.specs.Node.{Flight, Server}
+use Rattle.cell_model.specs.Step.{is_short, Member, Stepped}
 use Rattle.ubik_node.specs.Choices.{dbs_of, none_chosen}
 use Rattle.ubik_node.specs.Evaluation.{is_evaluated}
 use Rattle.ubik_node.specs.Node.{held}
@@ -75,3 +79,70 @@ returns-in-Write-clause-ends g c =
     let db = dbs_of made.0 0 in
     let kind = λ (w : Option Bool). asked_as db (member_of st) (server_of st) c.args.now c.args.id c.args.call.now (is_short made.0.short) w in
     (made.0, same_ends g.D.Disk (ap kind (sym c.in-Some.ensures) ∙ c.in-Write.ensures.turn db c.args.id c.args.call.now (is_short made.0.short)) (known_ends g.D.Disk (λ needs. needs evaluated) made.1))
+
+-- what becomes of a call, by whether it writes
+abbrev by_kind : (db : Database) (free : Frees) → Member → Server → ℕ → ℕ → List ℕ → Option Bool → Stepped
+by_kind db free m s now id call w = asked_as (free_dbs db free 0) m s now id call (is_short free.short) w
+
+pub returns-in_default-clause-alike : goal.returns-in_default-clause-alike
+returns-in_default-clause-alike g c = λ needs.
+    let st = c.args.self.now.state in
+    let db = g.V.DraftService.standing.database in
+    let kind = by_kind db (none_free db) (member_of st) (server_of st) c.args.now c.args.id c.args.call.now in
+    (none_free db, alike_same (ap kind (sym c.in_default.ensures)) (alike_shows (record { server = refl; calls = refl; outputs = c.put_reply.ensures })))
+
+pub returns-in-Refuse-clause-alike : goal.returns-in-Refuse-clause-alike
+returns-in-Refuse-clause-alike g c = λ needs.
+    let st = c.args.self.now.state in
+    let db = g.V.DraftService.standing.database in
+    let kind = by_kind db (none_free db) (member_of st) (server_of st) c.args.now c.args.id c.args.call.now in (
+      none_free db,
+      alike_same (ap kind (sym c.in-Some.ensures) ∙ c.in-Refuse.ensures.turn (free_dbs db (none_free db) 0) c.args.id c.args.call.now false)
+          (alike_shows (record { server = refl; calls = refl; outputs = c.put_reply-in-Refuse.ensures })),
+    )
+
+pub returns-in-Read-clause-alike : goal.returns-in-Read-clause-alike
+returns-in-Read-clause-alike g c = λ needs.
+    let st = c.args.self.now.state in
+    let db = g.V.DraftService.standing.database in
+    on_made c.read.result c.read.ensures.alike
+    (λ (so : ReadsAlike db (server_of st) c.args.now c.args.id c.args.call.now (server_of c.read.new.self.state) c.args.out.now c.read.new.out).
+    let kind = by_kind db so.0 (member_of st) (server_of st) c.args.now c.args.id c.args.call.now in
+    let turn = c.in-Read.ensures.turn (free_dbs db so.0 0) c.args.id c.args.call.now (is_short so.0.short) in
+    (so.0, alike_same (ap kind (sym c.in-Some.ensures) ∙ turn.1) (so.1 (announced_image (server_of st)) turn.0)))
+
+pub returns-in-ReadOwn-clause-alike : goal.returns-in-ReadOwn-clause-alike
+returns-in-ReadOwn-clause-alike g c = λ needs.
+    let st = c.args.self.now.state in
+    let db = g.V.DraftService.standing.database in
+    on_made c.read_own.result c.read_own.ensures.alike
+    (λ (so : ReadsAlike db (server_of st) c.args.now c.args.id c.args.call.now (server_of c.read_own.new.self.state) c.args.out.now c.read_own.new.out).
+    let kind = by_kind db so.0 (member_of st) (server_of st) c.args.now c.args.id c.args.call.now in
+    let turn = c.in-ReadOwn.ensures.turn (free_dbs db so.0 0) c.args.id c.args.call.now (is_short so.0.short) in
+    (so.0, alike_same (ap kind (sym c.in-Some.ensures) ∙ turn.1) (so.1 st.image turn.0)))
+
+pub returns-in-Wait-clause-alike : goal.returns-in-Wait-clause-alike
+returns-in-Wait-clause-alike g c = λ needs.
+    let st = c.args.self.now.state in
+    let s = server_of st in
+    let db = g.V.DraftService.standing.database in
+    let line = c.put_in_line.ensures.shows in
+    let free = record (none_free db) { short = line.0 ∷ [] } in
+    let kind = by_kind db free (member_of st) s c.args.now c.args.id c.args.call.now in (
+      free,
+      alike_same (ap kind (sym c.in-Some.ensures))
+          (alike_shows (line_shows s.flight (λ (f : Flight). put_into_line s c.args.id c.args.call.now line.0 f) (kind (Some c.in-Some.writes)) (server_of c.put_in_line.new.self) c.args.out.now c.put_in_line.new.out (in_flight_so (own_of st.writes) (c.in-Wait.ensures.writing tt))
+          (c.in-Wait.ensures.turn (free_dbs db free 0) c.args.id c.args.call.now line.0) line.1)),
+    )
+
+pub returns-in-Write-clause-alike : goal.returns-in-Write-clause-alike
+returns-in-Write-clause-alike g c = λ needs.
+    let n = c.args.self.now in
+    let st = n.state in
+    let db = g.V.DraftService.standing.database in
+    let made = c.write_turn.ensures.ends in
+    let evaluated = ap (λ (w : Option Bool). is_evaluated (member_of st) (server_of st) c.args.now w) (sym c.in-Some.ensures) ∙ c.in-Write.ensures.evaluates tt in
+    let writes = sym c.in-Some.ensures ∙ ap Some (c.in-Write.ensures.writing_call tt) in
+    let kind = by_kind db (frees_of made.0) (member_of st) (server_of st) c.args.now c.args.id c.args.call.now in
+    made_so g.D.Disk (λ (free : Frees). asked (free_dbs db free 0) (member_of st) (server_of st) c.args.now c.args.id c.args.call.now (is_short free.short)) c.write_turn.result made.0
+    (same_ends g.D.Disk (ap kind (sym c.in-Some.ensures) ∙ c.in-Write.ensures.turn (dbs_of made.0 0) c.args.id c.args.call.now (is_short made.0.short)) made.1) (needs writes evaluated)

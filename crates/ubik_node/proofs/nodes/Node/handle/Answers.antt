@@ -1,3 +1,4 @@
+use Rattle.ubik_node.proofs.Alike.{alike_shows, free_alike, none_free, on_made}
 use Rattle.std.proofs.Common.{refl}
 use Rattle.ubik_node.specs.Choices.{none_chosen}
 use Rattle.ubik_node.specs.Node.{held}
@@ -16,7 +17,19 @@ returns-in-BeaconTurn-clause-ends g c =
     )
 
 pub returns-in-RecoverTurn-clause-ends : goal.returns-in-RecoverTurn-clause-ends
-returns-in-RecoverTurn-clause-ends g c = rw c.in-RecoverTurn.is c.recover.ensures
+returns-in-RecoverTurn-clause-ends g c = rw c.in-RecoverTurn.is c.recover.ensures.ends
 
 pub returns-in-Ask-clause-ends : goal.returns-in-Ask-clause-ends
 returns-in-Ask-clause-ends g c = rw c.in-Ask.is (rw c.as_slice.ensures at c.ask.ensures.ends)
+
+pub returns-in-Packet-clause-alike : goal.returns-in-Packet-clause-alike
+returns-in-Packet-clause-alike g c = rw c.in-Packet.is c.receive.ensures.alike
+
+pub returns-in-BeaconTurn-clause-alike : goal.returns-in-BeaconTurn-clause-alike
+returns-in-BeaconTurn-clause-alike g c = rw c.in-BeaconTurn.is (λ needs. (none_free g.V.DraftService.standing.database, alike_shows c.beacon_turn.ensures.shows))
+
+pub returns-in-RecoverTurn-clause-alike : goal.returns-in-RecoverTurn-clause-alike
+returns-in-RecoverTurn-clause-alike g c = rw c.in-RecoverTurn.is (λ needs. on_made c.recover.result c.recover.ensures.alike (free_alike g.V.DraftService.standing.database))
+
+pub returns-in-Ask-clause-alike : goal.returns-in-Ask-clause-alike
+returns-in-Ask-clause-alike g c = rw c.in-Ask.is (rw c.as_slice.ensures at c.ask.ensures.alike)

@@ -1,4 +1,7 @@
-use Rattle.std.proofs.Common.{◌∙◌, ℕ, List, refl, sym, ap, arith, ◌≡◌}
+use Rattle.ubik_store.specs.Redo.{len_after}
+use Rattle.ubik_store.proofs.Redone.{length-effect}
+use Rattle.ubik_node.proofs.HeldImages.{held_length}
+use Rattle.std.proofs.Common.{◌∙◌, ℕ, List, refl, sym, ap, arith, ◌≡◌, length}
 use Rattle.ubik_node.proofs.Rested.{phase_is}
 use Rattle.server_state.specs.declared.state.State.{State}
 use Rattle.ubik_types.specs.Phase.{phase_of}
@@ -52,3 +55,16 @@ install-requires-clause-version g c = c.requires.version
 
 pub returns-clause-resting : goal.returns-clause-resting
 returns-clause-resting g c = λ serves. c.requires.resting (sym (same_phase c.take_over.new.self c.args.self.now.state (ap (λ (s : Server). s.phase) c.take_over.ensures.after)) ∙ serves)
+
+pub returns-clause-bytes : goal.returns-clause-bytes
+returns-clause-bytes g c =
+    let n = c.args.self.now in
+    let st = n.state in
+    let text = c.args.text.now in
+    let later = c.install.new.self in
+    let done = c.in_ok-install.ensures.ended in (
+      c.of.result,
+      ap length c.of.ensures ∙ held_length g.D.Disk later (c.install.ensures.sound.ready done.failed) ∙ done.len
+          ∙ ap (λ (k : ℕ). len_after k (whole_image text)) (c.args.self.now.stored.len c.requires.not_halted) ∙ sym (length-effect st.image (whole_image text)) ∙ ap length (effect_whole st.image text),
+      c.take_over.ensures.after,
+    )

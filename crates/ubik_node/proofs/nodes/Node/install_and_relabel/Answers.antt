@@ -1,4 +1,9 @@
-use Rattle.std.proofs.Common.{◌≡◌, ◌∙◌, ◌∷◌, ℕ, List, length, Err, refl, sym, ap, subst, arith, length-take}
+use Rattle.ubik_store.specs.Redo.{len_after}
+use Rattle.ubik_store.proofs.Redone.{length-effect}
+use Rattle.ubik_node.proofs.HeldImages.{held_length}
+use Rattle.ubik_node.specs.Alike.{blank, blank_outputs}
+use Rattle.ubik_node.proofs.Alike.{settled_alike}
+use Rattle.std.proofs.Common.{◌≡◌, ◌∙◌, ◌∷◌, ℕ, List, length, Err, refl, sym, ap, subst, arith, length-take, ◌++◌}
 use Rattle.std.specs.Result.{is_err}
 use Rattle.std.proofs.lemmas.Bool.{false≢true}
 use Rattle.ubik_types.specs.declared.versions.Version.{Version}
@@ -12,7 +17,7 @@ use Rattle.cell_model.specs.Durable.{Made, Received}
 use Rattle.cell_model.specs.Node.{Server}
 use Rattle.cell_model.specs.Polls.{only_holder}
 use Rattle.cell_model.specs.Recovery.{own_relabelling, relabelled_to}
-use Rattle.cell_model.specs.Step.{Member, with_database, with_phase}
+use Rattle.cell_model.specs.Step.{Member, with_database, with_phase, Shown, outputs_of}
 use Rattle.cell_model.specs.Writes.{settled}
 use Rattle.ubik_node.specs.Node.{held}
 use Rattle.server_state.specs.State.{ShowsBehind, member_of, server_of}
@@ -23,16 +28,16 @@ use Rattle.ubik_node.proofs.Relabelled.{relabel_outputs, settled_calls}
 use Rattle.ubik_node.proofs.TwoCalls.{both_made, first_failed, second_failed}
 use Rattle.ubik_node.proofs.nodes.Node.install_and_relabel.Goals as goal
 
-pub returns-in_err-bytes_of : goal.returns-in_err-bytes_of
-returns-in_err-bytes_of g c =
+pub returns-in_err-bytes_of-clause-ends : goal.returns-in_err-bytes_of-clause-ends
+returns-in_err-bytes_of-clause-ends g c =
     handed_ends g.D.Disk c.from_residual.result _ c.from_residual.ensures.1 (short_ends g.D.Disk (held c.args.self.now) c.args.self.now.stored c.requires.not_halted)
 
-pub returns-in_err-give : goal.returns-in_err-give
-returns-in_err-give g c =
+pub returns-in_err-give-clause-ends : goal.returns-in_err-give-clause-ends
+returns-in_err-give-clause-ends g c =
     handed_ends g.D.Disk c.from_residual-in_err-give.result _ c.from_residual-in_err-give.ensures.1 (short_ends g.D.Disk (held c.args.self.now) c.args.self.now.stored c.requires.not_halted)
 
-pub returns-in_err-install : goal.returns-in_err-install
-returns-in_err-install g c =
+pub returns-in_err-install-clause-ends : goal.returns-in_err-install-clause-ends
+returns-in_err-install-clause-ends g c =
     let n = c.args.self.now in
     let st = n.state in
     let m = member_of st in
@@ -46,8 +51,8 @@ returns-in_err-install g c =
     (ap (λ (calls : List Made). installs ∷ own_relabelling v ∷ calls) (settled_calls m (relabelled_to m s (polled_of c.args.next) v).server)) (IsTooLong text) c.in_err-install.field-0.0 c.in_err-install.ensures.ended
     (rw (c.args.self.now.stored.version c.requires.not_halted) c.requires.may.newer) (λ bytes long. absurd (omega (arith, long.0, c.requires.fits))) (c.in_err-install.ensures.durable c.requires.not_halted))
 
-pub returns-in_err-relabel : goal.returns-in_err-relabel
-returns-in_err-relabel g c =
+pub returns-in_err-relabel-clause-ends : goal.returns-in_err-relabel-clause-ends
+returns-in_err-relabel-clause-ends g c =
     let n = c.args.self.now in
     let st = n.state in
     let m = member_of st in
@@ -63,8 +68,8 @@ returns-in_err-relabel g c =
     (c.install.ensures.durable c.requires.not_halted) (λ failed. false≢true (ap is_err (sym c.in_ok-install.was ∙ failed))) c.relabel.new.self v refl refl (ap (λ (calls : List Made). installs ∷ own_relabelling v ∷ calls) (settled_calls m (relabelled_to m s (polled_of c.args.next) v).server)) c.in_err-relabel.field-0.0 c.in_err-relabel.ensures.ended
     (λ is. c.in_err-relabel.ensures.no_memory done.room (ap Err is)) (ap (λ (w : Version). version_lt w v) done.version ∙ c.requires.newer) (c.in_err-relabel.ensures.durable done.failed))
 
-pub returns : goal.returns
-returns g c =
+pub returns-clause-ends : goal.returns-clause-ends
+returns-clause-ends g c =
     let n = c.args.self.now in
     let st = n.state in
     let m = member_of st in
@@ -109,3 +114,39 @@ slice_bounds-first-end g c = omega (arith, length-take c.min.result c.args.text.
 
 pub give-requires-clause-plain : goal.give-requires-clause-plain
 give-requires-clause-plain g c = record { old = c.requires.may.version; new = c.requires.new; piece = omega (arith, ap length c.in_ok-bytes_of.ensures, length-take c.min.result c.args.text.now, c.min.ensures) }
+
+pub returns-clause-alike : goal.returns-clause-alike
+returns-clause-alike g c =
+    let n = c.args.self.now in
+    let st = n.state in
+    let m = member_of st in
+    let text = c.args.text.now in
+    let best = c.args.best in
+    let poll = polled_of c.args.next in
+    let v = c.args.new in
+    let bytes = c.of.result in
+    let done = c.in_ok-install.ensures.ended in
+    let also = c.in_ok-relabel.ensures.ended in
+    let later = c.relabel.new.self in
+    let took = c.take_over.new.self in
+    let sending = c.begin_sending.new.self in
+    let last = c.settle.new.self in
+    let after : Server = (relabelled_to m (with_database (server_of st) best text) poll v).server in
+    let sent : Server → Member → Server = λ x k. with_phase (with_database x v x.image) (Send poll (record { old = x.version; holders = only_holder k })) in
+    let long : length bytes ≡ length text =
+    ap length c.of.ensures ∙ held_length g.D.Disk later (c.relabel.ensures.sound.ready also.failed) ∙ also.len ∙ done.len
+    ∙ ap (λ (k : ℕ). len_after k (whole_image text)) (c.args.self.now.stored.len c.requires.not_halted) ∙ sym (length-effect st.image (whole_image text)) ∙ ap length (effect_whole st.image text) in
+    let sends : server_of sending ≡ record after { image = bytes } =
+    c.begin_sending.ensures.after ∙ ap (λ (x : Server). sent x (member_of took)) c.take_over.ensures.after ∙ ap (sent (with_database (server_of st) best bytes)) c.take_over.ensures.place in
+    let place : member_of sending ≡ m = c.begin_sending.ensures.place ∙ c.take_over.ensures.place in
+    let shows : ShowsBehind (settled m (record after { image = bytes })) (server_of last) c.give.new.out c.settle.new.out =
+    subst (λ (x : Server). ShowsBehind (settled m x) (server_of last) c.give.new.out c.settle.new.out) sends
+    (subst (λ (x : Member). ShowsBehind (settled x (server_of sending)) (server_of last) c.give.new.out c.settle.new.out) place c.settle.ensures.shows) in
+    let alike = settled_alike m after bytes text long in
+    record {
+      server = sym alike.0 ∙ ap blank shows.server;
+      outputs =
+          ap blank_outputs (relabel_outputs m poll best after c.poll.result (length text) c.in_ok-bytes_of.field-0 c.args.out.now c.give.new.out c.settle.new.out (settled m after).shown st.place c.poll.ensures refl
+          (λ more. first_of text c.in_ok-bytes_of.field-0 c.min.result (omega (arith, c.min.ensures)) c.in_ok-bytes_of.ensures) c.in_ok-give.ensures.given
+          (shows.outputs ∙ ap (λ (shown : List Shown). c.give.new.out ++ outputs_of shown) alike.1));
+    }

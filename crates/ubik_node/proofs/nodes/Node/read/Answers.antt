@@ -1,3 +1,4 @@
+use Rattle.ubik_node.proofs.Alike.{read_alike}
 use Rattle.std.proofs.Common.{◌≡◌, ◌∙◌, ℕ, List, Option, Some, None, sym, ap, subst, arith}
 use Rattle.std.specs.Option.{option_map}
 use Rattle.std.specs.Prelude.{option_copied}
@@ -49,3 +50,10 @@ evaluate_before-made-requires-clause-fits g c =
     let own : own_of st.writes ≡ Some c.in-Some.write.now = sym c.in_flight.ensures ∙ ap option_copied c.in-Some.is in
     let undone = st.written.undone c.in-Some.write.now own in
     omega (arith, undone.fits, ap (λ (f : FlightRecord). f.old_len) c.flight.ensures.flight)
+
+pub returns-in_default-clause-alike : goal.returns-in_default-clause-alike
+returns-in_default-clause-alike g c = c.read_own.ensures.alike
+
+pub returns-clause-alike : goal.returns-clause-alike
+returns-clause-alike g c =
+    read_alike g.V.DraftService.standing.database (up_server c.args.self.now) c.args.now c.args.id c.args.call.now c.args.out.now c.answer_read.new.out c.evaluate_before-made.result c.answer_read.result c.answer_read.ensures.replied

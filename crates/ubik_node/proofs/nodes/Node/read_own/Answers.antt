@@ -1,3 +1,5 @@
+use Rattle.server_state.specs.State.{server_of}
+use Rattle.ubik_node.proofs.Alike.{read_alike}
 use Rattle.ubik_store.specs.Store.{image_in}
 use Rattle.ubik_node.specs.Node.{held}
 use Rattle.ubik_node.proofs.Evaluated.{answers_of}
@@ -17,3 +19,7 @@ returns-clause-ends g c =
     (λ tells. replied_as d told.one n.state.image c.args.now c.args.call.now (image_in files) c.evaluate-made.result
     (λ e made. made_here d told.one files n.state.image c.args.now c.args.call.now e tells (c.args.self.now.stored.image c.requires.not_halted) made) told.says)
     c.answer_read.ensures.fault c.answer_read.ensures.memory c.answer_read.ensures.replied
+
+pub returns-clause-alike : goal.returns-clause-alike
+returns-clause-alike g c =
+    read_alike g.V.DraftService.standing.database (server_of c.args.self.now.state) c.args.now c.args.id c.args.call.now c.args.out.now c.answer_read.new.out c.evaluate-made.result c.answer_read.result c.answer_read.ensures.replied

@@ -1,3 +1,4 @@
+use Rattle.ubik_node.proofs.Alike.{alike_shows, none_free}
 use Rattle.std.proofs.Common.{◌∙◌, refl, sym}
 use Rattle.std.proofs.lemmas.List.{append-nil}
 use Rattle.ubik_node.specs.Choices.{none_chosen}
@@ -13,3 +14,11 @@ returns-in_default-clause-ends g c =
 
 pub returns-clause-ends : goal.returns-clause-ends
 returns-clause-ends g c = rw (placed _ _ _ c.index.ensures.found c.index.ensures.only ∙ c.in-Some.is) c.heard.ensures.ends
+
+pub returns-in_default-clause-alike : goal.returns-in_default-clause-alike
+returns-in_default-clause-alike g c =
+    rw (placed _ _ _ c.index.ensures.found c.index.ensures.only ∙ c.in_default.is)
+    (λ needs. (none_free g.V.DraftService.standing.database, alike_shows (record { server = refl; calls = refl; outputs = sym (append-nil c.args.out.now) })))
+
+pub returns-clause-alike : goal.returns-clause-alike
+returns-clause-alike g c = rw (placed _ _ _ c.index.ensures.found c.index.ensures.only ∙ c.in-Some.is) c.heard.ensures.alike

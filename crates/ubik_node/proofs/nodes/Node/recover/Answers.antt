@@ -1,3 +1,5 @@
+use Rattle.ubik_node.specs.Alike.{AlikeSo, Frees, free_dbs}
+use Rattle.ubik_node.proofs.Alike.{alike_behind, alike_same, no_turn, on_made}
 use Rattle.std.proofs.Common.{◌∙◌, IsSome, refl, ap}
 use Rattle.ubik_types.specs.declared.versions.Version.{Version}
 use Rattle.cell_model.specs.Durable.{durable}
@@ -11,8 +13,8 @@ use Rattle.ubik_node.proofs.Endings.{behind_ends, handed_ends, same_ends}
 use Rattle.ubik_node.proofs.Fronts.{short_back}
 use Rattle.ubik_node.proofs.nodes.Node.recover.Goals as goal
 
-pub returns-in_err-act : goal.returns-in_err-act
-returns-in_err-act g c =
+pub returns-in_err-act-clause-ends : goal.returns-in_err-act-clause-ends
+returns-in_err-act-clause-ends g c =
     let n = c.args.self.now in
     let err = c.in_err-act.ensures.err in
     let last = c.recovery_turn.new.state in (
@@ -21,8 +23,8 @@ returns-in_err-act g c =
           (short_back g.D.Disk (held n) (server_of last) (member_of last) c.args.self.now.stored c.requires.not_halted (ap (λ (st : State). server_of st) err) (ap (λ (st : State). member_of st) err)),
     )
 
-pub returns : goal.returns
-returns g c =
+pub returns-clause-ends : goal.returns-clause-ends
+returns-clause-ends g c =
     let n = c.args.self.now in
     let st = n.state in
     let mid = c.recovery_turn.new.state in
@@ -40,3 +42,14 @@ returns g c =
           (fails_so act c.perform.result _ c.perform.ensures.fine says.leaves.halts)
           (stays_so act c.perform.result _ c.perform.ensures.memory says.leaves.stays) made.1)),
     )
+
+pub returns-clause-alike : goal.returns-clause-alike
+returns-clause-alike g c =
+    let says = c.in_ok-act.ensures in
+    let db = g.V.DraftService.standing.database in
+    let act = c.in_ok-act.act in
+    let mid = c.recovery_turn.new.state in
+    on_made c.perform.result (c.perform.ensures.alike (no_turn act (server_of mid).waiting (IsSome (g.D.Disk.files c.args.self.now.store.disk)) says.need))
+    (λ (so : AlikeSo (λ (free : Frees). stepped_by (free_dbs db free) (member_of mid) c.args.now free.short (server_of mid) act) (server_of c.perform.new.self.state) c.recovery_turn.new.out c.perform.new.out).
+    let goes = says.step (free_dbs db so.0) so.0.short in
+    alike_same goes.step (alike_behind goes.shown goes.outputs so.1))

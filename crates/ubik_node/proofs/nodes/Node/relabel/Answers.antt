@@ -1,4 +1,6 @@
-use Rattle.std.proofs.Common.{◌≡◌, ◌<◌, ◌∷◌, ◌∙◌, ℕ, true, List, [], refl, sym, ap, subst}
+use Rattle.ubik_node.specs.Alike.{blank}
+use Rattle.ubik_node.proofs.Alike.{piece_long, relabel_alike}
+use Rattle.std.proofs.Common.{◌≡◌, ◌<◌, ◌∷◌, ◌∙◌, ℕ, true, List, [], refl, sym, ap, subst, min, ◌-◌}
 use Rattle.std.specs.Result.{is_err}
 use Rattle.std.proofs.lemmas.Bool.{false≢true}
 use Rattle.ubik_types.specs.declared.versions.Version.{Version}
@@ -19,20 +21,20 @@ use Rattle.ubik_node.proofs.Relabelled.{piece_known, relabel_outputs, settled_ca
 use Rattle.server_state.proofs.Plain.{own_version}
 use Rattle.ubik_node.proofs.nodes.Node.relabel.Goals as goal
 
-pub returns-in_err-piece : goal.returns-in_err-piece
-returns-in_err-piece g c =
+pub returns-in_err-piece-clause-ends : goal.returns-in_err-piece-clause-ends
+returns-in_err-piece-clause-ends g c =
     handed_ends g.D.Disk c.from_residual.result c.in_err-piece.field-0.0 c.from_residual.ensures.1
     (unread_ends g.D.Disk (held c.args.self.now) c.first_piece.new.store c.first_piece.result c.in_err-piece.field-0.0 c.in_err-piece.was c.first_piece.ensures.fault c.args.self.now.stored c.requires.not_halted c.first_piece.ensures.same
     c.first_piece.ensures.failed c.first_piece.ensures.disk)
 
-pub returns-in_err-give : goal.returns-in_err-give
-returns-in_err-give g c =
+pub returns-in_err-give-clause-ends : goal.returns-in_err-give-clause-ends
+returns-in_err-give-clause-ends g c =
     let went = λ (failed : _). false≢true (ap is_err failed) in
     handed_ends g.D.Disk c.from_residual-in_err-give.result _ c.from_residual-in_err-give.ensures.1
     (short_ends_read g.D.Disk (held c.args.self.now) c.first_piece.new.store c.args.self.now.stored c.requires.not_halted (c.in_ok-piece.ensures.same went) c.in_ok-piece.ensures.disk went)
 
-pub returns-in_err-relabel : goal.returns-in_err-relabel
-returns-in_err-relabel g c =
+pub returns-in_err-relabel-clause-ends : goal.returns-in_err-relabel-clause-ends
+returns-in_err-relabel-clause-ends g c =
     let n = c.args.self.now in
     let st = n.state in
     let m = member_of st in
@@ -46,8 +48,8 @@ returns-in_err-relabel g c =
     (subst (λ (w : Version). version_lt w v ≡ true) (sym (stays.version ∙ c.args.self.now.stored.version c.requires.not_halted)) c.requires.may.newer) (λ bytes long. absurd long)
     (c.in_err-relabel.ensures.durable (stays.failed ∙ c.requires.not_halted)))
 
-pub returns : goal.returns
-returns g c =
+pub returns-clause-ends : goal.returns-clause-ends
+returns-clause-ends g c =
     let n = c.args.self.now in
     let st = n.state in
     let m = member_of st in
@@ -80,3 +82,24 @@ give-requires-clause-few g c = c.requires.few
 
 pub give-requires-clause-plain : goal.give-requires-clause-plain
 give-requires-clause-plain g c = record { old = own_version c.args.self.now.state; new = c.requires.may.version; piece = c.in_ok-piece.ensures.short }
+
+pub returns-clause-alike : goal.returns-clause-alike
+returns-clause-alike g c =
+    let n = c.args.self.now in
+    let st = n.state in
+    let m = member_of st in
+    let poll = polled_of c.args.next in
+    let before = c.begin_sending.new.self in
+    let last = c.settle.new.self in
+    let after : Server = (relabelled_to m (server_of st) poll c.args.new).server in
+    let sends : server_of before ≡ after = c.begin_sending.ensures.after in
+    let shows : ShowsBehind (settled m after) (server_of last) c.give.new.out c.settle.new.out =
+    subst (λ (x : Server). ShowsBehind (settled m x) (server_of last) c.give.new.out c.settle.new.out) sends
+    (subst (λ (x : Member). ShowsBehind (settled x (server_of before)) (server_of last) c.give.new.out c.settle.new.out) c.begin_sending.ensures.place c.settle.ensures.shows) in
+    record {
+      server = ap blank shows.server;
+      outputs =
+          relabel_alike m poll st.version after c.poll.result c.len-2.result c.in_ok-piece.piece c.args.out.now c.give.new.out c.settle.new.out (settled m after).shown st.place c.poll.ensures c.len-2.ensures
+          (λ more. c.in_ok-piece.ensures.len (subst (λ (k : ℕ). 1 < k) (sym c.len.ensures.len) more) ∙ ap (λ (k : ℕ). min 8192 (k - 0)) (c.args.self.now.stored.len c.requires.not_halted) ∙ sym (piece_long st.image 0))
+          c.in_ok-give.ensures.given shows.outputs;
+    }

@@ -1,3 +1,5 @@
+use Rattle.ubik_node.specs.Alike.{AlikeSo, Frees, NeedsTurn, StepsAlike, free_dbs}
+use Rattle.ubik_node.proofs.Alike.{alike_behind, closed_alike, on_made}
 use Rattle.std.proofs.Common.{◌≡◌, ◌∙◌, ◌++◌, [], List, refl, sym, ap, subst}
 use Rattle.cell_model.specs.Durable.{durable}
 use Rattle.ubik_types.specs.declared.versions.Version.{Version}
@@ -13,7 +15,7 @@ use Rattle.ubik_node.specs.Node.{HoldsStates, Needs, StepsFreely, durable_in, he
 use Rattle.server_state.specs.State.{member_of, server_of}
 use Rattle.ubik_node.proofs.Closing.{closed, closed_memory, closed_step, err_map}
 use Rattle.ubik_node.proofs.Endings.{behind_ends}
-use Rattle.ubik_node.proofs.Lapsed.{needs_lapsed}
+use Rattle.ubik_node.proofs.Lapsed.{needs_lapsed, turn_lapsed}
 use Rattle.ubik_node.proofs.Rested.{back_keeps, back_same, short_behind, step_comes}
 use Rattle.ubik_node.proofs.Stepping.{steps_at, steps_keep, steps_meant, up_if}
 use Rattle.ubik_node.proofs.nodes.Node.step_up.Goals as goal
@@ -57,6 +59,15 @@ returns g c =
       step = step;
       meant = meant;
       keeps = λ needs brings holds. steps_keep g.D.Disk d keeps (member_of st) c.end.result e now (node_of n) (node_of c.end.new.self) c.end.new.out n.store.disk c.end.new.self.store.disk holds brings (meant needs holds);
+      alike = λ needs.
+          subst (λ (x : model.Node). StepsAlike d.database (member_of st) c.end.result e now x (node_of c.end.new.self) c.end.new.out) (sym up)
+          (closed_alike g.D.Disk d.database (member_of st) (server_of st) e now shown (λ (free : Frees). let u = handled (free_dbs d.database free) (member_of mid) (server_of mid) now e free.short in record { server = u.server; calls = u.calls; shown = shown ++ u.shown })
+          first (held later) (held c.end.new.self) c.handle-end.new.out c.end.new.out back c.end.result
+          (λ free. step_comes (free_dbs d.database free) (member_of st) (server_of st) (server_of mid) now e free.short shows.server shows.calls ∙ ap (λ (k : Member). let u = handled (free_dbs d.database free) k (server_of mid) now e free.short in record { server = u.server; calls = u.calls; shown = shown ++ u.shown }) (sym kept.member))
+          c.handle-end.result ends
+          (on_made c.handle-end.result (c.handle-end.ensures.alike (turn_lapsed d.database (member_of st) (member_of mid) (server_of st) (server_of mid) e now (g.D.Disk.files n.store.disk) shows.server kept.member (subst (λ (x : model.Node). NeedsTurn d.database (member_of st) x e now (g.D.Disk.files n.store.disk)) up needs)))
+          (λ (made : AlikeSo (λ (free : Frees). handled (free_dbs d.database free) (member_of mid) (server_of mid) now e free.short) (server_of later.state) c.lapse-given.new.out c.handle-end.new.out). (made.0, alike_behind {before = []} shown empty made.1)))
+          returns (λ failed. back_keeps c.lapse-given.result later.state mid (ends.keeps failed) ∙ sym (ap model.halted_from c.lapse-given.ensures.back)) c.end.ensures);
       member = so.member ∙ kept.member;
       memory = λ none. closed_memory e (held later) (held c.end.new.self) c.handle-end.new.out c.end.new.out back c.end.result c.handle-end.result (c.handle-end.ensures.memory none) c.end.ensures;
       halts = so.halts;

@@ -21,6 +21,7 @@ loop-self-init g c =
       not_halted = c.requires.not_halted;
       few = λ free. omega (arith, c.requires.few, st.written.room);
       nobody = λ none. none;
+      still = λ none. (refl, refl);
       goes = λ free after new r fine ends. ends;
       over = λ busy. (
         none_chosen g.V.DraftService.standing,
@@ -56,6 +57,7 @@ loop-self-preserved g c =
           let replied = made.rests several_now ready in
           omega (arith, inv.few free, replied.few, c.write_turn.ensures.line, ap length line, ap (λ (s : Server). length s.waiting) c.next_asked.ensures.after);
       nobody = λ none. let nobody : waiting_of st.writes ≡ [] = inv.nobody none in absurd cc;
+      still = λ none. let nobody : waiting_of st.writes ≡ [] = inv.nobody none in absurd cc;
       goes = λ ready after new r fine later.
           let replied = made.rests several_now ready in
           let o = chosen_first d turn.0 later.0 in
@@ -125,3 +127,13 @@ returns-in_default-clause-ends g c =
 
 pub returns-clause-ends : goal.returns-clause-ends
 returns-clause-ends g c = c.loop-self.invariant.over (sym c.is_free.ensures ∙ c.loop-self-test.false)
+
+pub returns-in_default-clause-still : goal.returns-in_default-clause-still
+returns-in_default-clause-still g c = λ none.
+    let st = c.loop-self.self.state in
+    let still = c.loop-self.invariant.still none in
+    let nobody : waiting_of st.writes ≡ [] = c.loop-self.invariant.nobody none in (
+      c.next_asked.ensures.after ∙ ap (λ (line : List Waiting). record (server_of st) { waiting = drop 1 line }) nobody
+          ∙ ap (λ (line : List Waiting). record (server_of st) { waiting = line }) (sym nobody) ∙ still.0,
+      still.1,
+    )

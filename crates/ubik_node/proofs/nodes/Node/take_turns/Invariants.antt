@@ -17,6 +17,7 @@ invariant-loop-self g l =
       not_halted : l.self.store.failed ≡ false;
       few : is_free (up_server l.self) ≡ true → length l.out + length (waiting_of l.self.state.writes) ≤ 166;
       nobody : waiting_of l.fn.self.state.writes ≡ [] → waiting_of l.self.state.writes ≡ [];
+      still : waiting_of l.fn.self.state.writes ≡ [] → (up_server l.self ≡ up_server l.fn.self) × (l.out ≡ l.fn.out);
       goes : is_free (up_server l.self) ≡ true → (after : List Output) (new : Held g.row.D.Denot) (r : Result (Unit {0}) StoreFault) → IsErrOf r DiskFault ⊎ IsOk r
           → EndsSo g.D.Disk d (IsSome (g.D.Disk.files l.self.store.disk)) (λ (o : Choices d). next_turns (dbs_of o) (own_member l.self) l.now (up_server l.self).waiting (up_server l.self) o.short) l.out after (held l.self) new r
           → last after new r;

@@ -1,3 +1,7 @@
+use Rattle.ubik_store.specs.Redo.{len_after}
+use Rattle.ubik_store.proofs.Redone.{length-effect}
+use Rattle.ubik_node.specs.Alike.{blank, blank_outputs}
+use Rattle.ubik_node.proofs.Alike.{blank_database}
 use Rattle.std.proofs.Common.{◌≡◌, ◌∙◌, ◌++◌, ℕ, List, None, Err, IsErrOf, length, refl, sym, ap, subst}
 use Rattle.ubik_types.specs.declared.images.Change.{Change}
 use Rattle.ubik_types.specs.Image.{effect}
@@ -15,11 +19,11 @@ use Rattle.server_state.specs.State.{member_of, server_of}
 use Rattle.ubik_node.proofs.Begun.{commit_ended}
 use Rattle.ubik_node.proofs.Calling.{call_failed, call_made, ended}
 use Rattle.ubik_node.proofs.Endings.{handed_ends, ok_not, reads_none}
-use Rattle.ubik_node.proofs.HeldImages.{held_after}
+use Rattle.ubik_node.proofs.HeldImages.{held_after, held_length}
 use Rattle.ubik_node.proofs.nodes.Node.take_write.Goals as goal
 
-pub returns-in_err-commit_all : goal.returns-in_err-commit_all
-returns-in_err-commit_all g c =
+pub returns-in_err-commit_all-clause-ends : goal.returns-in_err-commit_all-clause-ends
+returns-in_err-commit_all-clause-ends g c =
     let n = c.args.self.now in
     let st = n.state in
     let v = c.args.new in
@@ -36,8 +40,8 @@ returns-in_err-commit_all g c =
     newer (λ bytes long. absurd long)
     (subst (λ (cs : List Change). IsDurable g.D.Disk cs v n.store later (IsErrOf (ended e) DiskFault)) same c.in_err-commit_all.ensures.durable))
 
-pub returns : goal.returns
-returns g c =
+pub returns-clause-ends : goal.returns-clause-ends
+returns-clause-ends g c =
     let n = c.args.self.now in
     let st = n.state in
     let v = c.args.new in
@@ -54,3 +58,20 @@ returns g c =
           ∙ ap (λ (bytes : List ℕ). with_database (server_of st) v bytes) (c.of.ensures ∙ held_after (g.D.Disk.files n.store.disk) (g.D.Disk.files later.disk) later.len kept st.image (effect st.image kept) told (c.args.self.now.stored.image c.requires.not_halted) done.image refl)),
       c.send.ensures.sent ∙ ap (λ (m : Member). c.args.out.now ++ outputs_of (sends_to m c.args.to (body.VersionKept v))) c.take_over.ensures.place,
     ))
+
+pub returns-clause-alike : goal.returns-clause-alike
+returns-clause-alike g c =
+    let n = c.args.self.now in
+    let st = n.state in
+    let v = c.args.new in
+    let later = c.commit_all.new.store in
+    let kept = logged (length st.image) c.args.changes.now in
+    let same : logged n.store.len c.as_slice.result.now ≡ kept = ap (λ (cs : List Change). logged n.store.len cs) c.as_slice.ensures ∙ ap (λ (k : ℕ). logged k c.args.changes.now) (c.args.self.now.stored.len c.requires.not_halted) in
+    let done : Commits g.D.Disk kept v n.store later = subst (λ (cs : List Change). Commits g.D.Disk cs v n.store later) same c.in_ok-commit_all.ensures.done in
+    let long : length (effect st.image kept) ≡ length c.of.result =
+    length-effect st.image kept ∙ ap (λ (k : ℕ). len_after k kept) (sym (c.args.self.now.stored.len c.requires.not_halted)) ∙ sym done.len
+    ∙ sym (ap length c.of.ensures ∙ held_length g.D.Disk later (c.commit_all.ensures.sound.ready done.failed)) in
+    record {
+      server = blank_database (server_of st) v (effect st.image kept) c.of.result long ∙ ap blank (sym c.take_over.ensures.after);
+      outputs = ap blank_outputs (c.send.ensures.sent ∙ ap (λ (m : Member). c.args.out.now ++ outputs_of (sends_to m c.args.to (body.VersionKept v))) c.take_over.ensures.place);
+    }

@@ -1,0 +1,338 @@
+-- Steps but for the bytes of images.
+use Rattle.std.proofs.Common.{◌≡◌, ◌≤◌, ◌<◌, ◌-◌, ◌+◌, ◌++◌, ◌==◌, ℕ, zero, suc, Bool, true, false, cond, ltb, Option, Some, None, List, [], ◌∷◌, length, map, min, take, drop, replicate, Result, Ok, Err, OnOk, IfErr, IsErrOf, ⊎_elim, inl, inr, ◌≢◌, refl, sym, ap, subst, ◌∙◌, append_assoc, arith, length-take, length-drop}
+use Rattle.std.proofs.lemmas.Bool.{cond_both}
+use Rattle.std.proofs.lemmas.Bool.Decides.{nat_tests}
+use Rattle.std.proofs.lemmas.List.{append-nil, map-append}
+use Rattle.ubik_types.specs.declared.hosts.Host.{Host}
+use Rattle.ubik_types.specs.declared.versions.Version.{Version}
+use Rattle.ubik_types.specs.Phase.{Polled, Spread, PhaseRecord, NoPhase, Poll, Fetch, Relabel, Send, Ready}
+use Rattle.ubik_types.specs.Quorum.{is_majority}
+use Rattle.ubik_types.specs.Version.{version_eq}
+use Rattle.ubik_calls.specs.declared.packets.Body.{Body}
+use Rattle.ubik_calls.specs.declared.packets.Body.TheVariants as body
+use Rattle.disk_base.specs.declared.disks.Disk.{Ghosts}
+use Rattle.db_image.specs.Database.{Database}
+use Rattle.db_image.specs.Standing.{Standing}
+use Rattle.cell_model.specs.declared.events.Output.{Output}
+use Rattle.cell_model.specs.declared.events.Output.TheVariants as output
+use Rattle.cell_model.specs.Evaluating.{Databases, outcome_told, told_at}
+use Rattle.cell_model.specs.Node.{Flight, Server, Waiting}
+use Rattle.cell_model.specs.Pieces.{piece_from}
+use Rattle.cell_model.specs.Polls.{entry_at}
+use Rattle.cell_model.specs.Recovery.{spread_answer}
+use Rattle.cell_model.specs.Step.{Evaluation, Member, Shown, Stepped, announcing, cell_size, outputs_of, packet_to, quiet, sends_from, sends_to, sends_to_each, sent, short_after, showing, with_database, with_phase}
+use Rattle.cell_model.specs.Writes.{ended_write, flight_settled, next_turns, settled, settled_in, settled_with_turns}
+use Rattle.server_state.specs.Spreading.{given_bodies}
+use Rattle.server_state.specs.State.{ShowsBehind}
+use Rattle.ubik_node.specs.Alike.{ActNeedsTurn, AlikeSo, Frees, IsAlike, NeedsHolder, NobodyOr, ReadsAlike, StepsAlike, blank, blank_body, blank_output, blank_outputs, blanked, free_dbs}
+use Rattle.ubik_node.specs.Choices.{Choices}
+use Rattle.ubik_node.specs.Node.{Closes, Ends, Held, IsMade}
+use Rattle.ubik_node.specs.Serving.{IsReadReply}
+use Rattle.ubik_node.specs.declared.evaluations.Evaluation as code
+use Rattle.ubik_node.specs.declared.nodes.StepEnd.{StepEnd}
+use Rattle.ubik_node.specs.declared.nodes.StepEnd.TheVariants.{Done, Halted, NoMemory}
+use Rattle.ubik_store.specs.declared.faults.StoreFault.{StoreFault}
+use Rattle.ubik_store.specs.declared.faults.StoreFault.TheVariants as fault
+use Rattle.server_rules.specs.declared.acts.Act.{Act}
+use Rattle.server_rules.specs.declared.acts.Act.TheVariants as act
+use Rattle.server_rules.specs.Acts.{act_need, own_piece}
+use Rattle.server_rules.specs.Packets.{body_need}
+use Rattle.ubik_calls.specs.declared.replies.Reply.{Reply}
+use Rattle.cell_model.specs.declared.events.NodeEvent.{NodeEvent}
+use Rattle.cell_model.specs.Node as model
+use Rattle.cell_model.specs.NodeRule.{refusals, step_by}
+use Rattle.ubik_node.proofs.Closing.{node_at}
+use Rattle.ubik_node.proofs.Endings.{disk_or, fault_is, ok_not}
+use Rattle.ubik_node.proofs.Rested.{short_behind}
+use Rattle.ubik_node.proofs.Stepping.{halted_if, up_if}
+use Rattle.ubik_node.proofs.Relabelled.{alone_sends, given_as, relabel_outputs}
+
+-- ---- choices
+
+-- what a step chose is a free choice
+abbrev pub frees_of : {d : Standing} → Choices d → Frees
+frees_of {d} o = record { short = o.short; outcomes = λ k. outcome_told (told_at o.told k) d.database }
+
+-- nothing was chosen
+abbrev pub none_free : Database → Frees
+none_free db = record { short = []; outcomes = λ k. db.call }
+
+-- ---- steps that are known
+
+pub blanked_same : (a b : List ℕ) → length a ≡ length b → blanked a ≡ blanked b
+blanked_same a b same = ap (λ (n : ℕ). replicate {A = ℕ} n 0) same
+
+pub alike_shows : {t : Stepped} {after : Server} {before out : List Output} → ShowsBehind t after before out → IsAlike t after before out
+alike_shows shows = record { server = ap blank shows.server; outputs = ap blank_outputs shows.outputs }
+
+pub alike_made : {D : Type 0} (g : Ghosts D) {t : Stepped} {before out : List Output} {n m : Held D} → IsMade g t before out n m → IsAlike t m.server before out
+alike_made g made = record { server = ap blank made.server; outputs = ap blank_outputs made.outputs }
+
+pub alike_same : {t u : Stepped} {after : Server} {before out : List Output} → t ≡ u → IsAlike u after before out → IsAlike t after before out
+alike_same {t} {u} {after} {before} {out} is alike = record {
+  server = ap (λ (x : Stepped). blank x.server) is ∙ alike.server;
+  outputs = alike.outputs ∙ ap (λ (x : Stepped). blank_outputs (before ++ outputs_of x.shown)) (sym is);
+}
+
+-- behind what else is shown first
+pub alike_behind : {t : Stepped} {after : Server} {before mid out : List Output} (shown : List Shown) → mid ≡ before ++ outputs_of shown → IsAlike t after mid out
+    → IsAlike (record { server = t.server; calls = t.calls; shown = shown ++ t.shown }) after before out
+alike_behind {t} {after} {before} {mid} {out} shown is alike = record {
+  server = alike.server;
+  outputs =
+      alike.outputs
+      ∙ ap blank_outputs (ap (λ (o : List Output). o ++ outputs_of t.shown) is ∙ append_assoc before (outputs_of shown) (outputs_of t.shown)
+      ∙ ap (λ (o : List Output). before ++ o) (sym (map-append (λ (one : Shown). one.output) shown t.shown)));
+}
+
+-- ---- another image of the same length
+
+pub blank_database : (s : Server) (v : Version) (a b : List ℕ) → length a ≡ length b → blank (with_database s v a) ≡ blank (with_database s v b)
+blank_database s v a b same = ap (λ (xs : List ℕ). record (blank (with_database s v a)) { image = xs }) (blanked_same a b same)
+
+pub blank_image : (s : Server) (a b : List ℕ) → length a ≡ length b → blank (record s { image = a }) ≡ blank (record s { image = b })
+blank_image s a b same = ap (λ (xs : List ℕ). record (blank s) { image = xs }) (blanked_same a b same)
+
+-- what holders lead to is told of no byte of the image
+pub settled_alike : (m : Member) (s : Server) (a b : List ℕ) → length a ≡ length b
+    → (let t = settled m (record s { image = a }) in let u = settled m (record s { image = b }) in
+    (blank t.server ≡ blank u.server) × (t.shown ≡ u.shown))
+settled_alike m s a b same = by s.phase
+  where
+    both : (c : Bool) (t u x y : Stepped) → (blank t.server ≡ blank u.server) × (t.shown ≡ u.shown) → (blank x.server ≡ blank y.server) × (x.shown ≡ y.shown)
+        → (blank (cond c t x).server ≡ blank (cond c u y).server) × ((cond c t x).shown ≡ (cond c u y).shown)
+    both true t u x y first second = first
+    both false t u x y first second = second
+
+    over : (poll : Polled) (spread : Spread) (announced : Version) (f : Option Flight)
+        → (let t = flight_settled m (record s { image = a }) poll spread announced f in let u = flight_settled m (record s { image = b }) poll spread announced f in
+        (blank t.server ≡ blank u.server) × (t.shown ≡ u.shown))
+    over poll spread announced None = (blank_image s a b same, refl)
+    over poll spread announced (Some f) =
+        both (is_majority (cell_size m) spread.holders) (ended_write (record s { image = a }) f poll spread announced) (ended_write (record s { image = b }) f poll spread announced)
+        (quiet (record s { image = a })) (quiet (record s { image = b })) (blank_image (ended_write s f poll spread announced).server a b same, refl) (blank_image s a b same, refl)
+
+    by : (p : PhaseRecord)
+        → (let t = settled_in m (record s { image = a }) p in let u = settled_in m (record s { image = b }) p in
+        (blank t.server ≡ blank u.server) × (t.shown ≡ u.shown))
+    by (Send poll spread) =
+        let ready : Server → Stepped = λ x. showing (with_phase x (Ready poll spread x.version)) (announcing x.version ∷ []) in
+        both (is_majority (cell_size m) spread.holders) (ready (record s { image = a })) (ready (record s { image = b }))
+        (quiet (record s { image = a })) (quiet (record s { image = b })) (blank_image (ready s).server a b same, refl) (blank_image s a b same, refl)
+    by (Ready poll spread announced) = over poll spread announced s.flight
+    by other = (blank_image s a b same, refl)
+
+-- ---- pieces
+
+-- how long a piece of an image is
+pub piece_long : (image : List ℕ) (at : ℕ) → length (piece_from image at) ≡ min 8192 (length image - at)
+piece_long image at = length-take 8192 (drop at image) ∙ ap (min 8192) (length-drop at image)
+
+abbrev sending : Member → Host → Body → Shown
+sending m host b = sent (packet_to m host b)
+
+-- packets to one host
+heads : (m : Member) (host : Host) (xs : List Body) → blank_outputs (outputs_of (map (sending m host) xs)) ≡ map (λ (b : Body). output.Send (packet_to m host b)) (map blank_body xs)
+heads m host [] = refl
+heads m host (x ∷ xs) = ap (λ (rest : List Output). output.Send (packet_to m host (blank_body x)) ∷ rest) (heads m host xs)
+
+split : (xs ys : List Shown) → blank_outputs (outputs_of (xs ++ ys)) ≡ blank_outputs (outputs_of xs) ++ blank_outputs (outputs_of ys)
+split xs ys = ap blank_outputs (map-append (λ (one : Shown). one.output) xs ys) ∙ map-append blank_output (outputs_of xs) (outputs_of ys)
+
+-- to each host
+sends_blank : (m : Member) (k : ℕ) (hosts : List Host) (a b : ℕ → List Body) → ((k : ℕ) → map blank_body (a k) ≡ map blank_body (b k))
+    → blank_outputs (outputs_of (sends_from m k hosts a)) ≡ blank_outputs (outputs_of (sends_from m k hosts b))
+sends_blank m k [] a b same = refl
+sends_blank m k (host ∷ hosts) a b same =
+    let at : (ℕ → List Body) → List Shown = λ c. cond (k == m.me) [] (map (sending m host) (c k)) in
+    split (at a) (sends_from m (k + 1) hosts a)
+    ∙ ap (λ (o : List Output). o ++ blank_outputs (outputs_of (sends_from m (k + 1) hosts a))) (first (k == m.me))
+    ∙ ap (λ (o : List Output). blank_outputs (outputs_of (at b)) ++ o) (sends_blank m (k + 1) hosts a b same)
+    ∙ sym (split (at b) (sends_from m (k + 1) hosts b))
+  where
+    first : (c : Bool) → blank_outputs (outputs_of (cond c [] (map (sending m host) (a k)))) ≡ blank_outputs (outputs_of (cond c [] (map (sending m host) (b k))))
+    first true = refl
+    first false = heads m host (a k) ∙ ap (map (λ (x : Body). output.Send (packet_to m host x))) (same k) ∙ sym (heads m host (b k))
+
+-- what a relabelling gives out, with a piece of the same length
+given_blank : (number : ℕ) (old new : Version) (total : ℕ) (p q : List ℕ) → length p ≡ length q → (answer : Option Version)
+    → map blank_body (given_bodies (given_as number old new total p) answer) ≡ map blank_body (given_bodies (given_as number old new total q) answer)
+given_blank number old new total p q same None = refl
+given_blank number old new total p q same (Some v) = by (version_eq v old)
+  where
+    by : (c : Bool) → map blank_body (cond c (body.SetVersion number old new) (body.SendPiece number new total 0 p) ∷ []) ≡ map blank_body (cond c (body.SetVersion number old new) (body.SendPiece number new total 0 q) ∷ [])
+    by true = refl
+    by false = ap (λ (xs : List ℕ). body.SendPiece number new total 0 xs ∷ []) (blanked_same p q same)
+
+-- what a relabelling puts out, with a piece of the length that the image has
+pub relabel_alike : (m : Member) (poll : Polled) (old : Version) (after : Server) (number total : ℕ) (piece : List ℕ) (first mid last : List Output) (rest : List Shown) → m.me < length m.hosts → number ≡ poll.number
+    → total ≡ length after.image → (1 < length m.hosts → length piece ≡ length (piece_from after.image 0))
+    → mid ≡ first ++ outputs_of (sends_to_each m (λ k. given_bodies (given_as number old after.version total piece) (entry_at poll.answers k))) → last ≡ mid ++ outputs_of rest
+    → blank_outputs last ≡ blank_outputs (first ++ outputs_of (sends_to_each m (λ k. spread_answer after poll old (entry_at poll.answers k)) ++ rest))
+relabel_alike m poll old after number total piece first mid last rest inside same long starts given then =
+    let own = piece_from after.image 0 in
+    let gives : List ℕ → List Output = λ p. outputs_of (sends_to_each m (λ k. given_bodies (given_as number old after.version total p) (entry_at poll.answers k))) in
+    let all : List Output → List Output = λ o. blank_outputs first ++ (o ++ blank_outputs (outputs_of rest)) in
+    let parts : (o : List Output) → blank_outputs ((first ++ o) ++ outputs_of rest) ≡ all (blank_outputs o) = λ o.
+    ap blank_outputs (append_assoc first o (outputs_of rest)) ∙ map-append blank_output first (o ++ outputs_of rest)
+    ∙ ap (λ (x : List Output). blank_outputs first ++ x) (map-append blank_output o (outputs_of rest)) in
+    ap blank_outputs (then ∙ ap (λ (o : List Output). o ++ outputs_of rest) given)
+    ∙ parts (gives piece) ∙ ap all (by (ltb 1 (length m.hosts)) refl) ∙ sym (parts (gives own))
+    ∙ ap blank_outputs (relabel_outputs m poll old after number total own first (first ++ gives own) ((first ++ gives own) ++ outputs_of rest) rest inside same long (λ more. refl) refl refl)
+  where
+    by : (b : Bool) → ltb 1 (length m.hosts) ≡ b
+        → blank_outputs (outputs_of (sends_to_each m (λ k. given_bodies (given_as number old after.version total piece) (entry_at poll.answers k))))
+        ≡ blank_outputs (outputs_of (sends_to_each m (λ k. given_bodies (given_as number old after.version total (piece_from after.image 0)) (entry_at poll.answers k))))
+    by true more =
+        sends_blank m 0 m.hosts (λ k. given_bodies (given_as number old after.version total piece) (entry_at poll.answers k))
+        (λ k. given_bodies (given_as number old after.version total (piece_from after.image 0)) (entry_at poll.answers k))
+        (λ k. given_blank number old after.version total piece (piece_from after.image 0) (starts (grind (arith, nat_tests))) (entry_at poll.answers k))
+    by false few =
+        ap (λ (shown : List Shown). blank_outputs (outputs_of shown)) (
+        alone_sends m (λ k. given_bodies (given_as number old after.version total piece) (entry_at poll.answers k)) (grind (arith, nat_tests)) inside
+        ∙ sym (alone_sends m (λ k. given_bodies (given_as number old after.version total (piece_from after.image 0)) (entry_at poll.answers k)) (grind (arith, nat_tests)) inside))
+
+-- ---- acts
+
+-- a packet with other bytes
+pub send_alike : (m : Member) (to : Host) (b c : Body) (before : List Output) → blank_body b ≡ blank_body c
+    → blank_outputs (before ++ outputs_of (sends_to m to b)) ≡ blank_outputs (before ++ outputs_of (sends_to m to c))
+send_alike m to b c before same =
+    map-append blank_output before (outputs_of (sends_to m to b))
+    ∙ ap (λ (x : Body). blank_outputs before ++ output.Send (packet_to m to x) ∷ []) same
+    ∙ sym (map-append blank_output before (outputs_of (sends_to m to c)))
+
+pub piece_alike : (s : Server) (poll at : ℕ) (asked : Bool) (bytes : List ℕ) → length bytes ≡ length (piece_from s.image at)
+    → blank_body (cond asked (body.Piece poll s.version (length s.image) at bytes) (body.SendPiece poll s.version (length s.image) at bytes)) ≡ blank_body (own_piece s poll at asked)
+piece_alike s poll at true bytes same = ap (λ (xs : List ℕ). body.Piece poll s.version (length s.image) at xs) (blanked_same bytes (piece_from s.image at) same)
+piece_alike s poll at false bytes same = ap (λ (xs : List ℕ). body.SendPiece poll s.version (length s.image) at xs) (blanked_same bytes (piece_from s.image at) same)
+
+-- a rule without an evaluation
+pub free_alike : (db : Database) {t : Stepped} {after : Server} {before out : List Output} → IsAlike t after before out → AlikeSo (λ _. t) after before out
+free_alike db alike = (none_free db, alike)
+
+-- a rule that was made, with what was chosen in it
+pub made_so : {D : Type 0} (g : Ghosts D) {d : Standing} (t : Frees → Stepped) {knows : Type 0} {before out : List Output} {n m : Held D} (r : Result (Unit {0}) StoreFault) (o : Choices d) → Ends g knows (t (frees_of o)) before out n m r → knows
+    → OnOk r (AlikeSo t m.server before out)
+made_so g t (Ok x) o ends known = (frees_of o, alike_made g (ends.made known))
+made_so g t (Err e) o ends known = tt
+
+-- a rule that shows nothing, behind what stands there
+pub quiet_alike : {t : Stepped} {after : Server} (out : List Output) → IsAlike t after [] [] → IsAlike t after out out
+quiet_alike {t} out alike = record {
+  server = alike.server;
+  outputs =
+      ap blank_outputs (sym (append-nil out)) ∙ map-append blank_output out [] ∙ ap (λ (o : List Output). blank_outputs out ++ o) alike.outputs
+      ∙ sym (map-append blank_output out (outputs_of t.shown));
+}
+
+-- what is alike where a rule was made, of another rule
+pub on_made : {P Q : Type 0} (r : Result (Unit {0}) StoreFault) → OnOk r P → (P → Q) → OnOk r Q
+on_made (Ok x) so map = map so
+on_made (Err e) so map = tt
+
+-- holders came, and no call waits
+none_turns : (dbs : Databases) (m : Member) (now : ℕ) (waiting : List Waiting) (s : Server) (short : List Bool) → waiting ≡ [] → next_turns dbs m now waiting s short ≡ quiet s
+none_turns dbs m now [] s short none = refl
+none_turns dbs m now (w ∷ waiting) s short none = absurd cc
+
+pub nobody_alike : (dbs : Databases) (m : Member) (s : Server) (now : ℕ) (short : List Bool) (mid after : Server) (before out last : List Output) → ShowsBehind (settled m s) mid before out
+    → (settled m s).server.waiting ≡ [] → after ≡ mid → last ≡ out → IsAlike (settled_with_turns dbs m s now short) after before last
+nobody_alike dbs m s now short mid after before out last shows none same still =
+    let t = settled m s in
+    let rest = next_turns dbs m now t.server.waiting t.server (short_after t.shown short) in
+    let is : rest ≡ quiet t.server = none_turns dbs m now t.server.waiting t.server (short_after t.shown short) none in
+    record {
+      server = ap (λ (u : Stepped). blank u.server) is ∙ ap blank (shows.server ∙ sym same);
+      outputs =
+          ap blank_outputs (still ∙ shows.outputs)
+          ∙ ap (λ (those : List Shown). blank_outputs (before ++ outputs_of those)) (sym (append-nil t.shown) ∙ ap (λ (u : Stepped). t.shown ++ u.shown) (sym is));
+    }
+
+-- only with packets of two kinds calls that wait may have their turns
+settles : (line later : List Waiting) (tells : Type 0) → later ≡ line → NobodyOr line tells → NobodyOr later tells
+settles line later tells same needs = ⊎_elim (λ none. inl (same ∙ none)) (λ told. inr told) needs
+
+pub holder_needs : (b : Body) (a : Act) (line later : List Waiting) (tells : Type 0) → act_need a ≤ body_need b → (2 < act_need a → later ≡ line) → NeedsHolder b line tells → ActNeedsTurn a later tells
+holder_needs (body.VersionIs poll version) act.Settle line later tells few same needs = settles line later tells (same (omega arith)) needs
+holder_needs (body.VersionKept version) act.Settle line later tells few same needs = settles line later tells (same (omega arith)) needs
+holder_needs (body.Beacon start claim ready version) act.Settle line later tells few same needs = absurd (omega (arith, few))
+holder_needs (body.Vote start granted) act.Settle line later tells few same needs = absurd (omega (arith, few))
+holder_needs (body.GetVersion poll) act.Settle line later tells few same needs = absurd (omega (arith, few))
+holder_needs (body.GetPiece poll version offset) act.Settle line later tells few same needs = absurd (omega (arith, few))
+holder_needs (body.Piece poll version total offset bytes) act.Settle line later tells few same needs = absurd (omega (arith, few))
+holder_needs (body.SendPiece poll version total offset bytes) act.Settle line later tells few same needs = absurd (omega (arith, few))
+holder_needs (body.PieceKept poll version next) act.Settle line later tells few same needs = absurd (omega (arith, few))
+holder_needs (body.SetVersion poll old new) act.Settle line later tells few same needs = absurd (omega (arith, few))
+holder_needs (body.Begin old new pieces len) act.Settle line later tells few same needs = absurd (omega (arith, few))
+holder_needs (body.PutPiece new number bytes) act.Settle line later tells few same needs = absurd (omega (arith, few))
+holder_needs (body.Commit old new) act.Settle line later tells few same needs = absurd (omega (arith, few))
+holder_needs (body.Abort new) act.Settle line later tells few same needs = absurd (omega (arith, few))
+holder_needs b act.Rest line later tells few same needs = tt
+holder_needs b (act.Send to x) line later tells few same needs = tt
+holder_needs b (act.SendPiece to poll at asked) line later tells few same needs = tt
+holder_needs b (act.TakeVersion to new) line later tells few same needs = tt
+holder_needs b (act.TakeWrite to new changes) line later tells few same needs = tt
+holder_needs b (act.EndText end source at bytes) line later tells few same needs = tt
+holder_needs b (act.Relabel next new) line later tells few same needs = tt
+
+-- nor in a recovery turn
+pub no_turn : (a : Act) (line : List Waiting) (tells : Type 0) → act_need a ≤ 1 → ActNeedsTurn a line tells
+no_turn act.Settle line tells few = absurd (omega (arith, few))
+no_turn act.Rest line tells few = tt
+no_turn (act.Send to x) line tells few = tt
+no_turn (act.SendPiece to poll at asked) line tells few = tt
+no_turn (act.TakeVersion to new) line tells few = tt
+no_turn (act.TakeWrite to new changes) line tells few = tt
+no_turn (act.EndText end source at bytes) line tells few = tt
+no_turn (act.Relabel next new) line tells few = tt
+
+-- ---- calls
+
+-- a call that reads was answered, or found no memory
+pub read_alike : (db : Database) (s : Server) (now id : ℕ) (call : List ℕ) (before out : List Output) (made : Result code.Evaluation StoreFault) (r : Result (Unit {0}) StoreFault)
+    → OnOk r ((told : Reply) × (out ≡ before ++ output.Reply id told ∷ []) × IsReadReply made told) → OnOk r (ReadsAlike db s now id call s before out)
+read_alike db s now id call before out made (Err e) replied = tt
+read_alike db s now id call before out (Ok e) (Ok x) replied = (
+  record { short = []; outcomes = λ k image moment bytes. record { reply = e.reply; image = image } },
+  λ image basis.
+      let on : Evaluation = record { call = call; moment = now; basis = basis } in
+      record { server = refl; outputs = ap blank_outputs (replied.1 ∙ ap (λ (o : Output). before ++ o ∷ []) (sym (replied.2 id on))) },
+)
+read_alike db s now id call before out (Err e) (Ok x) replied = (
+  record { short = true ∷ []; outcomes = λ k. db.call },
+  λ image basis. record { server = refl; outputs = ap blank_outputs (replied.1 ∙ ap (λ (r : Reply). before ++ output.Reply id r ∷ []) replied.2) },
+)
+
+-- ---- a step, from the end of its rule
+
+module _ {D : Type 0} (g : Ghosts D) (db : Database) (m : Member) (s : Server) (e : NodeEvent) (now : ℕ) (shown : List Shown) (t : Frees → Stepped)
+    (first mid last : Held D) (before after : List Output) (back : Server) (end : StepEnd)
+    (step : (free : Frees) → step_by (free_dbs db free) m s now e (short_behind shown free.short) ≡ t free) where
+  abbrev Alikes : StepEnd → Held D → List Output → Type 0
+  Alikes x h out = StepsAlike db m x e now (model.Up s) (node_at h) out
+
+  alikes_so : (x : StepEnd) (h : Held D) (out : List Output) → end ≡ x → last ≡ h → after ≡ out → Alikes x h out → Alikes end last after
+  alikes_so x h out ended same shows steps =
+      subst (λ (y : StepEnd). Alikes y last after) (sym ended) (subst (λ (k : Held D). Alikes x k after) (sym same) (subst (λ (o : List Output). Alikes x h o) (sym shows) steps))
+
+  pub closed_alike : {knows : Type 0} {u : Stepped} (r : Result (Unit {0}) StoreFault) → Ends g knows u [] before first mid r → OnOk r (AlikeSo t mid.server [] before)
+      → IfErr r (λ why. why ≢ fault.DiskFault → back ≡ s) → (IsErrOf r fault.DiskFault → model.halted_from back ≡ model.halted_from s)
+      → Closes r e back mid last before after end → Alikes end last after
+  closed_alike (Ok x) ends alike returns keeps closed =
+      alikes_so Done mid before closed.0 closed.1 closed.2 (
+        mid.server,
+        up_if mid.store.failed (model.halted_from mid.server) mid.server (ends.leaves.runs (λ is. ok_not x is)),
+        (record alike.0 { short = short_behind shown alike.0.short }, alike_same (step alike.0) alike.1),
+      )
+  closed_alike (Err why) ends alike returns keeps closed =
+      ⊎_elim (λ is.
+      let halts = closed.0 is in
+      alikes_so Halted (record mid { server = halts.1.0 }) (outputs_of (refusals e)) halts.0 halts.1.1 halts.2 (
+        halted_if mid.store.failed (model.halted_from halts.1.0) halts.1.0 (ends.leaves.halts (ap Err is)) ∙ ap model.Halted (halts.1.2 ∙ keeps (ap Err is)),
+        refl,
+      ))
+      (λ other.
+      let rests = closed.1 other in
+      alikes_so NoMemory (record mid { server = back }) [] rests.0 rests.1 rests.2
+      (up_if mid.store.failed (model.halted_from back) back (ends.leaves.runs (λ is. other (fault_is why is))) ∙ ap model.Up (returns other), refl)) (disk_or why)
