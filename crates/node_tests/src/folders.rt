@@ -1,19 +1,25 @@
-//! A server over the files of a folder that lie in memory too, which is opened anew behind each call.
+//! A server of the protection database over the files of a folder that lie in memory too, which is opened anew behind each call.
 ghost use Rattle.std.specs.Prelude.{IfOk};
 ghost use Rattle.disk_base.specs.Crash.{IsSettled, Only};
 ghost use Rattle.disk_base.specs.Mirrored.{mirrored_files, mirrored_may_leave};
 
-use crate::servers::{Server, ask, is_announcement, is_answer, opened, step, version};
+use crate::records::opened;
+use crate::servers::{ask, is_announcement, is_answer, step, version};
 use disk_base::{Disk, FileDisk, Mirrored, MostBytes, Refused};
+use pt_protection::PtService;
 use std::alloc::Global;
 use std::process::Abort;
 use std::test::Fail;
 use std::{env, fs, process};
-use ubik_node::{NodeEvent, StepEnd};
-use ubik_types::{Host, Phase, Version};
+use ubik_node::{Node, NodeEvent, StepEnd};
+use ubik_types::{Phase, Version};
 
-/// A cell of one server.
-const ALONE: [Host; 1] = [Host(1)];
+/// The calls `newentry smith 0 0`, `newentry jones 0 0` and `nametoid 2 smith jones`.
+const SMITH: &[u8] = b"\0\0\0\x01\0\0\0\x05smith\0\0\0\0\0\0\0\0\0\0\0";
+
+const JONES: &[u8] = b"\0\0\0\x01\0\0\0\x05jones\0\0\0\0\0\0\0\0\0\0\0";
+
+const BOTH: &[u8] = b"\0\0\0\x03\0\0\0\x02\0\0\0\x05smith\0\0\0\0\0\0\x05jones\0\0\0";
 
 /// More than any file of this test has.
 const AMPLE: MostBytes = MostBytes {
@@ -44,11 +50,16 @@ fn mirrored(rt: &HostRuntime, folder: &str) -> Result<Mirrored<FileDisk>, Fail>
 }
 
 /// The server of a disk once it leads its cell at a moment: it was opened 76 seconds before, and so may vote.
-fn led<D: Disk + Drop>(rt: &impl Abort, alloc: Global, disk: D, now: u32) -> Result<Server<D>, Fail>
+fn led<D: Disk + Drop>(
+    rt: &impl Abort,
+    alloc: Global,
+    disk: D,
+    now: u32,
+) -> Result<Node<D, PtService>, Fail>
     requires settled { IsSettled (D.files disk) (D.may_leave disk) }
 {
     assert!(rt; 1000 <= now && now < 10_000);
-    let mut node = opened(rt, alloc, (&ALONE, 0), disk, now - 76)?;
+    let mut node = opened(rt, alloc, disk, now - 76)?;
     let mut out = step(
         rt,
         alloc,
@@ -99,11 +110,11 @@ fn version_on<D: Disk + Drop>(
 ) -> Result<Version, Fail>
     requires settled { IsSettled (D.files disk) (D.may_leave disk) }
 {
-    let node = opened(rt, alloc, (&ALONE, 0), disk, now)?;
+    let node = opened(rt, alloc, disk, now)?;
     Ok(node.version())
 }
 
-/// The first call appends to an empty image, each later one is answered what the ones before it left, and the last one only reads.
+/// Two users are made, and the last call reads their ids back.
 #[test]
 fn what_a_server_in_a_folder_answered_is_there_when_it_is_opened_anew(
     rt: HostRuntime,
@@ -111,9 +122,9 @@ fn what_a_server_in_a_folder_answered_is_there_when_it_is_opened_anew(
     let folder = empty_folder(&rt)?;
     let name = folder.as_str();
     for (now, call, answer, changes) in [
-        (1076, b"smith".as_slice(), b"".as_slice(), true),
-        (1176, b"+jones", b"smith", true),
-        (1276, b"", b"smith+jones", false),
+        (1076, SMITH, b"\0\0\0\x01".as_slice(), true),
+        (1176, JONES, b"\0\0\0\x02", true),
+        (1276, BOTH, b"\0\0\0\x02\0\0\0\x01\0\0\0\x02", false),
     ] {
         let disk = mirrored(&rt, name)?;
         answers(&rt, rt.alloc(), disk, (now, call, answer, changes))?;

@@ -14,7 +14,7 @@ use ubik_types::{Cell, Host};
 const LISTMAX: [u8; 4] = [0, 0, 0, 9];
 
 /// The only server of a cell, at a moment.
-fn opened<D: Disk + Drop>(
+pub fn opened<D: Disk + Drop>(
     rt: &impl Abort,
     alloc: Global,
     disk: D,

@@ -102,7 +102,20 @@ fn changes_of_more_than_a_mebibyte_are_too_large(rt: HostRuntime) -> Result<(), 
     Ok(())
 }
 
-/// The sync site of three refuses them too, and sends nothing.
+/// A sync site of three tells the least id of the calls that it has not answered: of one that is in flight and of those that wait.
+fn has_unanswered<D: Disk>(
+    rt: &impl Abort,
+    alloc: Global,
+    node: &mut Server<D>,
+) -> Result<(), Fail> {
+    for (id, least) in [(7, 7), (9, 7), (3, 3)] {
+        let _ = ask(rt, alloc, node, (1077, id, b"ab"), StepEnd::Done)?;
+        assert_eq!(rt; node.unanswered(), Some(least));
+    }
+    Ok(())
+}
+
+/// The sync site of three refuses them too, and sends nothing. It has not answered those that it takes.
 #[test]
 fn changes_that_are_too_large_are_not_sent(rt: HostRuntime) -> Result<(), Fail> {
     let alloc = rt.alloc();
@@ -144,7 +157,9 @@ fn changes_that_are_too_large_are_not_sent(rt: HostRuntime) -> Result<(), Fail> 
     let kept = Body::VersionKept { version: first };
     let mut out = comes(&rt, alloc, &mut node, way, kept)?;
     assert!(rt; is_announcement(&out.take(), first));
-    is_too_large(&rt, alloc, &mut node)
+    is_too_large(&rt, alloc, &mut node)?;
+    assert_eq!(rt; node.unanswered(), None);
+    has_unanswered(&rt, alloc, &mut node)
 }
 
 /// Votes that come to the first of three, which sent its beacon at 1076, and the end of the lease after each.
