@@ -3,16 +3,15 @@ ghost use Rattle.std.specs.Prelude.{IfOk};
 ghost use Rattle.disk_base.specs.Crash.{IsSettled, Only};
 ghost use Rattle.disk_base.specs.Mirrored.{mirrored_files, mirrored_may_leave};
 
-use crate::records::opened;
-use crate::servers::{ask, is_announcement, is_answer, step, version};
+use crate::servers::{ALONE, ask, is_announcement, is_answer, led, opened, version};
 use disk_base::{Disk, FileDisk, Mirrored, MostBytes, Refused};
 use pt_protection::PtService;
 use std::alloc::Global;
 use std::process::Abort;
 use std::test::Fail;
 use std::{env, fs, process};
-use ubik_node::{Node, NodeEvent, StepEnd};
-use ubik_types::{Phase, Version};
+use ubik_node::StepEnd;
+use ubik_types::Version;
 
 /// The calls `newentry smith 0 0`, `newentry jones 0 0` and `nametoid 2 smith jones`.
 const SMITH: &[u8] = b"\0\0\0\x01\0\0\0\x05smith\0\0\0\0\0\0\0\0\0\0\0";
@@ -49,39 +48,6 @@ fn mirrored(rt: &HostRuntime, folder: &str) -> Result<Mirrored<FileDisk>, Fail>
     }
 }
 
-/// The server of a disk once it leads its cell at a moment: it was opened 76 seconds before, and so may vote.
-fn led<D: Disk + Drop>(
-    rt: &impl Abort,
-    alloc: Global,
-    disk: D,
-    now: u32,
-) -> Result<Node<D, PtService>, Fail>
-    requires settled { IsSettled (D.files disk) (D.may_leave disk) }
-{
-    assert!(rt; 1000 <= now && now < 10_000);
-    let mut node = opened(rt, alloc, disk, now - 76)?;
-    let mut out = step(
-        rt,
-        alloc,
-        &mut node,
-        now,
-        NodeEvent::BeaconTurn,
-        StepEnd::Done,
-    )?;
-    assert!(rt; out.take().is_none());
-    let mut out = step(
-        rt,
-        alloc,
-        &mut node,
-        now,
-        NodeEvent::RecoverTurn,
-        StepEnd::Done,
-    )?;
-    assert!(rt; is_announcement(&out.take(), version(now, 1)));
-    assert_eq!(rt; node.phase(), Phase::Ready);
-    Ok(node)
-}
-
 /// The server of a disk answers a call so; whether it announced a change before.
 fn answers<D: Disk + Drop>(
     rt: &impl Abort,
@@ -92,7 +58,7 @@ fn answers<D: Disk + Drop>(
     requires settled { IsSettled (D.files disk) (D.may_leave disk) }
 {
     let (now, call, answer, changes) = asked;
-    let mut node = led(rt, alloc, disk, now)?;
+    let mut node = led::<D, PtService>(rt, alloc, disk, now)?;
     let mut out = ask(rt, alloc, &mut node, (now, 1, call), StepEnd::Done)?;
     if changes {
         assert!(rt; is_announcement(&out.take(), version(now, 2)));
@@ -110,7 +76,7 @@ fn version_on<D: Disk + Drop>(
 ) -> Result<Version, Fail>
     requires settled { IsSettled (D.files disk) (D.may_leave disk) }
 {
-    let node = opened(rt, alloc, disk, now)?;
+    let node = opened::<D, PtService>(rt, alloc, (&ALONE, 0), disk, now)?;
     Ok(node.version())
 }
 

@@ -13,7 +13,10 @@ use std::alloc::Global;
 use std::process::Abort;
 use std::test::Fail;
 use ubik_node::{Body, Node, NodeEvent, Output, Outputs, Packet, Reply, StepEnd, StoreFault};
-use ubik_types::{Cell, Host, MAX_COUNTER, Version, bytes_of};
+use ubik_types::{Cell, Host, MAX_COUNTER, Phase, Version, bytes_of};
+
+/// A cell of one server.
+pub const ALONE: [Host; 1] = [Host(1)];
 
 pub type Server<D> = Node<D, Appending>;
 
@@ -71,13 +74,13 @@ pub fn laid<D: Disk + Drop>(
 }
 
 /// Opens a server of a cell of these hosts at a moment.
-pub fn open<D: Disk + Drop>(
+pub fn open<D: Disk + Drop, V: DraftService>(
     rt: &impl Abort,
     alloc: Global,
     place: (&[Host], usize),
     disk: D,
     now: u32,
-) -> Result<Result<Server<D>, Refused<D, StoreFault>>, Fail>
+) -> Result<Result<Node<D, V>, Refused<D, StoreFault>>, Fail>
     requires settled { IsSettled (D.files disk) (D.may_leave disk) }
 {
     let (hosts, me) = place;
@@ -87,16 +90,16 @@ pub fn open<D: Disk + Drop>(
 }
 
 /// Opens it over a disk on which nothing is amiss.
-pub fn opened<D: Disk + Drop>(
+pub fn opened<D: Disk + Drop, V: DraftService>(
     rt: &impl Abort,
     alloc: Global,
     place: (&[Host], usize),
     disk: D,
     now: u32,
-) -> Result<Server<D>, Fail>
+) -> Result<Node<D, V>, Fail>
     requires settled { IsSettled (D.files disk) (D.may_leave disk) }
 {
-    match open(rt, alloc, place, disk, now)? {
+    match open::<D, V>(rt, alloc, place, disk, now)? {
         Ok(node) => Ok(node),
         Err(refused) => Err(refused.why)?,
     }
@@ -169,6 +172,41 @@ pub fn ask<D: Disk, V: DraftService>(
     let (now, id, bytes) = asked;
     let call = bytes_of(alloc, bytes)?;
     step(rt, alloc, node, now, NodeEvent::Ask { id, call }, wanted)
+}
+
+/// A beacon turn and a recovery turn of a server that is alone, and what they announced.
+pub fn turns<D: Disk, V: DraftService>(
+    rt: &impl Abort,
+    alloc: Global,
+    node: &mut Node<D, V>,
+    now: u32,
+) -> Result<Option<Version>, Fail> {
+    let mut out = step(rt, alloc, node, now, NodeEvent::BeaconTurn, StepEnd::Done)?;
+    assert!(rt; out.take().is_none());
+    let mut out = step(rt, alloc, node, now, NodeEvent::RecoverTurn, StepEnd::Done)?;
+    match out.take() {
+        Some(Output::Announce { version }) => Ok(Some(version)),
+        _ => Ok(None),
+    }
+}
+
+/// The only server of a cell once it leads that at a moment: it was opened 76 seconds before, and so may vote.
+pub fn led<D: Disk + Drop, V: DraftService>(
+    rt: &impl Abort,
+    alloc: Global,
+    disk: D,
+    now: u32,
+) -> Result<Node<D, V>, Fail>
+    requires settled { IsSettled (D.files disk) (D.may_leave disk) }
+{
+    assert!(rt; 76 < now);
+    let mut node = opened(rt, alloc, (&ALONE, 0), disk, now - 76)?;
+    let announced = turns(rt, alloc, &mut node, now)?;
+    assert_eq!(rt;
+        (announced, node.phase()),
+        (Some(version(now, 1)), Phase::Ready)
+    );
+    Ok(node)
 }
 
 /// The only output of a step, a packet.

@@ -1,8 +1,9 @@
 //! Steps of one server: an epoch ahead of its clock, calls that are too large, odd votes, and a disk that is armed too late.
 
+use crate::appending::Appending;
 use crate::servers::{
-    LAID, Said, Server, ask, comes, filled, is_announcement, meaning, only, open, opened, revived,
-    step, version, write_database,
+    ALONE, LAID, Said, Server, ask, comes, filled, is_announcement, led, meaning, only, open,
+    opened, revived, step, turns, version, write_database,
 };
 use disk_base::{Disk, Fill, MemDisk, StopDisk};
 use std::alloc::Global;
@@ -11,16 +12,18 @@ use std::test::Fail;
 use ubik_node::{Body, NodeEvent, Output, Reply, StepEnd, StoreFault};
 use ubik_types::{Host, Phase, Version};
 
-/// Cells of one server and of three.
-const ALONE: [Host; 1] = [Host(1)];
-
+/// A cell of three.
 const THREE: [Host; 3] = [Host(1), Host(2), Host(3)];
 
-#[test]
-fn a_file_without_a_label_is_refused(rt: HostRuntime) -> Result<(), Fail> {
-    let mut disk = MemDisk::new(rt.alloc(), &[])?;
-    write_database(&rt, &mut disk, b"abc");
-    let Err(refused) = open(&rt, rt.alloc(), (&ALONE, 0), revived(disk), 1000)? else {
+/// A file without a label is refused, with its length and its head.
+fn refuses_no_label<D: StopDisk + Drop>(
+    rt: &impl Abort,
+    alloc: Global,
+    disk: D,
+) -> Result<(), Fail> {
+    let mut disk = disk;
+    write_database(rt, &mut disk, b"abc");
+    let Err(refused) = open::<D, Appending>(rt, alloc, (&ALONE, 0), revived(disk), 1000)? else {
         panic!(rt; "opened");
     };
     let StoreFault::BadLabel { len, head } = refused.why else {
@@ -31,75 +34,97 @@ fn a_file_without_a_label_is_refused(rt: HostRuntime) -> Result<(), Fail> {
     Ok(())
 }
 
-/// A beacon turn and a recovery turn of a server that is alone, and what they announced.
-fn turns<D: Disk>(
+/// An epoch ahead of the clock is waited for.
+fn waits_for_its_epoch<D: StopDisk + Drop>(
     rt: &impl Abort,
     alloc: Global,
-    node: &mut Server<D>,
-    now: u32,
-) -> Result<Option<Version>, Fail> {
-    let mut out = step(rt, alloc, node, now, NodeEvent::BeaconTurn, StepEnd::Done)?;
-    assert!(rt; out.take().is_none());
-    let mut out = step(rt, alloc, node, now, NodeEvent::RecoverTurn, StepEnd::Done)?;
-    match out.take() {
-        Some(Output::Announce { version }) => Ok(Some(version)),
-        _ => Ok(None),
-    }
-}
-
-#[test]
-fn an_epoch_ahead_of_the_clock_is_waited_for(rt: HostRuntime) -> Result<(), Fail> {
-    let alloc = rt.alloc();
-    let disk = filled(&rt, alloc, MemDisk::new(alloc, &[])?, &[])?;
-    let mut node = opened(&rt, alloc, (&ALONE, 0), revived(disk), 1000)?;
+    disk: D,
+) -> Result<(), Fail> {
+    let disk = filled(rt, alloc, disk, &[])?;
+    let mut node: Server<D> = opened(rt, alloc, (&ALONE, 0), revived(disk), 1000)?;
     assert_eq!(rt; node.version(), LAID);
-    assert_eq!(rt; turns(&rt, alloc, &mut node, 1076)?, None);
-    assert_eq!(rt; node.phase(), Phase::Relabel);
-    assert_eq!(rt; turns(&rt, alloc, &mut node, 2000)?, None);
-    assert_eq!(rt; node.phase(), Phase::Relabel);
-    assert_eq!(rt; turns(&rt, alloc, &mut node, 2001)?, Some(version(2001, 1)));
-    assert_eq!(rt; node.phase(), Phase::Ready);
+    for (now, announced, phase) in [
+        (1076, None, Phase::Relabel),
+        (2000, None, Phase::Relabel),
+        (2001, Some(version(2001, 1)), Phase::Ready),
+    ] {
+        assert_eq!(rt; turns(rt, alloc, &mut node, now)?, announced);
+        assert_eq!(rt; node.phase(), phase);
+    }
     Ok(())
 }
 
-/// A call of 1,048,600 bytes is refused at 1077, since its changes would have so many bytes.
+/// Whether a call is refused since its changes would have 1,048,580 bytes.
+fn is_refusal(output: &Option<Output>) -> bool {
+    match output {
+        Some(
+            Output::Reply {
+                id,
+                reply: Reply::TooLarge { bytes },
+            },
+        ) => *id == 1 && *bytes == 1_048_580,
+        _ => false,
+    }
+}
+
+/// A call of 1,048,600 bytes is refused at 1077, and nothing changes.
 fn is_too_large<D: Disk>(rt: &impl Abort, alloc: Global, node: &mut Server<D>) -> Result<(), Fail> {
     let before = (node.version(), node.len());
     let long = vec![in alloc; 7u8; 1_048_600]?;
     let mut out = ask(rt, alloc, node, (1077, 1, &long), StepEnd::Done)?;
-    let Some(
-        Output::Reply {
-            id: 1,
-            reply: Reply::TooLarge { bytes },
-        },
-    ) = out.take()
-    else {
-        panic!(rt; "not refused");
-    };
-    assert_eq!(rt; bytes, 1_048_580);
-    assert!(rt; out.take().is_none());
+    assert!(rt; is_refusal(&out.take()) && out.take().is_none());
     assert_eq!(rt; (node.version(), node.len()), before);
     Ok(())
 }
 
-#[test]
-fn changes_of_more_than_a_mebibyte_are_too_large(rt: HostRuntime) -> Result<(), Fail> {
-    let alloc = rt.alloc();
-    let first = version(1076, 1);
-    let mut node = opened(
-        &rt,
-        alloc,
-        (&ALONE, 0),
-        revived(MemDisk::new(alloc, &[])?),
-        1000,
-    )?;
-    assert_eq!(rt; turns(&rt, alloc, &mut node, 1076)?, Some(first));
-    is_too_large(&rt, alloc, &mut node)?;
+/// Changes of more than a mebibyte are too large, and fewer are made.
+fn makes_a_mebibyte<D: StopDisk + Drop>(
+    rt: &impl Abort,
+    alloc: Global,
+    disk: D,
+) -> Result<(), Fail> {
+    let mut node: Server<D> = led(rt, alloc, revived(disk), 1076)?;
+    is_too_large(rt, alloc, &mut node)?;
     let fits = vec![in alloc; 7u8; 1_048_572]?;
-    let mut out = ask(&rt, alloc, &mut node, (1077, 2, &fits), StepEnd::Done)?;
+    let mut out = ask(rt, alloc, &mut node, (1077, 2, &fits), StepEnd::Done)?;
     assert!(rt; is_announcement(&out.take(), version(1076, 2)));
     assert_eq!(rt; node.len(), 1_048_572);
     Ok(())
+}
+
+/// The first of three, which sent its beacon at 1076.
+fn first<D: StopDisk + Drop>(rt: &impl Abort, alloc: Global, disk: D) -> Result<Server<D>, Fail> {
+    let mut node: Server<D> = opened(rt, alloc, (&THREE, 0), revived(disk), 1000)?;
+    let beacon = NodeEvent::BeaconTurn;
+    let _ = step(rt, alloc, &mut node, 1076, beacon, StepEnd::Done)?;
+    Ok(node)
+}
+
+/// A sync site of three, which the second one has followed.
+fn sync_site<D: StopDisk + Drop>(
+    rt: &impl Abort,
+    alloc: Global,
+    disk: D,
+) -> Result<Server<D>, Fail> {
+    let mut node = first(rt, alloc, disk)?;
+    let way = (1076, Host(2), Host(1));
+    let yes = Body::Vote {
+        start: 1076,
+        yes: true,
+    };
+    let _ = comes(rt, alloc, &mut node, way, yes)?;
+    let turn = NodeEvent::RecoverTurn;
+    let _ = step(rt, alloc, &mut node, 1076, turn, StepEnd::Done)?;
+    let told = Body::VersionIs {
+        poll: 1076,
+        version: version(0, 0),
+    };
+    let _ = comes(rt, alloc, &mut node, way, told)?;
+    let version = version(1076, 1);
+    let kept = Body::VersionKept { version };
+    let mut out = comes(rt, alloc, &mut node, way, kept)?;
+    assert!(rt; is_announcement(&out.take(), version));
+    Ok(node)
 }
 
 /// A sync site of three tells the least id of the calls that it has not answered: of one that is in flight and of those that wait.
@@ -115,57 +140,22 @@ fn has_unanswered<D: Disk>(
     Ok(())
 }
 
-/// The sync site of three refuses them too, and sends nothing. It has not answered those that it takes.
-#[test]
-fn changes_that_are_too_large_are_not_sent(rt: HostRuntime) -> Result<(), Fail> {
-    let alloc = rt.alloc();
-    let first = version(1076, 1);
-    let mut node = opened(
-        &rt,
-        alloc,
-        (&THREE, 0),
-        revived(MemDisk::new(alloc, &[])?),
-        1000,
-    )?;
-    let _ = step(
-        &rt,
-        alloc,
-        &mut node,
-        1076,
-        NodeEvent::BeaconTurn,
-        StepEnd::Done,
-    )?;
-    let way = (1076, Host(2), Host(1));
-    let yes = Body::Vote {
-        start: 1076,
-        yes: true,
-    };
-    let _ = comes(&rt, alloc, &mut node, way, yes)?;
-    let _ = step(
-        &rt,
-        alloc,
-        &mut node,
-        1076,
-        NodeEvent::RecoverTurn,
-        StepEnd::Done,
-    )?;
-    let told = Body::VersionIs {
-        poll: 1076,
-        version: version(0, 0),
-    };
-    let _ = comes(&rt, alloc, &mut node, way, told)?;
-    let kept = Body::VersionKept { version: first };
-    let mut out = comes(&rt, alloc, &mut node, way, kept)?;
-    assert!(rt; is_announcement(&out.take(), first));
-    is_too_large(&rt, alloc, &mut node)?;
+/// The sync site of three refuses changes that are too large, and sends nothing. It has not answered those that it takes.
+fn sends_no_mebibyte<D: StopDisk + Drop>(
+    rt: &impl Abort,
+    alloc: Global,
+    disk: D,
+) -> Result<(), Fail> {
+    let mut node = sync_site(rt, alloc, disk)?;
+    is_too_large(rt, alloc, &mut node)?;
     assert_eq!(rt; node.unanswered(), None);
-    has_unanswered(&rt, alloc, &mut node)
+    has_unanswered(rt, alloc, &mut node)
 }
 
-/// Votes that come to the first of three, which sent its beacon at 1076, and the end of the lease after each.
+/// Votes that come to the first of three, and the end of the lease after each: a no, a yes for a start to come, and one of a host outside the
+/// cell give no lease.
 fn hears_votes<D: Disk>(rt: &impl Abort, alloc: Global, node: &mut Server<D>) -> Result<(), Fail> {
     for row in [
-        // A no, a yes for a start to come, and one of a host outside the cell give no lease.
         (1077, Host(3), 1076, false, 0),
         (1077, Host(2), 1077, true, 0),
         (1077, Host(9), 1076, true, 0),
@@ -180,42 +170,34 @@ fn hears_votes<D: Disk>(rt: &impl Abort, alloc: Global, node: &mut Server<D>) ->
     Ok(())
 }
 
-#[test]
-fn a_first_lease_over_odd_votes(rt: HostRuntime) -> Result<(), Fail> {
-    let alloc = rt.alloc();
-    let mut node = opened(
-        &rt,
-        alloc,
-        (&THREE, 0),
-        revived(MemDisk::new(alloc, &[])?),
-        1000,
-    )?;
-    let _ = step(
-        &rt,
-        alloc,
-        &mut node,
-        1076,
-        NodeEvent::BeaconTurn,
-        StepEnd::Done,
-    )?;
-    hears_votes(&rt, alloc, &mut node)?;
+/// What the first of three tells of a lease till 1136, and of its last yes, its own.
+fn tells_its_lease<D: Disk>(
+    rt: &impl Abort,
+    alloc: Global,
+    node: &mut Server<D>,
+) -> Result<(), Fail> {
     let is = node.debug(1090);
     assert_eq!(rt; (is.host, is.now), (Host(1), 1090));
     assert_eq!(rt; (is.version, is.phase), (version(0, 0), Phase::None));
     assert_eq!(rt; (is.until, is.sync), (1136, Host(0)));
     assert_eq!(rt; (is.voted, is.voted_at), (Host(1), 1076));
-    let _ = step(
-        &rt,
-        alloc,
-        &mut node,
-        1091,
-        NodeEvent::BeaconTurn,
-        StepEnd::Done,
-    )?;
+    let beacon = NodeEvent::BeaconTurn;
+    let _ = step(rt, alloc, node, 1091, beacon, StepEnd::Done)?;
     let is = node.debug(1166);
     assert_eq!(rt; (is.sync, is.voted_at), (Host(1), 1091));
     assert_eq!(rt; node.debug(1167).sync, Host(0));
     Ok(())
+}
+
+/// A first lease over odd votes.
+fn leads_over_odd_votes<D: StopDisk + Drop>(
+    rt: &impl Abort,
+    alloc: Global,
+    disk: D,
+) -> Result<(), Fail> {
+    let mut node = first(rt, alloc, disk)?;
+    hears_votes(rt, alloc, &mut node)?;
+    tells_its_lease(rt, alloc, &mut node)
 }
 
 /// Whether a beacon that the second of three hears gets its vote, and what the server tells then: the host of the sync site that it
@@ -246,17 +228,14 @@ fn hears_beacons<D: Disk>(
     Ok(())
 }
 
-#[test]
-fn a_server_tells_its_last_yes(rt: HostRuntime) -> Result<(), Fail> {
-    let alloc = rt.alloc();
-    let mut node = opened(
-        &rt,
-        alloc,
-        (&THREE, 1),
-        revived(MemDisk::new(alloc, &[])?),
-        1000,
-    )?;
-    hears_beacons(&rt, alloc, &mut node)
+/// The second of three tells its last yes.
+fn tells_its_last_yes<D: StopDisk + Drop>(
+    rt: &impl Abort,
+    alloc: Global,
+    disk: D,
+) -> Result<(), Fail> {
+    let mut node = opened(rt, alloc, (&THREE, 1), revived(disk), 1000)?;
+    hears_beacons(rt, alloc, &mut node)
 }
 
 /// A call at a server whose disk has failed.
@@ -278,41 +257,49 @@ fn halts<D: Disk>(
     Ok(())
 }
 
-#[test]
-fn nothing_comes_of_an_armed_disk_of_a_halted_server(rt: HostRuntime) -> Result<(), Fail> {
-    let alloc = rt.alloc();
-    let mut node = opened(
-        &rt,
-        alloc,
-        (&ALONE, 0),
-        revived(MemDisk::new(alloc, &[])?),
-        1000,
-    )?;
+/// A server whose disk fails at its first call, and stays halted with a disk that is armed or opened anew.
+fn stays_halted<D: StopDisk>(
+    rt: &impl Abort,
+    alloc: Global,
+    node: &mut Server<D>,
+) -> Result<(), Fail> {
     node.arm(0, Fill::New);
-    let _ = step(
-        &rt,
-        alloc,
-        &mut node,
-        1076,
-        NodeEvent::BeaconTurn,
-        StepEnd::Done,
-    )?;
-    let _ = step(
-        &rt,
-        alloc,
-        &mut node,
-        1076,
-        NodeEvent::RecoverTurn,
-        StepEnd::Halted,
-    )?;
+    let turn = NodeEvent::BeaconTurn;
+    let _ = step(rt, alloc, node, 1076, turn, StepEnd::Done)?;
+    let turn = NodeEvent::RecoverTurn;
+    let _ = step(rt, alloc, node, 1076, turn, StepEnd::Halted)?;
     node.arm(3, Fill::Old);
     assert!(rt; node.stopped());
-    halts(&rt, alloc, &mut node, (1077, 1, b""))?;
+    halts(rt, alloc, node, (1077, 1, b""))?;
     assert!(rt; node.halted());
     node.revive();
     assert!(rt; !node.stopped());
-    halts(&rt, alloc, &mut node, (1078, 2, b"ab"))?;
-    let again = opened(&rt, alloc, (&ALONE, 0), revived(node.close()), 1000)?;
+    halts(rt, alloc, node, (1078, 2, b"ab"))
+}
+
+/// Nothing comes of an armed disk of a halted server.
+fn is_as_it_was<D: StopDisk + Drop>(rt: &impl Abort, alloc: Global, disk: D) -> Result<(), Fail> {
+    let mut node = opened(rt, alloc, (&ALONE, 0), revived(disk), 1000)?;
+    stays_halted(rt, alloc, &mut node)?;
+    let again: Server<D> = opened(rt, alloc, (&ALONE, 0), revived(node.close()), 1000)?;
     assert_eq!(rt; again.version(), version(0, 0));
     Ok(())
+}
+
+/// An empty disk in memory.
+fn empty(alloc: Global) -> Result<MemDisk, Fail> {
+    Ok(MemDisk::new(alloc, &[])?)
+}
+
+/// Each over an empty disk of its own.
+#[test]
+fn steps_of_one_server(rt: HostRuntime) -> Result<(), Fail> {
+    let alloc = rt.alloc();
+    refuses_no_label(&rt, alloc, empty(alloc)?)?;
+    waits_for_its_epoch(&rt, alloc, empty(alloc)?)?;
+    makes_a_mebibyte(&rt, alloc, empty(alloc)?)?;
+    sends_no_mebibyte(&rt, alloc, empty(alloc)?)?;
+    leads_over_odd_votes(&rt, alloc, empty(alloc)?)?;
+    tells_its_last_yes(&rt, alloc, empty(alloc)?)?;
+    is_as_it_was(&rt, alloc, empty(alloc)?)
 }
