@@ -3,11 +3,11 @@ use crate::answers::Answer;
 use crate::bytes::Names;
 use crate::devices::Device;
 use crate::disks::{call_disk, planned};
-use crate::faults::Fault;
 use crate::logs::{call_bytes, course, keep, read_file};
 use crate::pages::{call_pages, open_over, open_pages};
 use crate::stores::{Stop, call_store, open_store};
-use crate::words::{fill_of, long_of, number_of};
+use crate::words::fill_of;
+use session_rows::{Fault, long_in, number_in};
 use std::alloc::Global;
 
 /// Makes a call, and says what the next one is made on.
@@ -18,7 +18,7 @@ pub fn make(
     words: &[&str],
 ) -> Result<(Device, Answer), Fault> {
     match words {
-        ["fail", numbers @ ..] => Ok((planned(alloc, numbers)?, Answer::done(alloc)?)),
+        ["fail", numbers @ ..] => Ok((planned(alloc, numbers)?, Answer::text(alloc, "done")?)),
         ["pages"] => open_pages(alloc, device.into_disk()),
         ["over"] => open_over(alloc, device.into_disk()),
         ["open"] => open_store(alloc, device.into_disk(), None),
@@ -26,7 +26,10 @@ pub fn make(
             let stop = stop_of(calls, fill)?;
             open_store(alloc, device.into_disk(), Some(stop))
         }
-        ["close"] => Ok((Device::Disk(device.into_disk()), Answer::done(alloc)?)),
+        ["close"] => Ok((
+            Device::Disk(device.into_disk()),
+            Answer::text(alloc, "done")?,
+        )),
         ["keep", log] => keep(alloc, &names.bytes_of(log)?, None),
         ["keep", log, "stop", calls, fill] => {
             let stop = stop_of(calls, fill)?;
@@ -34,7 +37,7 @@ pub fn make(
         }
         ["course", log] => course(alloc, &names.bytes_of(log)?, &[]),
         ["course", log, "fail", number] => {
-            course(alloc, &names.bytes_of(log)?, &[long_of(number)?])
+            course(alloc, &names.bytes_of(log)?, &[long_in(number)?])
         }
         _ => match call_bytes(alloc, names, words)? {
             Some(answer) => Ok((device, answer)),
@@ -68,7 +71,7 @@ fn make_on(
 
 fn stop_of(calls: &str, fill: &str) -> Result<Stop, Fault> {
     Ok(Stop {
-        calls: number_of(calls)?,
+        calls: number_in(calls)?,
         fill: fill_of(fill)?,
     })
 }

@@ -4,16 +4,16 @@ ghost use Rattle.std.specs.Prelude.{IfOk};
 use crate::answers::Answer;
 use crate::bytes::Names;
 use crate::devices::Device;
-use crate::faults::Fault;
-use crate::words::{file_of, fill_of, long_of, number_of};
+use crate::words::{file_of, fill_of};
 use disk_base::{Disk, DiskEnd, FileNo, LenEnd, MemDisk, RoomEnd, StopDisk};
+use session_rows::{Fault, long_in, number_in};
 use std::alloc::Global;
 
 /// A disk of three empty files, whose calls of these numbers fail.
 pub fn planned(alloc: Global, words: &[&str]) -> Result<Device, Fault> {
     let mut fails = Vec::new(alloc);
     for word in words {
-        fails.push(long_of(word)?)?;
+        fails.push(long_in(word)?)?;
     }
     Ok(Device::Disk(MemDisk::new(alloc, &fails)?))
 }
@@ -30,11 +30,14 @@ pub fn call_disk(
         ["log", bytes] => lay(alloc, disk, FileNo::Log, &names.bytes_of(bytes)?),
         ["write", file, at, bytes] => {
             let bytes = names.bytes_of(bytes)?;
-            Answer::ended(alloc, write(disk, file_of(file)?, long_of(at)?, &bytes)?)
+            Answer::ended(alloc, write(disk, file_of(file)?, long_in(at)?, &bytes)?)
         }
-        ["cut", file, len] => Answer::ended(alloc, cut(disk, file_of(file)?, long_of(len)?)),
+        ["cut", file, len] => Answer::ended(alloc, cut(disk, file_of(file)?, long_in(len)?)),
         ["sync", file] => Answer::ended(alloc, disk.sync(file_of(file)?)),
-        ["len", file] => len(alloc, disk, file_of(file)?),
+        ["len", file] => match disk.len(file_of(file)?) {
+            LenEnd::Known(len) => Ok(Answer::of(format!(in alloc; "{len}")?)),
+            LenEnd::Failed => Answer::text(alloc, "failed"),
+        },
         ["file", file] => read_whole(alloc, disk, file_of(file)?),
         _ => stop_disk(alloc, disk, words),
     }
@@ -44,15 +47,15 @@ pub fn call_disk(
 fn stop_disk(alloc: Global, disk: &mut MemDisk, words: &[&str]) -> Result<Answer, Fault> {
     match words {
         ["stop", calls, fill] => {
-            disk.arm(number_of(calls)?, fill_of(fill)?);
-            Answer::done(alloc)
+            disk.arm(number_in(calls)?, fill_of(fill)?);
+            Answer::text(alloc, "done")
         }
-        ["stopped"] => Answer::yes_or_no(alloc, disk.stopped()),
+        ["stopped"] => Answer::text(alloc, if disk.stopped() { "yes" } else { "no" }),
         ["revive"] => {
             disk.revive();
-            Answer::done(alloc)
+            Answer::text(alloc, "done")
         }
-        _ => Err(Fault::NoCall),
+        _ => Err(Fault::Form),
     }
 }
 
@@ -63,7 +66,7 @@ fn lay<D: Disk>(alloc: Global, disk: &mut D, file: FileNo, bytes: &[u8]) -> Resu
     }
     match disk.write_at(file, 0, bytes) {
         DiskEnd::Done => Answer::ended(alloc, disk.sync(file)),
-        DiskEnd::Failed => Answer::failed(alloc),
+        DiskEnd::Failed => Answer::text(alloc, "failed"),
     }
 }
 
@@ -74,7 +77,7 @@ fn write<D: Disk>(disk: &mut D, file: FileNo, at: u64, bytes: &[u8]) -> Result<D
         LenEnd::Failed => return Ok(DiskEnd::Failed),
     };
     let at = at.min(len);
-    let end = at.checked_add(bytes.len() as u64).ok_or(Fault::NoCall)?;
+    let end = at.checked_add(bytes.len() as u64).ok_or(Fault::Form)?;
     if disk.reserve(file, end) != RoomEnd::Done {
         return Err(Fault::NoMemory);
     }
@@ -89,22 +92,15 @@ fn cut<D: Disk>(disk: &mut D, file: FileNo, len: u64) -> DiskEnd {
     }
 }
 
-fn len<D: Disk>(alloc: Global, disk: &mut D, file: FileNo) -> Result<Answer, Fault> {
-    match disk.len(file) {
-        LenEnd::Known(len) => Ok(Answer::Text(format!(in alloc; "{len}")?)),
-        LenEnd::Failed => Answer::failed(alloc),
-    }
-}
-
 /// Reads a file whole.
 fn read_whole<D: Disk>(alloc: Global, disk: &mut D, file: FileNo) -> Result<Answer, Fault> {
     let len = match disk.len(file) {
         LenEnd::Known(len) => len as usize,
-        LenEnd::Failed => return Answer::failed(alloc),
+        LenEnd::Failed => return Answer::text(alloc, "failed"),
     };
     let mut bytes = vec![in alloc; 0u8; len]?;
     match disk.read(file, 0, &mut bytes) {
-        DiskEnd::Done => Ok(Answer::Bytes(bytes)),
-        DiskEnd::Failed => Answer::failed(alloc),
+        DiskEnd::Done => Ok(Answer::bytes(alloc, bytes)),
+        DiskEnd::Failed => Answer::text(alloc, "failed"),
     }
 }

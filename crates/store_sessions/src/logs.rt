@@ -3,13 +3,13 @@ ghost use Rattle.std.specs.Prelude.{◌≡◌, ◌≤◌, [], IfSome, OnOk, leng
 ghost use Rattle.disk_base.specs.Files.{KeepsRoom};
 ghost use Rattle.ubik_types.specs.Version.{IsVersion};
 
-use crate::answers::{Answer, hex_text};
+use crate::answers::Answer;
 use crate::bytes::Names;
 use crate::devices::Device;
-use crate::faults::Fault;
-use crate::stores::Stop;
-use crate::words::{number_of, version_of};
+use crate::stores::{Stop, arm};
+use crate::words::version_of;
 use disk_base::{Disk, MemDisk, StopDisk};
+use session_rows::{Fault, number_in, told_bytes};
 use std::alloc::Global;
 use ubik_log::{
     LogFault, LogState, close_gate, empty_log, encode_log, keep_log, open_gate, parse_log, read_log,
@@ -23,17 +23,17 @@ const LEAST: usize = 4;
 pub fn call_bytes(alloc: Global, names: &Names, words: &[&str]) -> Result<Option<Answer>, Fault> {
     let answer = match words {
         ["encode", version, put] => {
-            let (at, bytes) = put.split_once('=').ok_or(Fault::NoLine)?;
+            let (at, bytes) = put.split_once('=').ok_or(Fault::Form)?;
             let bytes = names.bytes_of(bytes)?;
-            encode_put(alloc, number_of(at)?, bytes, version_of(version)?)?
+            encode_put(alloc, number_in(at)?, bytes, version_of(version)?)?
         }
         ["encode", version] => {
             let log = encode_log(alloc, &changes_new(alloc), version_of(version)?)?;
-            Answer::Bytes(log.into_vec())
+            Answer::bytes(alloc, log.into_vec())
         }
-        ["empty", version] => Answer::Bytes(empty_log(version_of(version)?).to_vec(alloc)?),
+        ["empty", version] => Answer::bytes(alloc, empty_log(version_of(version)?).to_vec(alloc)?),
         ["parse", bytes] => told(alloc, &parse_log(alloc, &names.bytes_of(bytes)?)?)?,
-        ["changes", bytes] => changes(alloc, &parse_log(alloc, &names.bytes_of(bytes)?)?)?,
+        ["changes", bytes] => told_changes(alloc, &parse_log(alloc, &names.bytes_of(bytes)?)?)?,
         ["again", bytes] => again(alloc, &names.bytes_of(bytes)?)?,
         _ => return Ok(None),
     };
@@ -45,13 +45,13 @@ fn encode_put(alloc: Global, at: u32, bytes: Vec<u8>, version: Version) -> Resul
     requires { IsVersion version }
 {
     if u64::from(at) + bytes.len() as u64 > MAX_IMAGE as u64 {
-        return Err(Fault::NoCall);
+        return Err(Fault::Form);
     }
     let mut changes = changes_new(alloc);
     let bytes = Bytes::new(bytes);
     changes_push(&mut changes, Change::Put { at, bytes })?;
     let log = encode_log(alloc, &changes, version)?;
-    Ok(Answer::Bytes(log.into_vec()))
+    Ok(Answer::bytes(alloc, log.into_vec()))
 }
 
 /// The version of a committed log, and how many changes it says.
@@ -60,15 +60,14 @@ fn told(alloc: Global, state: &LogState) -> Result<Answer, Fault> {
         LogState::Committed { changes, version } => {
             let (epoch, counter) = (version.epoch, version.counter);
             let count = changes.as_slice().len();
-            let text = format!(in alloc; "{epoch}.{counter} changes {count}")?;
-            Ok(Answer::Text(text))
+            Ok(Answer::of(format!(in alloc; "{epoch}.{counter} changes {count}")?))
         }
         LogState::Discarded => Answer::text(alloc, "discarded"),
     }
 }
 
 /// The changes of a committed log: `AT=BYTES` for a put, `cut=LEN` for a cut.
-fn changes(alloc: Global, state: &LogState) -> Result<Answer, Fault> {
+fn told_changes(alloc: Global, state: &LogState) -> Result<Answer, Fault> {
     let LogState::Committed { changes, .. } = state else {
         return Answer::text(alloc, "discarded");
     };
@@ -79,14 +78,13 @@ fn changes(alloc: Global, state: &LogState) -> Result<Answer, Fault> {
         }
         text.push_str(change_text(alloc, change)?.as_str())?;
     }
-    Ok(Answer::Text(text))
+    Ok(Answer::of(text))
 }
 
 fn change_text(alloc: Global, change: &Change) -> Result<String, Fault> {
     match change {
         Change::Put { at, bytes } => {
-            let at = *at;
-            let bytes = hex_text(alloc, bytes.as_slice())?;
+            let (at, bytes) = (*at, told_bytes(alloc, bytes.as_slice())?);
             Ok(format!(in alloc; "{at}={bytes}")?)
         }
         Change::Cut { len } => {
@@ -101,7 +99,7 @@ fn again(alloc: Global, log: &[u8]) -> Result<Answer, Fault> {
     match parse_log(alloc, log)? {
         LogState::Committed { changes, version } => {
             let log = encode_log(alloc, &changes, version)?;
-            Ok(Answer::Bytes(log.into_vec()))
+            Ok(Answer::bytes(alloc, log.into_vec()))
         }
         LogState::Discarded => Answer::text(alloc, "discarded"),
     }
@@ -121,7 +119,7 @@ fn version_read<D: Disk>(alloc: Global, disk: &mut D) -> Result<Option<Version>,
 /// Reads the log file.
 pub fn read_file(alloc: Global, disk: &mut MemDisk) -> Result<Answer, Fault> {
     match version_read(alloc, disk) {
-        Ok(version) => Ok(Answer::Text(version_text(alloc, version)?)),
+        Ok(version) => Ok(Answer::of(version_text(alloc, version)?)),
         Err(fault) => refusal(alloc, fault),
     }
 }
@@ -135,7 +133,7 @@ fn version_text(alloc: Global, version: Option<Version>) -> Result<String, Fault
 
 fn refusal(alloc: Global, fault: LogFault) -> Result<Answer, Fault> {
     match fault {
-        LogFault::DiskFault => Answer::failed(alloc),
+        LogFault::DiskFault => Answer::text(alloc, "failed"),
         LogFault::NoMemory => Err(Fault::NoMemory),
     }
 }
@@ -143,69 +141,46 @@ fn refusal(alloc: Global, fault: LogFault) -> Result<Answer, Fault> {
 /// Keeps a log on an empty disk, opens its gate and closes it; a stop may be armed before.
 pub fn keep(alloc: Global, log: &[u8], stop: Option<Stop>) -> Result<(Device, Answer), Fault> {
     if log.len() < LEAST {
-        return Err(Fault::NoCall);
+        return Err(Fault::Form);
     }
     let mut disk = MemDisk::new(alloc, &[])?;
-    let answer = match keep_open_close(alloc, &mut disk, log, stop) {
-        Ok(()) => Answer::done(alloc)?,
+    let answer = match read_each(alloc, &mut disk, log, stop) {
+        Ok(_) => Answer::text(alloc, "done")?,
         Err(fault) => refusal(alloc, fault)?,
     };
     Ok((Device::Disk(disk), answer))
-}
-
-/// Has a disk stop, where it is to.
-fn arm<D: StopDisk>(disk: &mut D, stop: Option<Stop>)
-    ensures files { D.files disk.new ≡ D.files disk.old }
-{
-    if let Some(Stop { calls, fill }) = stop {
-        disk.arm(calls, fill);
-    }
-}
-
-fn keep_open_close<D: StopDisk>(
-    alloc: Global,
-    disk: &mut D,
-    log: &[u8],
-    stop: Option<Stop>,
-) -> Result<(), LogFault>
-    requires header { 4 ≤ length log.now }
-    requires empty { IfSome (D.files disk.old) (λ fs. fs.log ≡ []) }
-{
-    arm(disk, stop);
-    keep_log(alloc, disk, log)?;
-    open_gate(disk)?;
-    close_gate(disk)
 }
 
 /// Keeps a log on an empty disk whose calls of these numbers fail, opens its gate and closes it, and tells what is read after each.
 pub fn course(alloc: Global, log: &[u8], fails: &[u64]) -> Result<(Device, Answer), Fault> {
     if log.len() < LEAST {
-        return Err(Fault::NoCall);
+        return Err(Fault::Form);
     }
     let mut disk = MemDisk::new(alloc, fails)?;
-    let answer = match read_each(alloc, &mut disk, log) {
-        Ok(read) => Answer::Text(course_text(alloc, read)?),
+    let answer = match read_each(alloc, &mut disk, log, None) {
+        Ok(read) => {
+            let [kept, opened, closed] = read;
+            let kept = version_text(alloc, kept)?;
+            let opened = version_text(alloc, opened)?;
+            let closed = version_text(alloc, closed)?;
+            Answer::of(format!(in alloc; "{kept} {opened} {closed}")?)
+        }
         Err(fault) => refusal(alloc, fault)?,
     };
     Ok((Device::Disk(disk), answer))
 }
 
-fn course_text(alloc: Global, read: [Option<Version>; 3]) -> Result<String, Fault> {
-    let [kept, opened, closed] = read;
-    let kept = version_text(alloc, kept)?;
-    let opened = version_text(alloc, opened)?;
-    let closed = version_text(alloc, closed)?;
-    Ok(format!(in alloc; "{kept} {opened} {closed}")?)
-}
-
-fn read_each<D: Disk>(
+/// What is read of a log once it is kept, once its gate is open, and once it is closed. Readings count among no changing calls.
+fn read_each<D: StopDisk>(
     alloc: Global,
     disk: &mut D,
     log: &[u8],
+    stop: Option<Stop>,
 ) -> Result<[Option<Version>; 3], LogFault>
     requires header { 4 ≤ length log.now }
     requires empty { IfSome (D.files disk.old) (λ fs. fs.log ≡ []) }
 {
+    arm(disk, stop);
     keep_log(alloc, disk, log)?;
     let kept = version_read(alloc, disk)?;
     open_gate(disk)?;

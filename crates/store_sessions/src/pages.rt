@@ -5,10 +5,10 @@ ghost use Rattle.ubik_types.specs.Version.{IsVersion};
 use crate::answers::Answer;
 use crate::bytes::Names;
 use crate::devices::{Device, PagedDisk};
-use crate::faults::Fault;
-use crate::words::{number_of, version_of};
+use crate::words::version_of;
 use disk_base::{Disk, FileNo, LenEnd, MemDisk};
 use page_file::{LABEL_LEN, PageFault, Pages};
+use session_rows::{Fault, number_in};
 use std::alloc::Global;
 use ubik_types::Version;
 
@@ -33,7 +33,7 @@ pub fn open_over(alloc: Global, disk: MemDisk) -> Result<(Device, Answer), Fault
 /// Why a database file is not taken.
 fn refusal(alloc: Global, fault: &PageFault) -> Result<Answer, Fault> {
     match fault {
-        PageFault::DiskFault => Answer::failed(alloc),
+        PageFault::DiskFault => Answer::text(alloc, "failed"),
         PageFault::BadLabel { len, head } => Answer::bad_label(alloc, *len, head),
         PageFault::NoMemory => Err(Fault::NoMemory),
     }
@@ -50,7 +50,7 @@ fn hold(alloc: Global, disk: MemDisk, pages: Pages) -> Result<(Device, Answer), 
             Ok((Device::Pages(PagedDisk { disk, pages }), answer))
         }
         LenEnd::Known(_) => Ok((Device::Disk(disk), answer)),
-        LenEnd::Failed => Ok((Device::Disk(disk), Answer::failed(alloc)?)),
+        LenEnd::Failed => Ok((Device::Disk(disk), Answer::text(alloc, "failed")?)),
     }
 }
 
@@ -62,12 +62,12 @@ pub fn call_pages(
     words: &[&str],
 ) -> Result<(Device, Answer), Fault> {
     match words {
-        ["put", at, bytes] => put(alloc, paged, number_of(at)?, &names.bytes_of(bytes)?),
-        ["read", at, len] => read(alloc, paged, number_of(at)?, number_of(len)?),
-        ["truncate", len] => truncate(alloc, paged, number_of(len)?),
+        ["put", at, bytes] => put(alloc, paged, number_in(at)?, &names.bytes_of(bytes)?),
+        ["read", at, len] => read(alloc, paged, number_in(at)?, number_in(len)?),
+        ["truncate", len] => truncate(alloc, paged, number_in(len)?),
         ["label", version] => label(alloc, paged, version_of(version)?),
         ["sync"] => sync(alloc, paged),
-        _ => Err(Fault::NoCall),
+        _ => Err(Fault::Form),
     }
 }
 
@@ -82,7 +82,7 @@ fn failed(alloc: Global, disk: MemDisk, pages: &Pages) -> Result<(Device, Answer
     let Version { epoch, counter } = pages.version();
     let len = pages.len();
     let text = format!(in alloc; "failed {epoch}.{counter} {len}")?;
-    Ok((Device::Disk(disk), Answer::Text(text)))
+    Ok((Device::Disk(disk), Answer::of(text)))
 }
 
 fn put(alloc: Global, paged: PagedDisk, at: u32, bytes: &[u8]) -> Result<(Device, Answer), Fault> {
@@ -92,7 +92,7 @@ fn put(alloc: Global, paged: PagedDisk, at: u32, bytes: &[u8]) -> Result<(Device
     } = paged;
     let end = u64::from(at) + bytes.len() as u64;
     if at > pages.len() || end > u64::from(u32::MAX) {
-        return Err(Fault::NoCall);
+        return Err(Fault::Form);
     }
     pages.reserve(&mut disk, end as u32)?;
     match pages.write_range(&mut disk, at, bytes) {
@@ -107,13 +107,13 @@ fn read(alloc: Global, paged: PagedDisk, at: u32, len: u32) -> Result<(Device, A
         mut pages,
     } = paged;
     if u64::from(at) + u64::from(len) > u64::from(pages.len()) {
-        return Err(Fault::NoCall);
+        return Err(Fault::Form);
     }
     let mut bytes = vec![in alloc; 0u8; len as usize]?;
     match pages.read_range(&mut disk, at, &mut bytes) {
         Ok(()) => Ok((
             Device::Pages(PagedDisk { disk, pages }),
-            Answer::Bytes(bytes),
+            Answer::bytes(alloc, bytes),
         )),
         Err(_) => failed(alloc, disk, &pages),
     }
@@ -125,7 +125,7 @@ fn truncate(alloc: Global, paged: PagedDisk, len: u32) -> Result<(Device, Answer
         mut pages,
     } = paged;
     if len > pages.len() {
-        return Err(Fault::NoCall);
+        return Err(Fault::Form);
     }
     match pages.cut(&mut disk, len) {
         Ok(()) => done(alloc, PagedDisk { disk, pages }),

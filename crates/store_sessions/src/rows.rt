@@ -3,71 +3,69 @@ use crate::bytes::Names;
 use crate::calls::make;
 use crate::devices::Device;
 use crate::disks::planned;
-use crate::faults::Fault;
-use crate::words::long_of;
+use session_rows::{Fault, Report, long_in};
 use std::alloc::Global;
 
 /// A line of the input, and its number.
 #[derive(Drop)]
-pub struct Line<'a> {
-    pub number: u32,
-    pub text: &'a str,
+struct Line {
+    number: u32,
+    text: String,
 }
 
 /// A word that stands in braces, and the values that it has in turn.
 #[derive(Drop)]
-struct Variable<'a> {
-    name: &'a str,
+struct Variable {
+    name: String,
     values: Vec<String>,
 }
 
-/// A session: a name, the words in braces, and the lines.
+/// A session: the words in braces, and the lines.
 #[derive(Drop)]
-pub struct Session<'a> {
+pub struct Session {
     alloc: Global,
-    name: &'a str,
-    variables: Vec<Variable<'a>>,
-    lines: Vec<Line<'a>>,
+    variables: Vec<Variable>,
+    lines: Vec<Line>,
 }
 
 /// How a call of a row differs from what its line says.
 #[derive(Drop)]
 pub struct Difference {
-    pub line: u32,
     pub expected: String,
     pub found: String,
 }
 
-impl<'a> Session<'a> {
-    pub fn new(alloc: Global, name: &'a str) -> Session<'a> {
+impl Session {
+    pub fn new(alloc: Global) -> Session {
         Session {
             alloc,
-            name,
             variables: Vec::new(alloc),
             lines: Vec::new(alloc),
         }
     }
 
     /// Adds a line.
-    pub fn add(&mut self, line: Line<'a>) -> Result<(), Fault> {
-        self.lines.push(line)?;
+    pub fn add(&mut self, number: u32, text: &str) -> Result<(), Fault> {
+        let text = String::from_str(self.alloc, text)?;
+        self.lines.push(Line { number, text })?;
         Ok(())
     }
 
     /// Adds a word in braces, as `NAME A..B`, both included, or `NAME VALUE VALUE ..`.
-    pub fn vary(&mut self, text: &'a str) -> Result<(), Fault> {
-        let (name, rest) = text.split_once(' ').ok_or(Fault::NoLine)?;
+    pub fn vary(&mut self, text: &str) -> Result<(), Fault> {
+        let (name, rest) = text.split_once(' ').ok_or(Fault::Form)?;
         let mut values = Vec::new(self.alloc);
         for word in rest.split(' ') {
             match word.split_once("..") {
                 None => values.push(String::from_str(self.alloc, word)?)?,
                 Some((from, to)) => {
-                    for number in long_of(from)?..=long_of(to)? {
+                    for number in long_in(from)?..=long_in(to)? {
                         values.push(format!(in self.alloc; "{number}")?)?;
                     }
                 }
             }
         }
+        let name = String::from_str(self.alloc, name)?;
         self.variables.push(Variable { name, values })?;
         Ok(())
     }
@@ -90,7 +88,7 @@ impl<'a> Session<'a> {
                 filled.push_str(piece)?;
                 is_first = false;
             } else {
-                let (name, rest) = piece.split_once('}').ok_or(Fault::NoLine)?;
+                let (name, rest) = piece.split_once('}').ok_or(Fault::Form)?;
                 filled.push_str(self.value(row, name)?)?;
                 filled.push_str(rest)?;
             }
@@ -104,36 +102,40 @@ impl<'a> Session<'a> {
         for variable in self.variables.iter().rev() {
             let count = variable.values.len() as u64;
             if count == 0 {
-                return Err(Fault::NoLine);
+                return Err(Fault::Form);
             }
-            if variable.name == name {
+            if variable.name.as_str() == name {
                 let at = (rest % count) as usize;
                 return Ok(variable.values[at].as_str());
             }
             rest /= count;
         }
-        Err(Fault::NoLine)
+        Err(Fault::Form)
     }
 
-    /// The name of a row: that of the session, and its values.
-    pub fn row_name(&self, row: u64) -> Result<String, Fault> {
-        let mut name = String::from_str(self.alloc, self.name)?;
+    /// The values of a row, as they stand behind the name of its session.
+    pub fn values_text(&self, row: u64) -> Result<String, Fault> {
+        let mut text = String::new(self.alloc);
         for variable in &self.variables {
-            name.push_str(" ")?;
-            name.push_str(variable.name)?;
-            name.push_str("=")?;
-            name.push_str(self.value(row, variable.name)?)?;
+            let name = variable.name.as_str();
+            let value = self.value(row, name)?;
+            text.push_str(format!(in self.alloc; " {name}={value}")?.as_str())?;
         }
-        Ok(name)
+        Ok(text)
     }
 
-    /// Runs a row up to the first line that does not go as it says. After a fault `at` is the number of its line.
-    pub fn run(&self, names: &Names, row: u64, at: &mut u32) -> Result<Option<Difference>, Fault> {
+    /// Runs a row up to the first line that does not go as it says, to which the report is turned then.
+    pub fn run(
+        &self,
+        names: &Names,
+        report: &mut Report,
+        row: u64,
+    ) -> Result<Option<Difference>, Fault> {
         let mut device = planned(self.alloc, &[])?;
         for line in &self.lines {
-            *at = line.number;
-            let text = self.filled(row, line.text)?;
-            let (next, differs) = run_line(self.alloc, names, device, line.number, text.as_str())?;
+            report.turn_to(line.number);
+            let text = self.filled(row, line.text.as_str())?;
+            let (next, differs) = run_line(self.alloc, names, device, text.as_str())?;
             if differs.is_some() {
                 return Ok(differs);
             }
@@ -148,7 +150,6 @@ fn run_line(
     alloc: Global,
     names: &Names,
     device: Device,
-    number: u32,
     text: &str,
 ) -> Result<(Device, Option<Difference>), Fault> {
     let (call, expected) = text.split_once(" -> ").unwrap_or((text, "done"));
@@ -161,7 +162,6 @@ fn run_line(
         return Ok((device, None));
     }
     let differs = Difference {
-        line: number,
         expected: String::from_str(alloc, expected)?,
         found: answer.told(alloc)?,
     };

@@ -1,13 +1,13 @@
 //! Calls of a store. An opening opens the files of its disk anew, and may arm a stop before it.
-ghost use Rattle.std.specs.Prelude.{IsSome};
+ghost use Rattle.std.specs.Prelude.{◌≡◌, IsSome};
 ghost use Rattle.disk_base.specs.Crash.{IsSettled};
 
 use crate::answers::Answer;
 use crate::bytes::Names;
 use crate::devices::{Device, HeldStore};
-use crate::faults::Fault;
-use crate::words::{fill_of, number_of, version_of};
+use crate::words::{fill_of, version_of};
 use disk_base::{Fill, MemDisk, Refused, StopDisk};
+use session_rows::{Fault, number_in};
 use std::alloc::Global;
 use ubik_store::{Store, StoreFault};
 use ubik_types::Version;
@@ -19,25 +19,23 @@ pub struct Stop {
     pub fill: Fill,
 }
 
-/// Opens the files of a disk anew.
-fn revived<D: StopDisk>(disk: D) -> D
+/// Has a disk stop, where it is to.
+pub fn arm<D: StopDisk>(disk: &mut D, stop: Option<Stop>)
+    ensures files { D.files disk.new ≡ D.files disk.old }
+    ensures settled { IsSettled (D.files disk.old) (D.may_leave disk.old) → IsSettled (D.files disk.new) (D.may_leave disk.new) }
+{
+    if let Some(Stop { calls, fill }) = stop {
+        disk.arm(calls, fill);
+    }
+}
+
+/// Opens the files of a disk anew, which may stop then.
+fn revived<D: StopDisk>(disk: D, stop: Option<Stop>) -> D
     ensures settled { IsSettled (D.files result) (D.may_leave result) }
 {
     let mut disk = disk;
     disk.revive();
-    disk
-}
-
-/// Has a disk stop, where it is to.
-fn armed<D: StopDisk>(disk: D, stop: Option<Stop>) -> D
-    requires settled { IsSettled (D.files disk) (D.may_leave disk) }
-    ensures settled { IsSettled (D.files result) (D.may_leave result) }
-{
-    let Some(Stop { calls, fill }) = stop else {
-        return disk;
-    };
-    let mut disk = disk;
-    disk.arm(calls, fill);
+    arm(&mut disk, stop);
     disk
 }
 
@@ -47,8 +45,7 @@ pub fn open_store(
     disk: MemDisk,
     stop: Option<Stop>,
 ) -> Result<(Device, Answer), Fault> {
-    let disk = armed(revived(disk), stop);
-    match Store::open(alloc, disk) {
+    match Store::open(alloc, revived(disk, stop)) {
         Ok(store) => {
             let answer = Answer::state(alloc, store.version(), store.len())?;
             Ok((Device::Store(HeldStore { store }), answer))
@@ -60,10 +57,10 @@ pub fn open_store(
 /// Why a call of a store was not done.
 fn refusal(alloc: Global, fault: &StoreFault) -> Result<Answer, Fault> {
     match fault {
-        StoreFault::DiskFault => Answer::failed(alloc),
+        StoreFault::DiskFault => Answer::text(alloc, "failed"),
         StoreFault::BadLabel { len, head } => Answer::bad_label(alloc, *len, head),
         StoreFault::TooLarge { bytes } => {
-            Ok(Answer::Text(format!(in alloc; "too large {bytes}")?))
+            Ok(Answer::of(format!(in alloc; "too large {bytes}")?))
         }
         StoreFault::NotNewer { own, given } => {
             let (epoch, counter) = (own.epoch, own.counter);
@@ -72,7 +69,7 @@ fn refusal(alloc: Global, fault: &StoreFault) -> Result<Answer, Fault> {
                 counter: as_given,
             } = *given;
             let text = format!(in alloc; "not newer {epoch}.{counter} {to}.{as_given}")?;
-            Ok(Answer::Text(text))
+            Ok(Answer::of(text))
         }
         StoreFault::NoMemory => Err(Fault::NoMemory),
     }
@@ -80,7 +77,7 @@ fn refusal(alloc: Global, fault: &StoreFault) -> Result<Answer, Fault> {
 
 fn ended(alloc: Global, end: Result<(), StoreFault>) -> Result<Answer, Fault> {
     match end {
-        Ok(()) => Answer::done(alloc),
+        Ok(()) => Answer::text(alloc, "done"),
         Err(fault) => refusal(alloc, &fault),
     }
 }
@@ -96,30 +93,18 @@ pub fn call_store(
         ["version"] => Answer::state(alloc, held.store.version(), held.store.len()),
         ["image"] => image(alloc, held),
         ["stop", calls, fill] => {
-            held.store.arm(number_of(calls)?, fill_of(fill)?);
-            Answer::done(alloc)
+            held.store.arm(number_in(calls)?, fill_of(fill)?);
+            Answer::text(alloc, "done")
         }
-        ["stopped"] => Answer::yes_or_no(alloc, held.store.stopped()),
-        ["begun"] => Answer::yes_or_no(alloc, held.store.begun()),
+        ["stopped"] => Answer::text(alloc, if held.store.stopped() { "yes" } else { "no" }),
+        ["begun"] => Answer::text(alloc, if held.store.begun() { "yes" } else { "no" }),
         ["abort"] => {
             held.store.abort();
-            Answer::done(alloc)
+            Answer::text(alloc, "done")
         }
-        _ => call_changing(alloc, names, held, words),
+        _ if held.store.begun() => call_begun(alloc, names, held, words),
+        _ => call_at_rest(alloc, names, held, words),
     }
-}
-
-/// Makes a call that changes a store, where changes were begun or none were.
-fn call_changing(
-    alloc: Global,
-    names: &Names,
-    held: &mut HeldStore,
-    words: &[&str],
-) -> Result<Answer, Fault> {
-    if held.store.begun() {
-        return call_begun(alloc, names, held, words);
-    }
-    call_at_rest(alloc, names, held, words)
 }
 
 /// Makes a call of a store where changes were begun.
@@ -133,15 +118,15 @@ fn call_begun(
 {
     match words {
         ["put", at, bytes] => {
-            let (at, bytes) = (number_of(at)?, names.bytes_of(bytes)?);
+            let (at, bytes) = (number_in(at)?, names.bytes_of(bytes)?);
             if u64::from(at) + bytes.len() as u64 > u64::from(u32::MAX) {
-                return Err(Fault::NoCall);
+                return Err(Fault::Form);
             }
             ended(alloc, held.store.put(at, &bytes))
         }
-        ["truncate", len] => ended(alloc, held.store.truncate(number_of(len)?)),
+        ["truncate", len] => ended(alloc, held.store.truncate(number_in(len)?)),
         ["commit", version] => ended(alloc, held.store.commit(version_of(version)?)),
-        _ => Err(Fault::NoCall),
+        _ => Err(Fault::Form),
     }
 }
 
@@ -157,14 +142,14 @@ fn call_at_rest(
     match words {
         ["begin"] => {
             held.store.begin();
-            Answer::done(alloc)
+            Answer::text(alloc, "done")
         }
         ["relabel", version] => ended(alloc, held.store.relabel(version_of(version)?)),
         ["install", bytes, version] => {
             let (image, version) = (names.bytes_of(bytes)?, version_of(version)?);
             ended(alloc, held.store.install(&image, version))
         }
-        _ => Err(Fault::NoCall),
+        _ => Err(Fault::Form),
     }
 }
 
@@ -172,7 +157,7 @@ fn call_at_rest(
 fn image(alloc: Global, held: &mut HeldStore) -> Result<Answer, Fault> {
     let mut bytes = vec![in alloc; 0u8; held.store.len() as usize]?;
     match held.store.read(0, &mut bytes) {
-        Ok(()) => Ok(Answer::Bytes(bytes)),
+        Ok(()) => Ok(Answer::bytes(alloc, bytes)),
         Err(fault) => refusal(alloc, &fault),
     }
 }
