@@ -6,8 +6,4 @@ mod links;
 #[cfg(test)]
 mod nets;
 #[cfg(test)]
-mod scripts;
-#[cfg(test)]
-mod values;
-#[cfg(test)]
 mod writes;

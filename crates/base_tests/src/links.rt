@@ -44,12 +44,13 @@ fn echo_once(stream: &mut TcpStream) -> io::Result<()> {
     stream.write_all(&frame)
 }
 
-/// Answers two asks over one connection.
-fn serve_two(listener: &TcpListener) -> io::Result<TcpStream> {
+/// Answers so many asks over one connection.
+fn serve_many(listener: &TcpListener, count: u32) -> io::Result<()> {
     let (mut stream, _) = listener.accept()?;
-    echo_once(&mut stream)?;
-    echo_once(&mut stream)?;
-    Ok(stream)
+    for _ in 0..count {
+        echo_once(&mut stream)?;
+    }
+    Ok(())
 }
 
 /// Answers one ask, and takes one more without an answer.
@@ -72,11 +73,11 @@ fn asks_over_the_loopback(rt: HostRuntime) -> Result<(), Fail> {
     let (near, peer, asked, told) = (&rt, &listener, &mut link, &mut reply);
     let (served, answers) = thread::join(
         near,
-        move || serve_two(peer),
+        move || serve_many(peer, 2),
         move || ask_twice(asked, port, told),
     );
     // The connection that the link keeps is closed from here on.
-    drop(served?);
+    served?;
     assert_eq!(rt; answers, [Answer::Got, Answer::Got]);
     assert_eq!(rt; reply.as_slice(), FRAME.as_slice());
     let (near, peer, asked, told) = (&rt, &listener, &mut link, &mut reply);
@@ -246,15 +247,6 @@ impl<R: Clock> Clock for CountedNet<R> {
     fn since_1970(&self) -> io::Result<Duration> {
         self.rt.since_1970()
     }
-}
-
-/// Answers so many asks over one connection.
-fn serve_many(listener: &TcpListener, count: u32) -> io::Result<()> {
-    let (mut stream, _) = listener.accept()?;
-    for _ in 0..count {
-        echo_once(&mut stream)?;
-    }
-    Ok(())
 }
 
 /// How many of so many asks are answered.

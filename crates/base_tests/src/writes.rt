@@ -1,9 +1,6 @@
-//! A write in its flight, and the image before it.
-ghost use Rattle.std.specs.Prelude.{◌<◌, ◌^◌, length};
-
+//! A write in its flight, and the image before it, over images whose reads fail.
 use db_image::{ImageRead, ReadEnd, VecImage};
 use std::alloc::Global;
-use std::process::Abort;
 use std::test::Fail;
 use ubik_types::{Change, Changes, NoMemory, Version, bytes_of};
 use ubik_write::{BeforeImage, Flight, FlightFault, text_len};
@@ -69,88 +66,13 @@ fn changes(alloc: Global) -> Result<Changes, NoMemory> {
     Ok(Changes::new(list))
 }
 
-/// Parts of the image before those changes, from positions on.
-const PARTS: [(u32, &[u8]); 7] = [
-    (0, b"abcdefgh"),
-    (0, b""),
-    (8, b""),
-    (1, b"bc"),
-    (4, b"ef"),
-    (6, b"gh"),
-    (7, b"h"),
-];
-
-/// A flight of changes with a short text, over an image of these bytes.
-fn short_flight(
-    rt: &impl Abort,
-    alloc: Global,
-    changes: &Changes,
-    bytes: &[u8],
-) -> Result<Flight, Fail>
-    requires { length bytes.now < 2 ^ 32 }
-{
-    assert!(rt; text_len(changes) < 10_000);
-    let mut image = VecImage::new(alloc, bytes)?;
-    let flight = Flight::make(alloc, 5, OLD, NEW, 1076, changes, &mut image)?;
-    Ok(flight)
-}
-
-/// What the image was, from a read of it after the changes, and who has the write. Of the byte behind its end then it does not
-/// matter what is there.
-#[test]
-fn a_flight_tells_the_image_before(rt: HostRuntime) -> Result<(), Fail> {
-    let changes = changes(rt.alloc())?;
-    assert_eq!(rt; text_len(&changes), 56);
-    let mut flight = short_flight(&rt, rt.alloc(), &changes, b"abcdefgh")?;
-    assert_eq!(rt; flight.ids(), (5, OLD, NEW, 1076));
-    assert_eq!(rt; flight.old_len(), 8);
-    let mut whole = *b"aXYde\0W?";
-    flight.undone(0, &mut whole);
-    assert!(rt; whole.as_slice() == b"abcdefgh".as_slice());
-    let mut part = *b"de\0W";
-    flight.undone(3, &mut part);
-    assert!(rt; part.as_slice() == b"defg".as_slice());
-    flight.kept(1);
-    flight.kept(3);
-    assert!(rt; &flight.holders().set[..4] == [false, true, false, true].as_slice());
-    Ok(())
-}
-
-/// The image after the changes, of seven bytes.
-const AFTER: &[u8; 7] = b"aXYde\0W";
-
-/// Whether an image has these bytes, eight at most, from a position on.
-fn has<I: ImageRead>(image: &mut I, at: u32, wanted: &[u8]) -> bool {
-    let mut buf = [b'?'; 8];
-    if wanted.len() > 8 || at as usize + wanted.len() > image.len() as usize {
-        return false;
-    }
-    let part = &mut buf[..wanted.len()];
-    let end = image.read(at, part);
-    end == ReadEnd::Done && &*part == wanted
-}
-
-/// Each part of the image before, read through the image after it, which is shorter.
-#[test]
-fn a_before_image_reads_each_part(rt: HostRuntime) -> Result<(), Fail> {
-    let changes = changes(rt.alloc())?;
-    let flight = short_flight(&rt, rt.alloc(), &changes, b"abcdefgh")?;
-    let mut before = BeforeImage {
-        image: VecImage::new(rt.alloc(), AFTER)?,
-        flight: &flight,
-    };
-    assert_eq!(rt; before.len(), 8);
-    for (at, wanted) in PARTS {
-        assert!(rt; has(&mut before, at, wanted), "from {at} on");
-    }
-    Ok(())
-}
-
 /// An image whose reads fail fails before a write too, and where nothing of it is read there is no fault. No flight is made over it.
 #[test]
 fn reads_that_fail(rt: HostRuntime) -> Result<(), Fail> {
     let changes = changes(rt.alloc())?;
-    let flight = short_flight(&rt, rt.alloc(), &changes, b"abcdefgh")?;
+    assert!(rt; text_len(&changes) < 100);
+    let mut whole = VecImage::new(rt.alloc(), b"abcdefgh")?;
+    let flight = Flight::make(rt.alloc(), 5, OLD, NEW, 1076, &changes, &mut whole)?;
     let mut before = BeforeImage {
         image: FailingImage { faults: 0 },
         flight: &flight,
@@ -162,7 +84,6 @@ fn reads_that_fail(rt: HostRuntime) -> Result<(), Fail> {
     assert_eq!(rt; before.read(3, &mut part), ReadEnd::Done);
     assert_eq!(rt; before.image.faults, 1);
     assert!(rt; part.as_slice() == b"\0\0fgh".as_slice());
-    assert!(rt; text_len(&changes) < 100);
     let mut image = FailingImage { faults: 0 };
     let made = Flight::make(rt.alloc(), 5, OLD, NEW, 1076, &changes, &mut image);
     assert!(rt; matches!(made, Err(FlightFault::DiskFault)));
