@@ -1,9 +1,9 @@
 //! Calls over images that are damaged, at each of many places.
 use crate::ends::end_over;
-use crate::faults::Fault;
-use crate::tokens::{first_of, first_place, parted, place_of, read_bytes, words_of};
+use crate::tokens::{first_place, parted, place_of, words_of};
 use db_image::{Draft, DraftService, DraftWords, ImageRead, VecImage};
 use pt_protection::PtService;
+use session_rows::{Fault, bytes_in, first_of};
 use std::alloc::Global;
 use ubik_types::{Bytes, MAX_IMAGE};
 
@@ -32,7 +32,7 @@ enum Wanted<'a> {
 /// The call that a line names.
 pub fn call_of(alloc: Global, line: &str) -> Result<Bytes, Fault> {
     let words = words_of(alloc, line)?;
-    PtService::call_words(alloc, words.as_slice())?.ok_or(Fault::NoCall)
+    PtService::call_words(alloc, words.as_slice())?.ok_or(Fault::Form)
 }
 
 /// What is found where a row says how a call ends over each image with one byte damaged: the end that the row says, or the first other one.
@@ -46,7 +46,7 @@ pub fn found_over(alloc: Global, image: &[u8], row: &str) -> Result<String, Faul
     let wanted = wanted_of(expected)?;
     let mut draft = draft_over(alloc, image)?;
     for at in from..to {
-        let byte = *image.get(at).ok_or(Fault::NoBytes)?;
+        let byte = *image.get(at).ok_or(Fault::Form)?;
         let (told, len) = match damage {
             Damage::Set(other) => end_with(alloc, &mut draft, at, [byte, other], call.as_slice())?,
             Damage::Flip(bits) => {
@@ -68,14 +68,14 @@ fn damage_of<'a>(alloc: Global, word: &str, left: &'a str) -> Result<(Damage, &'
         return Ok((Damage::Cut, left));
     }
     let (byte, left) = first_of(left);
-    let byte = match read_bytes(alloc, byte)?.as_slice() {
+    let byte = match bytes_in(alloc, byte)?.as_slice() {
         [byte] => *byte,
-        _ => return Err(Fault::NoBytes),
+        _ => return Err(Fault::Form),
     };
     match word {
         "set" => Ok((Damage::Set(byte), left)),
         "flip" => Ok((Damage::Flip(byte), left)),
-        _ => Err(Fault::NoLine),
+        _ => Err(Fault::Form),
     }
 }
 
@@ -89,7 +89,7 @@ fn wanted_of(expected: &str) -> Result<Wanted<'_>, Fault> {
 
 fn draft_over(alloc: Global, image: &[u8]) -> Result<Draft<VecImage>, Fault> {
     if image.len() > MAX_IMAGE {
-        return Err(Fault::TooLong);
+        return Err(Fault::Form);
     }
     Ok(PtService::draft(alloc, VecImage::new(alloc, image)?))
 }
@@ -103,7 +103,7 @@ fn end_with(
     call: &[u8],
 ) -> Result<(String, usize), Fault> {
     if at > MAX_IMAGE {
-        return Err(Fault::TooLong);
+        return Err(Fault::Form);
     }
     let [byte, other] = bytes;
     draft.put(at as u32, &[other]).map_err(|_| Fault::NoMemory)?;
@@ -119,7 +119,7 @@ fn end_before(
     len: usize,
     call: &[u8],
 ) -> Result<(String, usize), Fault> {
-    let (front, _) = image.split_at_checked(len).ok_or(Fault::NoBytes)?;
+    let (front, _) = image.split_at_checked(len).ok_or(Fault::Form)?;
     let mut draft = draft_over(alloc, front)?;
     Ok((end_over(alloc, &mut draft, call)?, len))
 }

@@ -1,7 +1,7 @@
 //! How calls end over an image.
-use crate::faults::Fault;
 use db_image::{CallEnd, Draft, DraftService, DraftWords, ImageRead, VecImage};
 use pt_protection::PtService;
+use session_rows::Fault;
 use std::alloc::Global;
 use ubik_types::{Bytes, MAX_IMAGE};
 
@@ -11,7 +11,7 @@ const NOW: u32 = 1076;
 /// Makes a call over an image, and tells how it ended.
 pub fn end_over(alloc: Global, draft: &mut Draft<VecImage>, call: &[u8]) -> Result<String, Fault> {
     if draft.len() as usize > MAX_IMAGE {
-        return Err(Fault::TooLong);
+        return Err(Fault::Form);
     }
     let end = PtService::call(alloc, draft, NOW, call);
     told_of(alloc, call, &end)

@@ -1,10 +1,10 @@
 //! The image of a session, and rows that tell its bytes.
 use crate::damage::found_over;
 use crate::ends::end_over;
-use crate::faults::Fault;
-use crate::tokens::{first_of, first_place, place_of, read_bytes};
+use crate::tokens::{first_place, place_of};
 use db_image::{Draft, DraftService, ImageRead, VecImage};
 use pt_protection::PtService;
+use session_rows::{Fault, bytes_in, first_of};
 use std::alloc::Global;
 use ubik_types::MAX_IMAGE;
 
@@ -73,9 +73,9 @@ impl Image {
     /// Lays the bytes that a line has behind their position.
     pub fn lay(&mut self, line: &str) -> Result<(), Fault> {
         let (at, rest) = first_place(line)?;
-        let bytes = read_bytes(self.alloc, rest)?;
+        let bytes = bytes_in(self.alloc, rest)?;
         if at > MAX_IMAGE || bytes.len() > MAX_IMAGE {
-            return Err(Fault::TooLong);
+            return Err(Fault::Form);
         }
         self.read = None;
         self.draft
@@ -117,7 +117,7 @@ impl Image {
             "same" => found_same(self.alloc, &mut bytes, &self.kept, row)?,
             "zero" => found_zero(self.alloc, &bytes.untold)?,
             _ => {
-                let told = read_bytes(self.alloc, rest)?;
+                let told = bytes_in(self.alloc, rest)?;
                 found_at(self.alloc, &mut bytes, row, place_of(word)?, &told)?
             }
         };
@@ -129,7 +129,7 @@ impl Image {
 /// How many blocks of a kind there are.
 fn found_blocks(alloc: Global, image: &[u8], rest: &str) -> Result<String, Fault> {
     let (word, _) = first_of(rest);
-    let kind = u8::try_from(place_of(word)?).map_err(|_| Fault::NoLine)?;
+    let kind = u8::try_from(place_of(word)?).map_err(|_| Fault::Form)?;
     let count = part(image, HEAD_LEN, MAX_IMAGE)
         .chunks(BLOCK_LEN)
         .filter(|block| block.starts_with(&[0, 0, 0, kind]))
@@ -144,7 +144,7 @@ fn found_same(alloc: Global, bytes: &mut Bytes, kept: &[u8], row: &str) -> Resul
     let len = place_of(rest)?;
     let kept = part(kept, at, len);
     if kept.len() < len {
-        return Err(Fault::NoBytes);
+        return Err(Fault::Form);
     }
     found_at(alloc, bytes, row, at, kept)
 }

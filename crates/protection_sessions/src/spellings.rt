@@ -1,10 +1,10 @@
 //! Rows that tell how calls and answers are spelled.
 use crate::damage::call_of;
-use crate::faults::Fault;
-use crate::tokens::{first_of, parted, read_bytes, words_of};
+use crate::tokens::words_of;
 use db_image::DraftService;
 use pt_calls::{call_words, kind_of, read_answer, read_call, spell_answer, spell_call};
 use pt_protection::{PtService, reply_words};
+use session_rows::{Fault, bytes_in, first_of};
 use std::alloc::Global;
 use std::str;
 
@@ -13,7 +13,7 @@ const MAX_TRIED: usize = 255;
 
 /// What is found where `BYTES` is to be the call that words name: the words, or what differs.
 pub fn found_call(alloc: Global, bytes: &str, words: &str) -> Result<String, Fault> {
-    let bytes = read_bytes(alloc, bytes)?;
+    let bytes = bytes_in(alloc, bytes)?;
     let found = call_fault(alloc, bytes.as_slice(), words)?.unwrap_or(words);
     Ok(String::from_str(alloc, found)?)
 }
@@ -68,7 +68,7 @@ fn has_call_inside(alloc: Global, bytes: &[u8]) -> Result<bool, Fault> {
 
 /// What bytes are: `none` where they are no call, or its name.
 pub fn found_name(alloc: Global, bytes: &str) -> Result<String, Fault> {
-    let bytes = read_bytes(alloc, bytes)?;
+    let bytes = bytes_in(alloc, bytes)?;
     let is_call = read_call(alloc, bytes.as_slice())?.is_some();
     let found = match kind_of(bytes.as_slice()) {
         Some(kind) if is_call => str::from_utf8(kind.word()).unwrap_or(""),
@@ -91,7 +91,7 @@ pub fn found_words(alloc: Global, words: &str) -> Result<String, Fault> {
 /// Whether a call writes or reads, which is given in words, or as bytes behind `bytes`.
 pub fn found_access(alloc: Global, call: &str) -> Result<String, Fault> {
     let writes = match first_of(call) {
-        ("bytes", bytes) => PtService::writes(read_bytes(alloc, bytes)?.as_slice()),
+        ("bytes", bytes) => PtService::writes(bytes_in(alloc, bytes)?.as_slice()),
         _ => PtService::writes(call_of(alloc, call)?.as_slice()),
     };
     let found = match writes {
@@ -104,19 +104,19 @@ pub fn found_access(alloc: Global, call: &str) -> Result<String, Fault> {
 
 /// What is found where bytes are to be the answer to a call, `CALL : BYTES`: the words of the answer, `none` where they are none, or what differs.
 pub fn found_answer(alloc: Global, row: &str) -> Result<String, Fault> {
-    let (call, bytes) = row.split_once(" : ").ok_or(Fault::NoLine)?;
+    let (call, bytes) = row.split_once(" : ").ok_or(Fault::Form)?;
     let call = call_of(alloc, call)?;
-    let bytes = read_bytes(alloc, bytes)?;
-    let kind = kind_of(call.as_slice()).ok_or(Fault::NoCall)?;
+    let bytes = bytes_in(alloc, bytes)?;
+    let kind = kind_of(call.as_slice()).ok_or(Fault::Form)?;
     let Some(answer) = read_answer(alloc, kind, bytes.as_slice())? else {
         return Ok(String::from_str(alloc, "none")?);
     };
     if spell_answer(alloc, &answer)?.as_slice() != bytes.as_slice() {
         return Ok(String::from_str(alloc, "an answer of other bytes")?);
     }
-    let words = reply_words(alloc, call.as_slice(), bytes.as_slice())?.ok_or(Fault::NoBytes)?;
+    let words = reply_words(alloc, call.as_slice(), bytes.as_slice())?.ok_or(Fault::Form)?;
     let mut found = String::from_str(alloc, "ok")?;
-    let words = str::from_utf8(words.as_slice()).map_err(|_| Fault::NoBytes)?;
+    let words = str::from_utf8(words.as_slice()).map_err(|_| Fault::Form)?;
     if !words.is_empty() {
         found.push_str(" ")?;
         found.push_str(words)?;
