@@ -1,6 +1,6 @@
 //! Answers of calls, in words.
-use crate::faults::Fault;
 use db_image::{CallEnd, DraftWords};
+use session_rows::Fault;
 use std::alloc::Global;
 use vl_database::VlService;
 

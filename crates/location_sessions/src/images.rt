@@ -1,8 +1,7 @@
 //! The image of a session, as rows tell it.
-use crate::bytes::bytes_in;
-use crate::faults::Fault;
 use db_image::{Draft, ImageRead, VecImage};
 use script_words::number_within;
+use session_rows::{Fault, bytes_in};
 use std::alloc::Global;
 
 /// The longest image of a row, in bytes.

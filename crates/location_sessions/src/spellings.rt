@@ -1,8 +1,8 @@
 //! Rows that tell how calls and answers are spelled: each function tells what was found in place of what a row expects.
 use crate::answers::answer_words;
-use crate::bytes::{bytes_in, words_in};
-use crate::faults::Fault;
+use crate::bytes::words_in;
 use db_image::{DraftService, DraftWords};
+use session_rows::{Fault, bytes_in};
 use std::alloc::Global;
 use std::str;
 use ubik_types::{Bytes, bytes_of};
@@ -15,7 +15,7 @@ const MAX_TRIED: usize = 255;
 /// The bytes of a call, which is given in words, or as bytes behind `bytes`.
 pub fn call_in(alloc: Global, text: &str) -> Result<Bytes, Fault> {
     if let Some(("bytes", bytes)) = text.split_once(' ') {
-        return bytes_in(alloc, bytes);
+        return Ok(Bytes::new(bytes_in(alloc, bytes)?));
     }
     let words = words_in(alloc, text)?;
     VlService::call_words(alloc, words.as_slice())?.ok_or(Fault::Form)
