@@ -4,11 +4,10 @@
 //! stands before an answer that has the number of another call, `garbage` for bytes that are no frame, `debug` for a frame of another
 //! kind. `notsent`, `noanswer` and `lacks` are the ends of an ask without a frame; at the last, memory ran out before anything was
 //! sent. `bytes` comes with a frame as it is.
-use crate::bytes::bytes_in;
-use crate::faults::Fault;
 use crate::frames::{DEBUG, REPLY, STATE, frame_of};
 use io_base::Answer;
-use script_words::{number, number_within, signed_number};
+use script_words::{number_within, signed_number};
+use session_rows::{Fault, bytes_in, first_of, long_in};
 use std::alloc::Global;
 use ubik_types::{Bytes, bytes_of};
 use xdr_base::XdrWriter;
@@ -26,12 +25,12 @@ pub fn answer_to(
     call: &str,
     answer: &str,
 ) -> Result<(Answer, Bytes), Fault> {
-    let (word, rest) = answer.split_once(' ').unwrap_or((answer, ""));
+    let (word, rest) = first_of(answer);
     match word {
         "notsent" => Ok((Answer::NotSent, Bytes::new(Vec::new(alloc)))),
         "noanswer" => Ok((Answer::NoAnswer, Bytes::new(Vec::new(alloc)))),
         "lacks" => Ok((Answer::NoMemory, Bytes::new(Vec::new(alloc)))),
-        "bytes" => Ok((Answer::Got, bytes_in(alloc, rest)?)),
+        "bytes" => Ok((Answer::Got, Bytes::new(bytes_in(alloc, rest)?))),
         "garbage" => Ok((Answer::Got, bytes_of(alloc, b"garbage")?)),
         "debug" => Ok((Answer::Got, frame_of(alloc, DEBUG, number, &[])?)),
         "othernumber" => Ok((
@@ -44,7 +43,7 @@ pub fn answer_to(
 
 /// The frame that answers the call of this number: a reply, or what a server says of itself.
 fn answer_frame(alloc: Global, number: u32, call: &str, answer: &str) -> Result<Bytes, Fault> {
-    let (call, _) = call.split_once(' ').unwrap_or((call, ""));
+    let (call, _) = first_of(call);
     let mut fields = Fields {
         rest: answer,
         out: XdrWriter::new(alloc),
@@ -78,7 +77,7 @@ impl<'a> Fields<'a> {
         if self.rest.is_empty() {
             return Err(Fault::Form);
         }
-        let (word, rest) = self.rest.split_once(' ').unwrap_or((self.rest, ""));
+        let (word, rest) = first_of(self.rest);
         self.rest = rest;
         Ok(word)
     }
@@ -135,7 +134,7 @@ impl<'a> Fields<'a> {
 
     /// Spells that an image would have so many bytes, a number of 64 bits.
     fn put_too_large(&mut self) -> Result<(), Fault> {
-        let bytes = number(self.word()?.as_bytes()).ok_or(Fault::Form)?;
+        let bytes = long_in(self.word()?)?;
         self.out.put_u32(5)?;
         self.out.put_u32((bytes >> 32) as u32)?;
         self.out.put_u32((bytes & 0xffff_ffff) as u32)?;

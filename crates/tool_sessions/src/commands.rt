@@ -1,8 +1,6 @@
 //! A command of a session, and how it is replayed.
 use crate::answers::answer_to;
-use crate::bytes::bytes_in;
 use crate::differences::{Difference, byte_difference, text_difference};
-use crate::faults::Fault;
 use crate::frames::{ASK, DEBUG, frame_of};
 use afs_client::client_top;
 use afs_words::Tool;
@@ -10,6 +8,7 @@ use disk_base::MemSink;
 use host_words::address;
 use io_base::{Answer, Exchange, MemAnswer, MemLink};
 use script_words::number_within;
+use session_rows::{Fault, bytes_in, long_in};
 use std::alloc::Global;
 use ubik_types::{Bytes, Host, bytes_of};
 
@@ -34,7 +33,7 @@ struct Asked {
 }
 
 /// A command: the words of the program behind its hosts, the word of its hosts, the number of its last call, where its calls go, what is
-/// answered, and what it is to write.
+/// answered, what it is to write, and which of its writes fail.
 #[derive(Drop)]
 pub struct Command {
     subject: Subject,
@@ -45,6 +44,8 @@ pub struct Command {
     answers: Vec<MemAnswer>,
     out: String,
     errors: String,
+    out_fails: Vec<u64>,
+    error_fails: Vec<u64>,
     frames: Option<Difference>,
 }
 
@@ -75,6 +76,8 @@ impl Command {
             answers: Vec::new(alloc),
             out: String::new(alloc),
             errors: String::new(alloc),
+            out_fails: Vec::new(alloc),
+            error_fails: Vec::new(alloc),
             frames: None,
         })
     }
@@ -88,6 +91,7 @@ impl Command {
             "f" => self.add_frames(alloc, line),
             "1" => add_line(&mut self.out, line),
             "2" => add_line(&mut self.errors, line),
+            "x" => self.add_fails(line),
             _ => Err(Fault::Form),
         }
     }
@@ -142,6 +146,15 @@ impl Command {
         Ok(())
     }
 
+    /// Takes which writes fail, by their numbers: `out N ..`, or `errors N ..`.
+    fn add_fails(&mut self, line: &str) -> Result<(), Fault> {
+        match line.split_once(' ') {
+            Some(("out", numbers)) => push_numbers(&mut self.out_fails, numbers),
+            Some(("errors", numbers)) => push_numbers(&mut self.error_fails, numbers),
+            _ => Err(Fault::Form),
+        }
+    }
+
     /// Runs the command over a link that gives its answers: what differs from what it is to ask and to write.
     pub fn replay(self, alloc: Global, status: &str) -> Result<Option<Difference>, Fault> {
         let Command {
@@ -151,6 +164,8 @@ impl Command {
             answers,
             out,
             errors,
+            out_fails,
+            error_fails,
             frames,
             ..
         } = self;
@@ -161,8 +176,8 @@ impl Command {
             words.insert(0, hosts)?;
         }
         let mut link = MemLink::new(answers);
-        let mut told = MemSink::new(alloc, &[])?;
-        let mut refused = MemSink::new(alloc, &[])?;
+        let mut told = MemSink::new(alloc, &out_fails)?;
+        let mut refused = MemSink::new(alloc, &error_fails)?;
         let ended = client_top(alloc, &words, &mut link, &mut told, &mut refused);
         let ended = format!(in alloc; "status {ended}\n")?;
         let status = format!(in alloc; "status {status}\n")?;
@@ -186,6 +201,13 @@ fn meant(word: &str) -> &str {
         "\"\"" => "",
         _ => word,
     }
+}
+
+fn push_numbers(list: &mut Vec<u64>, numbers: &str) -> Result<(), Fault> {
+    for number in numbers.split(' ') {
+        list.push(long_in(number)?)?;
+    }
+    Ok(())
 }
 
 fn add_line(text: &mut String, line: &str) -> Result<(), Fault> {

@@ -1,5 +1,5 @@
 //! What differs between what a row expects and what was found.
-use crate::faults::Fault;
+use session_rows::{Fault, told_bytes};
 use std::alloc::Global;
 use std::str;
 
@@ -41,7 +41,7 @@ pub fn text_difference(
     Difference::of(alloc, "no line", more)
 }
 
-/// Bytes that differ, in hexadecimal digits.
+/// Bytes that differ, as they are told.
 pub fn byte_difference(
     alloc: Global,
     expected: &[u8],
@@ -51,15 +51,7 @@ pub fn byte_difference(
         return Ok(None);
     }
     Ok(Some(Difference {
-        expected: digits_of(alloc, expected)?,
-        found: digits_of(alloc, found)?,
+        expected: told_bytes(alloc, expected)?,
+        found: told_bytes(alloc, found)?,
     }))
-}
-
-fn digits_of(alloc: Global, bytes: &[u8]) -> Result<String, Fault> {
-    let mut text = String::new(alloc);
-    for byte in bytes {
-        text.push_str(format!(in alloc; "{byte:02x}")?.as_str())?;
-    }
-    Ok(text)
 }

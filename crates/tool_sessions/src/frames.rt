@@ -1,5 +1,5 @@
 //! Frames: those that ask, and those that come back.
-use crate::faults::Fault;
+use session_rows::Fault;
 use std::alloc::Global;
 use ubik_types::Bytes;
 use xdr_base::XdrWriter;
