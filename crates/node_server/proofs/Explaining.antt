@@ -1,6 +1,7 @@
 -- Why a server ends so that was not opened, or that was.
-use Rattle.std.proofs.Common.{◌≡◌, ◌<◌, ◌≤◌, ◌⊎◌, inl, inr, ℕ, Bool, true, false, List, length, Option, Some, None, IfSome, IsNone, refl, ap, sym, ◌∙◌, subst, arith}
-use Rattle.std.specs.Prelude.{◌≢◌, if◌then◌else◌, MatchOption}
+use Rattle.std.proofs.Common.{◌≡◌, ◌<◌, ◌≤◌, ◌⊎◌, inl, inr, ℕ, Bool, true, false, List, length, Option, Some, None, IfSome, IsNone, Result, Ok, Err, refl, ap, sym, ◌∙◌, subst, arith}
+use Rattle.std.specs.Prelude.{◌≢◌, if◌then◌else◌, IsSome, IsSomeAnd, MatchOption}
+use Rattle.disk_base.specs.Crash.{IsSettled}
 use Rattle.ubik_types.specs.declared.versions.Version.{Version}
 use Rattle.disk_base.specs.declared.disks.Disk.{Ghosts}
 use Rattle.disk_base.specs.Files.{Files}
@@ -19,7 +20,9 @@ use Rattle.cell_model.specs.Durable.{Durable}
 use Rattle.cell_model.specs.Node as model
 use Rattle.ubik_node.specs.declared.nodes.Node.{Node}
 use Rattle.ubik_node.specs.Disk.{StandsAs}
-use Rattle.ubik_node.specs.Node.{node_of, up_server}
+use Rattle.ubik_node.specs.Node.{durable_in, node_of, up_server}
+use Rattle.server_station.proofs.Replaying.{stands_up}
+use Rattle.server_texts.specs.Words.{Named}
 use Rattle.server_journal.specs.declared.counts.Limits.{Limits}
 use Rattle.server_journal.specs.declared.items.JournalItem.{JournalItem}
 use Rattle.server_texts.specs.declared.kinds.ServerKind.{ServerKind}
@@ -28,7 +31,7 @@ use Rattle.server_texts.specs.declared.words.WordsFault.{WordsFault}
 use Rattle.server_texts.specs.declared.words.WordsFault.TheVariants.{Word, NoMemory}
 use Rattle.node_server.specs.declared.ends.ServerRun.{ServerRun}
 use Rattle.node_server.specs.Causes.{was_full}
-use Rattle.node_server.specs.Ends.{Explains, LeavesBadFiles, IsQuiet, IsNotRun, ShowsFiles, StandsForSome, kind_of_fault, kind_of_words}
+use Rattle.node_server.specs.Ends.{Explains, FollowsWords, IsComplete, IsQuiet, IsNotForWords, IsNotRun, IsUnforced, LeavesUnopened, ReadsAsBefore, ShowsFiles, StandAlike, StandsForSome, kind_of_fault, kind_of_words}
 use Rattle.node_server.proofs.Showing.{shows_refused}
 
 -- an opening that fails under one name fails under another
@@ -84,17 +87,30 @@ not_refused (fault.TooLarge bytes) is = cc
 not_refused (fault.NotNewer own given) is = cc
 not_refused fault.NoMemory is = cc
 
-leaves_bad_files : {D : Type 0} (g : Ghosts D) (old new : D) (why : StoreFault) → (why ≢ fault.DiskFault → OnlyReads g old new ⊥) → LeavesBadFiles g old new (kind_of_fault why)
-leaves_bad_files g old new fault.DiskFault unchanged = tt
-leaves_bad_files g old new (fault.BadLabel len head) unchanged = unchanged (λ is. absurd cc)
-leaves_bad_files g old new (fault.TooLarge bytes) unchanged = tt
-leaves_bad_files g old new (fault.NotNewer own given) unchanged = tt
-leaves_bad_files g old new fault.NoMemory unchanged = tt
+-- the same files stand for the same
+alike : (old new : Option Files) → new ≡ old → IfSome old (λ fs. StandsForSome fs → IsSomeAnd new (StandAlike fs))
+alike None new is = tt
+alike (Some fs) new is = λ some.
+    (let P : Option Files → Type 0 = λ files. IsSomeAnd files (StandAlike fs) in subst P (sym is) (some.0, some.1, some.2, some.2))
+
+reads_same : {D : Type 0} (g : Ghosts D) (old new : D) → IsSettled (g.files new) (g.may_leave new) → g.files new ≡ g.files old → ReadsAsBefore g old new
+reads_same g old new settled same = (settled, alike (g.files old) (g.files new) same)
+
+leaves_unopened : {D : Type 0} (g : Ghosts D) (old new : D) (why : StoreFault) → (why ≢ fault.DiskFault → OnlyReads g old new ⊥)
+    → (why ≢ fault.DiskFault → IsSettled (g.files new) (g.may_leave new)) → LeavesUnopened g old new (kind_of_fault why)
+leaves_unopened g old new fault.DiskFault unchanged settled = tt
+leaves_unopened g old new (fault.BadLabel len head) unchanged settled = unchanged (λ is. absurd cc)
+leaves_unopened g old new (fault.TooLarge bytes) unchanged settled =
+    reads_same g old new (settled (λ is. absurd cc)) ((unchanged (λ is. absurd cc)).files (λ no. no))
+leaves_unopened g old new (fault.NotNewer own given) unchanged settled =
+    reads_same g old new (settled (λ is. absurd cc)) ((unchanged (λ is. absurd cc)).files (λ no. no))
+leaves_unopened g old new fault.NoMemory unchanged settled = reads_same g old new (settled (λ is. absurd cc)) ((unchanged (λ is. absurd cc)).files (λ no. no))
 
 refused_as : {D J : Type 0} (g : Ghosts D) (items_of : J → List JournalItem) (limits_of : J → Limits) (limits : Limits) (may_close may_refuse : Type 0) (old new : D) (why : StoreFault)
-    → IfSome (g.files old) (λ fs. RefusesFiles fs why) → (why ≢ fault.DiskFault → OnlyReads g old new ⊥) → IsOpening g old new (why ≡ fault.DiskFault)
+    → IfSome (g.files old) (λ fs. RefusesFiles fs why) → (why ≢ fault.DiskFault → OnlyReads g old new ⊥)
+    → (why ≢ fault.DiskFault → IsSettled (g.files new) (g.may_leave new)) → IsOpening g old new (why ≡ fault.DiskFault)
     → Explains g items_of limits_of limits may_close may_refuse old new (kind_of_fault why) None
-refused_as g items_of limits_of limits may_close may_refuse old new why files unchanged opening = record {
+refused_as g items_of limits_of limits may_close may_refuse old new why files unchanged settled opening = record {
   closed = λ is. absurd (not_closed why is);
   refused = λ is. absurd (not_refused why is);
   journal_full = λ entries bytes is. tt;
@@ -103,16 +119,17 @@ refused_as g items_of limits_of limits may_close may_refuse old new why files un
   run = λ none. not_run why;
   opened = tt;
   kept = tt;
-  disk = (leaves_bad_files g old new why unchanged, inr (opening_as g old new (why ≡ fault.DiskFault) (kind_of_fault why ≡ kind.DiskFault) (to_kind why) (from_kind why) opening));
+  disk = (leaves_unopened g old new why unchanged settled, inr (opening_as g old new (why ≡ fault.DiskFault) (kind_of_fault why ≡ kind.DiskFault) (to_kind why) (from_kind why) opening));
 }
 
 -- a server that its store refuses
 pub refused : {D J : Type 0} (g : Ghosts D) (items_of : J → List JournalItem) (limits_of : J → Limits) (limits : Limits) (may_close may_refuse : Type 0) (old new : D) (why : StoreFault) (ended : ServerKind)
-    → ended ≡ kind_of_fault why → IfSome (g.files old) (λ fs. RefusesFiles fs why) → (why ≢ fault.DiskFault → OnlyReads g old new ⊥) → IsOpening g old new (why ≡ fault.DiskFault)
+    → ended ≡ kind_of_fault why → IfSome (g.files old) (λ fs. RefusesFiles fs why) → (why ≢ fault.DiskFault → OnlyReads g old new ⊥)
+    → (why ≢ fault.DiskFault → IsSettled (g.files new) (g.may_leave new)) → IsOpening g old new (why ≡ fault.DiskFault)
     → Explains g items_of limits_of limits may_close may_refuse old new ended None
-refused g items_of limits_of limits may_close may_refuse old new why ended is files unchanged opening =
+refused g items_of limits_of limits may_close may_refuse old new why ended is files unchanged settled opening =
     let P : ServerKind → Type 0 = λ e. Explains g items_of limits_of limits may_close may_refuse old new e None in
-    subst P (sym is) (refused_as g items_of limits_of limits may_close may_refuse old new why files unchanged opening)
+    subst P (sym is) (refused_as g items_of limits_of limits may_close may_refuse old new why files unchanged settled opening)
 
 shows_word : (files : Option Files) (place : ℕ) → IfSome files (λ fs. ShowsFiles fs (kind.Words place))
 shows_word None place = tt
@@ -123,8 +140,8 @@ shows_no_memory None = tt
 shows_no_memory (Some fs) = tt
 
 unread_as : {D J : Type 0} (g : Ghosts D) (items_of : J → List JournalItem) (limits_of : J → Limits) (limits : Limits) (may_close may_refuse : Type 0) (disk : D) (why : WordsFault)
-    → Explains g items_of limits_of limits may_close may_refuse disk disk (kind_of_words why) None
-unread_as g items_of limits_of limits may_close may_refuse disk (Word place) = record {
+    → IsSettled (g.files disk) (g.may_leave disk) → Explains g items_of limits_of limits may_close may_refuse disk disk (kind_of_words why) None
+unread_as g items_of limits_of limits may_close may_refuse disk (Word place) settled = record {
   closed = λ is. absurd cc;
   refused = λ is. absurd cc;
   journal_full = λ entries bytes is. tt;
@@ -133,9 +150,9 @@ unread_as g items_of limits_of limits may_close may_refuse disk (Word place) = r
   run = λ none. tt;
   opened = tt;
   kept = tt;
-  disk = (tt, inl refl);
+  disk = (refl, inl refl);
 }
-unread_as g items_of limits_of limits may_close may_refuse disk NoMemory = record {
+unread_as g items_of limits_of limits may_close may_refuse disk NoMemory settled = record {
   closed = λ is. absurd cc;
   refused = λ is. absurd cc;
   journal_full = λ entries bytes is. tt;
@@ -144,15 +161,15 @@ unread_as g items_of limits_of limits may_close may_refuse disk NoMemory = recor
   run = λ none. tt;
   opened = tt;
   kept = tt;
-  disk = (tt, inl refl);
+  disk = (reads_same g disk disk settled refl, inl refl);
 }
 
 -- a server whose words are refused
 pub unread : {D J : Type 0} (g : Ghosts D) (items_of : J → List JournalItem) (limits_of : J → Limits) (limits : Limits) (may_close may_refuse : Type 0) (disk : D) (why : WordsFault) (ended : ServerKind)
-    → ended ≡ kind_of_words why → Explains g items_of limits_of limits may_close may_refuse disk disk ended None
-unread g items_of limits_of limits may_close may_refuse disk why ended is =
+    → IsSettled (g.files disk) (g.may_leave disk) → ended ≡ kind_of_words why → Explains g items_of limits_of limits may_close may_refuse disk disk ended None
+unread g items_of limits_of limits may_close may_refuse disk why ended settled is =
     let P : ServerKind → Type 0 = λ e. Explains g items_of limits_of limits may_close may_refuse disk disk e None in
-    subst P (sym is) (unread_as g items_of limits_of limits may_close may_refuse disk why)
+    subst P (sym is) (unread_as g items_of limits_of limits may_close may_refuse disk why settled)
 
 pub stands_for_some : (files : Option Files) (d : Durable) → IfSome files (StandsAs d) → IfSome files StandsForSome
 stands_for_some None d is = tt
@@ -171,9 +188,9 @@ pub record Served {D J : Type 0} (g : Ghosts D) (items_of : J → List JournalIt
   pub disk : MatchOption run (now ≡ before) (λ _. (g.faults before ≤ g.faults now) × ((g.faults before < g.faults now) ⊎ IsQuiet g now))
 
 served_with : {D J : Type 0} (g : Ghosts D) (items_of : J → List JournalItem) (limits_of : J → Limits) (limits : Limits) (may_close may_refuse : Type 0) (old before now : D) (ended : ServerKind) (run : Option (ServerRun J))
-    → IsOpening g old before ⊥ → IfSome (g.files old) StandsForSome → Served g items_of limits_of limits may_close may_refuse before now ended run
+    → IsOpening g old before ⊥ → ReadsAsBefore g old before → IfSome (g.files old) StandsForSome → Served g items_of limits_of limits may_close may_refuse before now ended run
     → Explains g items_of limits_of limits may_close may_refuse old now ended run
-served_with {D = D} g items_of limits_of limits may_close may_refuse old before now ended None opening stands is =
+served_with {D = D} g items_of limits_of limits may_close may_refuse old before now ended None opening reads stands is =
     let short : ended ≡ kind.NoMemory = is.short refl in
     let never : ¬ (ended ≡ kind.DiskFault) = λ fails. (let clash = sym fails ∙ short in cc) in
     let P : D → Type 0 = λ d. IsOpening g old d (ended ≡ kind.DiskFault) in
@@ -186,9 +203,9 @@ served_with {D = D} g items_of limits_of limits may_close may_refuse old before 
       run = λ none. subst IsNotRun (sym short) tt;
       opened = tt;
       kept = tt;
-      disk = (subst (LeavesBadFiles g old now) (sym short) tt, inr (subst P (sym is.disk) (opening_as g old before ⊥ (ended ≡ kind.DiskFault) (λ no. absurd no) never opening)));
+      disk = (subst (LeavesUnopened g old now) (sym short) (subst (ReadsAsBefore g old) (sym is.disk) reads), inr (subst P (sym is.disk) (opening_as g old before ⊥ (ended ≡ kind.DiskFault) (λ no. absurd no) never opening)));
     }
-served_with g items_of limits_of limits may_close may_refuse old before now ended (Some r) opening stands is =
+served_with g items_of limits_of limits may_close may_refuse old before now ended (Some r) opening reads stands is =
     let low : g.faults old ≤ g.faults before = opening.calls.cause.never_falls in
     let more : g.faults before ≤ g.faults now = is.disk.0 in
     record {
@@ -205,10 +222,10 @@ served_with g items_of limits_of limits may_close may_refuse old before now ende
 
 -- a server that was opened
 pub served : {D J : Type 0} (g : Ghosts D) (items_of : J → List JournalItem) (limits_of : J → Limits) (limits : Limits) (may_close may_refuse : Type 0) (old before now : D) (d : Durable) (ended : ServerKind) (run : Option (ServerRun J))
-    → IsOpening g old before ⊥ → IfSome (g.files old) (StandsAs d) → Served g items_of limits_of limits may_close may_refuse before now ended run
+    → IsOpening g old before ⊥ → ReadsAsBefore g old before → IfSome (g.files old) (StandsAs d) → Served g items_of limits_of limits may_close may_refuse before now ended run
     → Explains g items_of limits_of limits may_close may_refuse old now ended run
-served g items_of limits_of limits may_close may_refuse old before now d ended run opening stands is =
-    served_with g items_of limits_of limits may_close may_refuse old before now ended run opening (stands_for_some (g.files old) d stands) is
+served g items_of limits_of limits may_close may_refuse old before now d ended run opening reads stands is =
+    served_with g items_of limits_of limits may_close may_refuse old before now ended run opening reads (stands_for_some (g.files old) d stands) is
 
 stands_at_rest : (files : Option Files) (version : Version) → IfSome files (λ fs. IsAtRest version (image_of fs.database) fs) → IfSome files StandsForSome
 stands_at_rest None version rests = tt
@@ -234,3 +251,51 @@ is_up n s is = by n.store.failed is
     by : (b : Bool) → (if b then model.Halted (model.halted_from (up_server n)) else model.Up (up_server n)) ≡ model.Up s → b ≡ false
     by true clash = absurd cc
     by false same = refl
+
+up_as : (b : Bool) (h : model.HaltedServer) (s t : model.Server) → (if b then model.Halted h else model.Up s) ≡ model.Up t → s ≡ t
+up_as true h s t clash = absurd cc
+up_as false h s t same = cc
+
+some_and : (files : Option Files) (P Q : Files → Type 0) → ((fs : Files) → P fs → Q fs) → IsSomeAnd files P → IsSomeAnd files Q
+some_and None P Q to is = is
+some_and (Some fs) P Q to is = to fs is
+
+-- a node that was just opened left its disk so that it reads as before
+pub opened_reads : {D V : Type 0} (g : Ghosts D) (old : D) (n : Node D V g) (size now : ℕ) (d : Durable) → node_of n ≡ model.Up (model.opened_server size d now)
+    → IfSome (g.files old) (StandsAs d) → (IsSome (g.files old) → IsSome (g.files n.store.disk)) → ReadsAsBefore g old n.store.disk
+opened_reads g old n size now d opened stands told = ((n.stored.sound.ready up).settled, over (g.files old) stands told)
+  where
+    up : n.store.failed ≡ false
+    up = is_up n (model.opened_server size d now) opened
+
+    there : IsSome (g.files n.store.disk) → IsSomeAnd (g.files n.store.disk) (StandsAs d)
+    there tells =
+        let same = up_as n.store.failed (model.halted_from (up_server n)) (up_server n) (model.opened_server size d now) opened in
+        let P : model.Server → Type 0 = λ s. IsSomeAnd (g.files n.store.disk) (StandsAs (durable_in s)) in subst P same (stands_up g n up tells)
+
+    over : (files : Option Files) → IfSome files (StandsAs d) → (IsSome files → IsSome (g.files n.store.disk))
+        → IfSome files (λ fs. StandsForSome fs → IsSomeAnd (g.files n.store.disk) (StandAlike fs))
+    over None stood tells = tt
+    over (Some fs) stood tells = λ some.
+        some_and (g.files n.store.disk) (StandsAs d) (StandAlike fs) (λ now is. (d.version, d.image, stood, is)) (there (tells refl))
+
+-- ---- in no other way
+
+stands_against : (files : Option Files) (len : ℕ) (head : List ℕ) → IfSome files (λ fs. ShowsFiles fs (kind.BadFiles len head)) → ¬ (IsSomeAnd files StandsForSome)
+stands_against None len head shown some = absurd some
+stands_against (Some fs) len head shown some = shown.0 some.0 some.1 some.2
+
+unforced : {D : Type 0} (g : Ghosts D) (old new : D) (ended : ServerKind) → IsNotForWords ended → (ended ≡ kind.DiskFault → g.faults old < g.faults new)
+    → IfSome (g.files old) (λ fs. ShowsFiles fs ended) → IsSomeAnd (g.files old) StandsForSome → g.faults new ≡ g.faults old → IsUnforced ended
+unforced g old new kind.Closed fits fails shown some same = tt
+unforced g old new kind.NoThread fits fails shown some same = tt
+unforced g old new (kind.JournalFull entries bytes) fits fails shown some same = tt
+unforced g old new kind.NoMemory fits fails shown some same = tt
+unforced g old new (kind.Words place) fits fails shown some same = absurd fits
+unforced g old new kind.DiskFault fits fails shown some same = let rose = fails refl in absurd (omega (arith, rose, same))
+unforced g old new (kind.BadFiles len head) fits fails shown some same = absurd (stands_against (g.files old) len head shown some)
+
+pub complete : {D : Type 0} (g : Ghosts D) (old new : D) (meaning : Result Named WordsFault) (ended : ServerKind) → FollowsWords meaning ended
+    → (ended ≡ kind.DiskFault → g.faults old < g.faults new) → IfSome (g.files old) (λ fs. ShowsFiles fs ended) → IsComplete g old new meaning ended
+complete g old new (Ok named) ended words fails shown = unforced g old new ended words fails shown
+complete g old new (Err fault) ended words fails shown = tt

@@ -1,90 +1,78 @@
 -- What comes back of a run is what the replay of its journal leaves.
 use Rattle.std.proofs.Common.{◌≡◌, ℕ, ◌<◌, ◌≤◌, Bool, true, false, List, length, Option, Some, None, IfSome, Result, Ok, Err, refl, ap, sym, subst, ◌∙◌, arith}
-use Rattle.std.specs.Prelude.{if◌then◌else◌, IsSome, IsSomeAnd, is_some}
+use Rattle.std.specs.Prelude.{if◌then◌else◌, IsSome, is_some}
 use Rattle.std.proofs.Math.Logic.{∥∥₁_elim, ∥∥₁_map, ∥∥₁_prop}
+use mathlib.Core.Bool.{Bool-set}
 use Rattle.ubik_types.specs.declared.hosts.Host.{Host}
-use Rattle.ubik_types.specs.declared.versions.Version.{Version}
 use Rattle.disk_base.specs.declared.disks.Disk.{Ghosts}
 use Rattle.disk_base.specs.Files.{Files}
 use Rattle.db_image.specs.Standing.{Standing}
-use Rattle.page_file.specs.Pages.{image_of}
-use Rattle.ubik_log.proofs.Gates.{short_log_is_discarded}
-use Rattle.ubik_store.specs.Files.{StandsFor, by_label}
-use Rattle.ubik_store.specs.Rest.{IsAtRest}
-use Rattle.ubik_store.specs.Store.{image_in}
 use Rattle.cell_model.specs.declared.events.Output.{Output}
 use Rattle.cell_model.specs.Durable.{Durable}
 use Rattle.cell_model.specs.Node as model
-use Rattle.cell_model.specs.Step.{Member}
-use Rattle.journal_model.specs.Laws.{LeadsTo}
-use Rattle.journal_model.specs.Replay.{Replayed, replayed}
+use Rattle.cell_model.specs.Step.{Member, cell_size}
 use Rattle.ubik_node.specs.declared.nodes.Node.{Node}
 use Rattle.ubik_node.specs.Disk.{StandsAs}
-use Rattle.ubik_node.specs.Node.{node_of, up_server}
+use Rattle.ubik_node.specs.Node.{node_of, own_member, up_server}
 use Rattle.server_journal.specs.declared.items.JournalItem.{JournalItem}
+use Rattle.server_station.specs.Fit.{IsOwnJournal, are_numbered, are_taken}
 use Rattle.server_station.specs.Replaying.{IsReplay, Replays}
 use Rattle.server_texts.specs.declared.words.ServerWords.{ServerWords}
 use Rattle.server_texts.specs.declared.words.Database.{Database}
 use Rattle.server_texts.specs.declared.words.WordsFault.{WordsFault}
 use Rattle.server_texts.specs.Words.{IsRead, Means, Named}
 use Rattle.node_server.specs.declared.ends.ServerRun.{ServerRun}
-use Rattle.node_server.specs.Replays.{IsDiskOf, IsOpenedAs, IsReplayed, IsReplayedFrom, ReplaysNamed, RunReplays, standing_of}
-
--- ---- the disk
-
--- files at rest that a store keeps
-stands : (files : Option Files) (version own : Version) (bytes : List ℕ) → IsSome files → IfSome files (λ fs. IsAtRest version (image_of fs.database) fs)
-    → version ≡ own → IfSome (image_in files) (λ there. there ≡ bytes) → IsSomeAnd files (StandsAs (record { version = own; image = bytes }))
-stands None version own bytes is rests same image = absurd cc
-stands (Some fs) version own bytes is rests same image =
-    let there : StandsFor fs version (image_of fs.database) = by_label fs version (short_log_is_discarded fs.log (omega (arith, ap length rests.log))) rests.label in
-    let P : Version → Type 0 = λ v. StandsFor fs v bytes in
-    let Q : List ℕ → Type 0 = λ b. StandsFor fs version b in subst P same (subst Q image there)
-
-module _ {D V : Type 0} (g : Ghosts D) (n : Node D V g) (failed : ℕ) (knows : n.store.failed ≡ false → IsSome (g.files n.store.disk))
-    (fails : n.store.failed ≡ true → failed < g.faults n.store.disk) where
-  disk_by : (b : Bool) → n.store.failed ≡ b → IsDiskOf g failed (if b then model.Halted (model.halted_from (up_server n)) else model.Up (up_server n)) n.store.disk
-  disk_by true down = fails down
-  disk_by false up =
-      stands (g.files n.store.disk) n.store.version n.state.version n.state.image (knows up) (n.stored.sound.ready up).rests (n.stored.version up) (n.stored.image up)
-
-  disk_of : IsDiskOf g failed (node_of n) n.store.disk
-  disk_of = disk_by n.store.failed refl
+use Rattle.node_server.specs.Replays.{IsOpenedAs, IsReplayed, ReplaysNamed, RunReplays, standing_of}
 
 -- ---- a server that has ended
 
-module _ {D V : Type 0} (g : Ghosts D) (d : Standing) (opened n : Node D V g) (items : List JournalItem) (outputs : List Output)
+module _ {D V : Type 0} (g : Ghosts D) (d : Standing) (opened n : Node D V g) (kept : List JournalItem) (outputs : List Output)
     (server : model.Node) (member : Member) (knows : Bool) (failed : ℕ) (fails : n.store.failed ≡ true → failed < g.faults n.store.disk) where
-  replayed_by : IsOpenedAs g opened server member knows → IsReplay g d opened n items outputs → IsReplayed g d member server failed items n.store.disk
+  -- a halted node is one whose store has failed
+  has_failed : (h : model.HaltedServer) → node_of n ≡ model.Halted h → n.store.failed ≡ true
+  has_failed h is = by n.store.failed is
+    where
+      by : (b : Bool) → (if b then model.Halted (model.halted_from (up_server n)) else model.Up (up_server n)) ≡ model.Halted h → b ≡ true
+      by true same = refl
+      by false clash = absurd cc
+
+  replayed_by : IsOpenedAs g opened server member knows
+      → IsReplay g d (own_member opened) (node_of opened) kept (node_of n) outputs n.store.disk → IsReplayed g d member server failed kept n.store.disk
   replayed_by o r =
-      let P : Member → Type 0 = λ m. LeadsTo d.database m (node_of opened) r.whole (node_of n) outputs in
-      let Q : model.Node → Type 0 = λ s. LeadsTo d.database member s r.whole (node_of n) outputs in
-      let leads = subst Q o.server (subst P o.member r.leads) in
+      let P : Member → Type 0 = λ m. IsReplay g d m (node_of opened) kept (node_of n) outputs n.store.disk in
+      let Q : model.Node → Type 0 = λ s. IsReplay g d member s kept (node_of n) outputs n.store.disk in
       record {
-        whole = r.whole;
-        items_are = r.items_are;
-        may = r.may;
-        disk = subst (λ (s : model.Node). IsDiskOf g failed s n.store.disk) (sym (ap (λ (x : Replayed). x.node) leads)) (disk_of g n failed r.told fails);
+        node = node_of n;
+        outputs = outputs;
+        replay = subst Q o.server (subst P o.member r);
+        fails = λ h is. fails (has_failed h is);
       }
 
-  pub leaves : ∥ IsOpenedAs g opened server member knows ∥₁ → Replays g d opened n items outputs → knows ≡ true
-      → ∥ IsReplayed g d member server failed items n.store.disk ∥₁
+  pub leaves : ∥ IsOpenedAs g opened server member knows ∥₁ → Replays g d opened n kept outputs → knows ≡ true
+      → ∥ IsReplayed g d member server failed kept n.store.disk ∥₁
   leaves first replays known =
       ∥∥₁_elim first ∥∥₁_prop
       (λ (o : IsOpenedAs g opened server member knows). ∥∥₁_map (replays (o.tells ∙ known)) (replayed_by o))
 
+-- the journal is one of the server that was opened
+pub own_journal : {D V : Type 0} {g : Ghosts D} (opened n : Node D V g) (kept : List JournalItem) (server : model.Node) (member : Member) (knows : Bool)
+    → own_member n ≡ own_member opened → are_numbered 0 kept ≡ true → are_taken (own_member n) kept ≡ true
+    → ∥ IsOpenedAs g opened server member knows ∥₁ → IsOwnJournal member kept
+own_journal {D} {V} {g} opened n kept server member knows same numbered taken first =
+    let P : Member → Type 0 = λ m. are_taken m kept ≡ true in
+    (numbered, ∥∥₁_elim first (Bool-set (are_taken member kept) true) (λ (o : IsOpenedAs g opened server member knows). subst P (same ∙ o.member) taken))
+
 -- ---- a server that was opened
 
 -- a disk that has failed since an opening has failed since what was before it
-disk_since : {D : Type 0} (g : Ghosts D) (before failed : ℕ) (node : model.Node) (disk : D) → before ≤ failed → IsDiskOf g failed node disk → IsDiskOf g before node disk
-disk_since g before failed (model.Up s) disk low is = is
-disk_since g before failed (model.Halted h) disk low is = omega (arith, low, is)
-disk_since g before failed model.Down disk low is = omega (arith, low, is)
+replayed_since : {D : Type 0} (g : Ghosts D) (d : Standing) (m : Member) (opened : model.Node) (before failed : ℕ) (kept : List JournalItem) (disk : D)
+    → before ≤ failed → IsReplayed g d m opened failed kept disk → IsReplayed g d m opened before kept disk
+replayed_since g d m opened before failed kept disk low is =
+    record { node = is.node; outputs = is.outputs; replay = is.replay; fails = λ h down. let more = is.fails h down in omega (arith, low, more) }
 
-replayed_since : {D : Type 0} (g : Ghosts D) (d : Standing) (m : Member) (opened : model.Node) (before failed : ℕ) (items : List JournalItem) (disk : D)
-    → before ≤ failed → IsReplayed g d m opened failed items disk → IsReplayed g d m opened before items disk
-replayed_since g d m opened before failed items disk low is =
-    record { whole = is.whole; items_are = is.items_are; may = is.may; disk = disk_since g before failed (replayed d.database m opened is.whole).node disk low is.disk }
+abbrev IsReplayedFrom : {D : Type 0} (g : Ghosts D) (d : Standing) (m : Member) (files : Files) (now failed : ℕ) (kept : List JournalItem) → D → Type 0
+IsReplayedFrom g d m files now failed kept left =
+    (found : Durable) × StandsAs found files × IsReplayed g d m (model.Up (model.opened_server (cell_size m) found now)) failed kept left
 
 from_opening : {D J : Type 0} (g : Ghosts D) (items_of : J → List JournalItem) (d : Standing) (hosts : List Host) (me now before failed : ℕ) (fs : Files) (run : ServerRun J)
     (disk : D) (found : Durable) (server : model.Node) (member : Member)
@@ -94,30 +82,35 @@ from_opening : {D J : Type 0} (g : Ghosts D) (items_of : J → List JournalItem)
 from_opening g items_of d hosts me now before failed fs run disk found server member is there cell low moment ended =
     let P : Member → Type 0 = λ m. IsReplayed g d m server failed (items_of run.journal) disk in
     let Q : model.Node → Type 0 = λ s. IsReplayed g d (record { hosts = hosts; me = me }) s failed (items_of run.journal) disk in
-    let R : ℕ → Type 0 = λ t. IsReplayed g d (record { hosts = hosts; me = me }) (model.Up (model.opened_server (length hosts) found t)) failed (items_of run.journal) disk in
-    record {
-      found = found;
-      stands = there;
-      replayed = replayed_since g d (record { hosts = hosts; me = me }) (model.Up (model.opened_server (length hosts) found run.opened)) before failed
-          (items_of run.journal) disk low (subst R (sym moment) (subst Q is (subst P cell ended)));
-    }
+    let R : ℕ → Type 0 = λ t. IsReplayed g d (record { hosts = hosts; me = me }) (model.Up (model.opened_server (length hosts) found t)) failed (items_of run.journal) disk in (
+      found,
+      there,
+      replayed_since g d (record { hosts = hosts; me = me }) (model.Up (model.opened_server (length hosts) found run.opened)) before failed
+          (items_of run.journal) disk low (subst R (sym moment) (subst Q is (subst P cell ended))),
+    )
 
 replays_over : {D J : Type 0} (g : Ghosts D) (items_of : J → List JournalItem) (d : Standing) (hosts : List Host) (me now before failed : ℕ) (files held : Option Files)
     (ran : Option (ServerRun J)) (disk : D) (found : Durable) (server : model.Node) (member : Member)
     → server ≡ model.Up (model.opened_server (length hosts) found now) → IfSome files (StandsAs found) → member ≡ record { hosts = hosts; me = me } → before ≤ failed
-    → (IsSome files → IsSome held) → IfSome ran (λ run. run.opened ≡ now)
+    → (IsSome files → IsSome held) → IfSome ran (λ run. run.opened ≡ now) → IfSome ran (λ run. IsOwnJournal member (items_of run.journal))
     → IfSome ran (λ run. is_some held ≡ true → ∥ IsReplayed g d member server failed (items_of run.journal) disk ∥₁)
-    → IfSome ran (λ run. IfSome files (λ fs. ∥ IsReplayedFrom g d (record { hosts = hosts; me = me }) fs run.opened before (items_of run.journal) disk ∥₁))
-replays_over g items_of d hosts me now before failed files held None disk found server member is there cell low knows moment replays = tt
-replays_over g items_of d hosts me now before failed None held (Some run) disk found server member is there cell low knows moment replays = tt
-replays_over g items_of d hosts me now before failed (Some fs) held (Some run) disk found server member is there cell low knows moment replays =
-    ∥∥₁_map (replays (knows refl)) (from_opening g items_of d hosts me now before failed fs run disk found server member is there cell low moment)
+    → IfSome ran (λ run. IsOwnJournal (record { hosts = hosts; me = me }) (items_of run.journal)
+    × IfSome files (λ fs. ∥ IsReplayedFrom g d (record { hosts = hosts; me = me }) fs run.opened before (items_of run.journal) disk ∥₁))
+replays_over g items_of d hosts me now before failed files held None disk found server member is there cell low knows moment own replays = tt
+replays_over g items_of d hosts me now before failed files held (Some run) disk found server member is there cell low knows moment own replays =
+    (subst (λ (m : Member). IsOwnJournal m (items_of run.journal)) cell own, over files there knows)
+  where
+    over : (files : Option Files) → IfSome files (StandsAs found) → (IsSome files → IsSome held)
+        → IfSome files (λ fs. ∥ IsReplayedFrom g d (record { hosts = hosts; me = me }) fs run.opened before (items_of run.journal) disk ∥₁)
+    over None there knows = tt
+    over (Some fs) there knows =
+        ∥∥₁_map (replays (knows refl)) (from_opening g items_of d hosts me now before failed fs run disk found server member is there cell low moment)
 
 -- a run of an opened node is one of the disk that it was opened over
 pub run_replays : {D J : Type 0} (g : Ghosts D) (items_of : J → List JournalItem) (d : Standing) (hosts : List Host) (me now failed : ℕ) (old new : D) (held : Option Files)
     (ran : Option (ServerRun J)) (found : Durable) (server : model.Node) (member : Member)
     → server ≡ model.Up (model.opened_server (length hosts) found now) → IfSome (g.files old) (StandsAs found) → member ≡ record { hosts = hosts; me = me }
-    → g.faults old ≤ failed → (IsSome (g.files old) → IsSome held) → IfSome ran (λ run. run.opened ≡ now)
+    → g.faults old ≤ failed → (IsSome (g.files old) → IsSome held) → IfSome ran (λ run. run.opened ≡ now) → IfSome ran (λ run. IsOwnJournal member (items_of run.journal))
     → IfSome ran (λ run. is_some held ≡ true → ∥ IsReplayed g d member server failed (items_of run.journal) new ∥₁)
     → RunReplays g items_of d (record { hosts = hosts; me = me }) old new ran
 run_replays g items_of d hosts me now failed old new held ran found server member =

@@ -1,5 +1,5 @@
 -- How a server ends: why its workers have ended, or why it was not opened (own).
-use Rattle.std.specs.Prelude.{◌≡◌, ◌≢◌, ◌<◌, ◌≤◌, ◌⊎◌, ℕ, List, true, Option, Some, None, IfSome, IsNone, Result, Ok, Err}
+use Rattle.std.specs.Prelude.{◌≡◌, ◌≢◌, ◌<◌, ◌≤◌, ◌⊎◌, ℕ, List, true, Option, Some, None, IfSome, IsNone, IsSomeAnd, Result, Ok, Err}
 use Rattle.ubik_types.specs.declared.versions.Version.{Version}
 use Rattle.disk_base.specs.declared.disks.Disk.{Ghosts}
 use Rattle.disk_base.specs.Crash.{IsSettled}
@@ -72,16 +72,41 @@ StandsForSome fs = (version : Version) × (image : List ℕ) × StandsFor fs ver
 abbrev pub IsQuiet : {D : Type 0} → Ghosts D → D → Type 0
 IsQuiet g disk = IsSettled (g.files disk) (g.may_leave disk) × IfSome (g.files disk) StandsForSome
 
--- a disk whose files are refused is not changed
-abbrev pub LeavesBadFiles : {D : Type 0} → Ghosts D → (old new : D) → ServerKind → Type 0
-LeavesBadFiles g old new (kind.BadFiles len head) = OnlyReads g old new ⊥
-LeavesBadFiles g old new _ = Unit {0}
+-- both stand for one version and one image
+abbrev pub StandAlike : (before now : Files) → Type 0
+StandAlike before now = (version : Version) × (image : List ℕ) × StandsFor before version image × StandsFor now version image
 
--- The disk that comes back. Of a server that was not opened it is the one handed in, or what the opening of a store leaves of that, and as it was
--- where its files are refused; of one that was it is quiet, unless it has failed.
+-- nothing is pending on a disk, and where its files were told and stood for something, they stand for that
+abbrev pub ReadsAsBefore : {D : Type 0} → Ghosts D → (old new : D) → Type 0
+ReadsAsBefore g old new =
+    IsSettled (g.files new) (g.may_leave new) × IfSome (g.files old) (λ fs. StandsForSome fs → IsSomeAnd (g.files new) (StandAlike fs))
+
+-- The disk of a server that was not opened, and ended so: it was not touched for its words, it was only read where its files are refused, and it
+-- reads as before where memory ran out.
+abbrev pub LeavesUnopened : {D : Type 0} → Ghosts D → (old new : D) → ServerKind → Type 0
+LeavesUnopened g old new (kind.Words place) = new ≡ old
+LeavesUnopened g old new (kind.BadFiles len head) = OnlyReads g old new ⊥
+LeavesUnopened g old new kind.NoMemory = ReadsAsBefore g old new
+LeavesUnopened g old new _ = Unit {0}
+
+-- The disk that comes back. Of a server that was not opened it is the one handed in, or what the opening of a store leaves of that; where the disk
+-- failed, so does a crash. Of one that was it is quiet, unless it has failed.
 abbrev pub GivesBack : {D J : Type 0} → Ghosts D → (old new : D) → ServerKind → Option (ServerRun J) → Type 0
-GivesBack g old new ended None = LeavesBadFiles g old new ended × ((new ≡ old) ⊎ IsOpening g old new (ended ≡ kind.DiskFault))
+GivesBack g old new ended None = LeavesUnopened g old new ended × ((new ≡ old) ⊎ IsOpening g old new (ended ≡ kind.DiskFault))
 GivesBack g old new ended (Some run) = (g.faults old ≤ g.faults new) × ((g.faults old < g.faults new) ⊎ IsQuiet g new)
+
+-- the ends that neither words nor files nor a fault of the disk bring
+abbrev pub IsUnforced : ServerKind → Type 0
+IsUnforced kind.Closed = Unit {0}
+IsUnforced kind.NoThread = Unit {0}
+IsUnforced (kind.JournalFull entries bytes) = Unit {0}
+IsUnforced kind.NoMemory = Unit {0}
+IsUnforced _ = ⊥
+
+-- Where the words fit, the files stand for something, and the disk did not fail, a server ends in no other way.
+abbrev pub IsComplete : {D : Type 0} → Ghosts D → (old new : D) → Result Named WordsFault → ServerKind → Type 0
+IsComplete g old new (Ok named) ended = IsSomeAnd (g.files old) StandsForSome → g.faults new ≡ g.faults old → IsUnforced ended
+IsComplete g old new (Err fault) ended = Unit {0}
 
 -- What shows why a server ended so, beside its words: the net that may close by itself, the spawner that may refuse, its journal, which keeps to
 -- these limits, its disk and its files; whether it was opened; and what comes back.

@@ -9,7 +9,6 @@ use Rattle.server_journal.specs.declared.items.JournalItem.{JournalItem}
 abbrev pub moments_of : ℕ → List JournalItem → List ℕ
 moments_of opened items = opened ∷ map (λ (i : JournalItem). i.now) items
 
--- The clock gave each of them, and none is before the one before it. Where the clock gives an earlier moment for a step, the step is made at the
--- moment of the step before, or of the opening.
+-- The clock gave each of them, at some time, and none is before the one before it.
 abbrev pub AreTimed : (ℕ → Type 0) → List ℕ → Type 0
 AreTimed gave moments = All (IsOfClock gave) moments × NeverFalls moments

@@ -1,22 +1,21 @@
 -- A run of a server as the replay of its journal (own).
-use Rattle.std.specs.Prelude.{◌≡◌, ◌<◌, ℕ, Option, Some, IfSome, IsSomeAnd, List, is_some, slice_get, IsPermutation, Bool, map, Result, Ok, Err}
+use Rattle.std.specs.Prelude.{◌≡◌, ◌<◌, ℕ, Option, Some, IfSome, List, is_some, slice_get, IsPermutation, Bool, Result, Ok, Err}
 use Rattle.ubik_types.specs.Hosts.{IsCell}
 use Rattle.disk_base.specs.declared.disks.Disk.{Ghosts}
 use Rattle.disk_base.specs.Files.{Files}
 use Rattle.db_image.specs.Standing.{Standing}
 use Rattle.pt_protection.specs.Service.{protection_standing}
 use Rattle.vl_database.specs.Service.{vl_standing}
+use Rattle.cell_model.specs.declared.events.Output.{Output}
 use Rattle.cell_model.specs.Durable.{Durable}
 use Rattle.cell_model.specs.Node as model
 use Rattle.cell_model.specs.Step.{Member, cell_size}
-use Rattle.journal_model.specs.Items as model_items
-use Rattle.journal_model.specs.Replay.{replayed}
 use Rattle.ubik_node.specs.Disk.{StandsAs}
-use Rattle.ubik_node.specs.Node.{durable_in, node_of, own_member}
+use Rattle.ubik_node.specs.Node.{node_of, own_member}
 use Rattle.ubik_node.specs.declared.nodes.Node.{Node}
 use Rattle.server_journal.specs.declared.items.JournalItem.{JournalItem}
-use Rattle.server_journal.specs.Items.{untold}
-use Rattle.server_station.specs.Replaying.{MayHaveCome}
+use Rattle.server_station.specs.Fit.{IsOwnJournal}
+use Rattle.server_station.specs.Replaying.{IsReplay}
 use Rattle.server_texts.specs.Words.{Named}
 use Rattle.server_texts.specs.declared.words.Database.{Database}
 use Rattle.server_texts.specs.declared.words.Database.TheVariants.{Location, Protection}
@@ -29,29 +28,21 @@ pub record IsOpenedAs {D V : Type 0} (g : Ghosts D) (opened : Node D V g) (s : m
   pub member : own_member opened ≡ m
   pub tells : is_some (g.files opened.store.disk) ≡ told
 
--- The disk of a server that is up has its durable state. That of one that is halted has failed oftener than so.
-abbrev pub IsDiskOf : {D : Type 0} → Ghosts D → (failed : ℕ) → model.Node → D → Type 0
-IsDiskOf g failed (model.Up s) disk = IsSomeAnd (g.files disk) (StandsAs (durable_in s))
-IsDiskOf g failed node disk = failed < g.faults disk
+-- What comes back of a server that was opened so: its journal is one that it can have made, whose replay leaves a server, and the disk is the
+-- one of that server. Where that one is halted, the disk has failed oftener than so.
+pub record IsReplayed {D : Type 0} (g : Ghosts D) (d : Standing) (m : Member) (opened : model.Node) (failed : ℕ) (kept : List JournalItem) (left : D) : Type 0 where
+  pub node : model.Node
+  pub outputs : List Output
+  pub replay : IsReplay g d m opened kept node outputs left
+  pub fails : (h : model.HaltedServer) → node ≡ model.Halted h → failed < g.faults left
 
--- What comes back of a server that was opened so: the disk has the durable state of the server that the replay of its journal leaves. The
--- replay is that of the journal's items, each with what was evaluated in its step, which may have come.
-pub record IsReplayed {D : Type 0} (g : Ghosts D) (d : Standing) (m : Member) (opened : model.Node) (failed : ℕ) (items : List JournalItem) (left : D) : Type 0 where
-  pub whole : List model_items.JournalItem
-  pub items_are : map untold whole ≡ items
-  pub may : MayHaveCome d whole
-  pub disk : IsDiskOf g failed (replayed d.database m opened whole).node left
-
--- so of one that was opened at a moment on what these files stand for
-pub record IsReplayedFrom {D : Type 0} (g : Ghosts D) (d : Standing) (m : Member) (files : Files) (now failed : ℕ) (items : List JournalItem) (disk : D) : Type 0 where
-  pub found : Durable
-  pub stands : StandsAs found files
-  pub replayed : IsReplayed g d m (model.Up (model.opened_server (cell_size m) found now)) failed items disk
-
--- of a run over a disk that told its files
+-- Of a run: its journal is one of this server's. Over a disk that told its files it explains the disk that comes back, of a server that was
+-- opened at the moment of the run on what these files stand for.
 abbrev pub RunReplays : {D J : Type 0} → Ghosts D → (J → List JournalItem) → Standing → Member → (old new : D) → Option (ServerRun J) → Type 0
 RunReplays g items_of d m old new ran =
-    IfSome ran (λ run. IfSome (g.files old) (λ fs. ∥ IsReplayedFrom g d m fs run.opened (g.faults old) (items_of run.journal) new ∥₁))
+    IfSome ran (λ run. IsOwnJournal m (items_of run.journal)
+    × IfSome (g.files old) (λ fs. ∥ ((found : Durable) × StandsAs found fs
+    × IsReplayed g d m (model.Up (model.opened_server (cell_size m) found run.opened)) (g.faults old) (items_of run.journal) new) ∥₁))
 
 abbrev pub standing_of : Database → Standing
 standing_of Location = vl_standing

@@ -41,6 +41,7 @@ pub(crate) trait Running: Opening {
     ghost tells: { Bool };
 }
 
+/// `Brand` names an opening only once a call takes it for its own: these are placeholders, which every caller of `serve_as` replaces by what it opened.
 impl Running for Brand {
     ghost use Rattle.std.specs.Prelude.{false, []};
     ghost use Rattle.cell_model.specs.Node as model;
@@ -103,12 +104,14 @@ impl<D: Disk + Send, V: DraftService + Send, L: Running + Send, J: Keeper + Send
     type Seat = Seat<L>;
 
     fn turn(&mut self, seat: &mut Seat<L>, now: u32, turn: Turn, out: &mut Sendings) -> TurnEnd {
+        // Read, so that what its type says of the ledger's parts is at hand.
         let _ = &self.whole.of;
         let StationBench { station, .. } = self;
         station.turn(seat, now, turn, out)
     }
 
     fn take_back(&mut self, seat: Seat<L>) {
+        // As in `turn`.
         let _ = &self.whole.of;
         let StationBench { station, .. } = self;
         station.merge(seat);

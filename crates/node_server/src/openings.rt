@@ -9,6 +9,8 @@ ghost use Rattle.node_server.specs.Causes.{was_full};
 ghost use Rattle.node_server.specs.Ends.{Explains, IsQuiet, IsNotForWords, ShowsFiles, kind_of_end, kind_of_fault};
 ghost use Rattle.node_server.specs.Moments.{AreTimed, moments_of};
 ghost use Rattle.node_server.specs.Replays.{IsOpenedAs, IsReplayed, RunReplays};
+ghost use Rattle.server_station.specs.Fit.{IsOwnJournal};
+ghost use Rattle.server_station.specs.Replaying.{IsJustOpened};
 
 use crate::benches::{Running, StationBench, Whole, lend};
 use crate::ends::ServerRun;
@@ -33,7 +35,7 @@ pub(crate) struct Served<D, J> {
 }
 
 /// Opens a server of one of the databases over its disk, and runs it to its end.
-#[tactic(auto, using(crate::proofs::Explaining::is_up))]
+#[tactic(auto, using(crate::proofs::Explaining::is_up, server_station::proofs::Replaying::just_opened))]
 pub(crate) fn open_and_serve<
     D: Disk + Drop + Send,
     V: DraftService + Send,
@@ -144,6 +146,7 @@ fn serve_as<
     requires limits { J.limits journal ≡ L.limits }
     requires up { node.store.failed ≡ false }
     requires failed { L.failed_before ≤ D.faults node.store.disk }
+    requires just_opened { IsJustOpened node }
     requires opened_as { IsOpenedAs D.Disk node L.server L.member L.tells }
     ensures words { IsNotForWords result.kind }
     ensures closed { result.kind ≡ ServerKind.Closed → N.may_close outside.now.net.now }
@@ -155,6 +158,7 @@ fn serve_as<
     ensures files { (files : Option Files) → IfSome files (λ fs. ShowsFiles fs result.kind) }
     ensures short { IsNone result.run → result.kind ≡ ServerKind.NoMemory }
     ensures moment { IfSome result.run (λ run. run.opened ≡ opened) }
+    ensures own { IfSome result.run (λ run. IsOwnJournal L.member (J.items run.journal)) }
     ensures replays { IfSome result.run (λ run. L.tells ≡ true → ∥ IsReplayed D.Disk V.standing L.member L.server L.failed_before (J.items run.journal) result.disk ∥₁) }
     ensures timed { IfSome result.run (λ run. AreTimed L.gave (moments_of run.opened (J.items run.journal))) }
     ensures disk { MatchOption result.run (result.disk ≡ node.store.disk)

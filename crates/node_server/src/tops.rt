@@ -2,7 +2,7 @@
 ghost use Rattle.std.specs.Prelude.{◌≡◌, ◌<◌, ℕ, [], length, map, string_bytes, IfSome};
 ghost use Rattle.disk_base.specs.Crash.{IsSettled};
 ghost use Rattle.node_server.specs.Causes.{IsFullIn};
-ghost use Rattle.node_server.specs.Ends.{Explains, FollowsWords, IsNotForWords, kind_of_words};
+ghost use Rattle.node_server.specs.Ends.{Explains, FollowsWords, IsComplete, IsNotForWords, kind_of_words};
 ghost use Rattle.node_server.specs.Moments.{AreTimed, moments_of};
 ghost use Rattle.node_server.specs.Replays.{ReplaysNamed, RunReplays, standing_of};
 ghost use Rattle.server_texts.specs.Ends.{IsSaid, end_line, status_of};
@@ -56,6 +56,7 @@ pub fn server_top<
     ensures words { FollowsWords (meaning_of (map string_bytes words.now)) result.kind }
     ensures explained { Explains D.Disk (λ journal. journal.held.items) (λ journal. journal.limits) JOURNAL_LIMITS
         (N.may_close net.now) (P.may_refuse spawner.now) disk result.disk result.kind result.run }
+    ensures complete { IsComplete D.Disk disk result.disk (meaning_of (map string_bytes words.now)) result.kind }
     ensures timed { IfSome result.run (λ run. AreTimed (C.gave clock.now) (moments_of run.opened run.journal.held.items)) }
     ensures replays { ReplaysNamed D.Disk (λ journal. journal.held.items) (meaning_of (map string_bytes words.now)) disk result.disk result.run }
     ensures journal_full { (entries bytes : ℕ) → result.kind ≡ ServerKind.JournalFull entries bytes →
@@ -96,6 +97,7 @@ pub fn server_over<
     ensures words { FollowsWords (meaning_of (map string_bytes words.now)) result.kind }
     ensures explained { Explains D.Disk J.items J.limits (J.limits journal)
         (N.may_close net.now) (P.may_refuse spawner.now) disk result.disk result.kind result.run }
+    ensures complete { IsComplete D.Disk disk result.disk (meaning_of (map string_bytes words.now)) result.kind }
     ensures timed { IfSome result.run (λ run. AreTimed (C.gave clock.now) (moments_of run.opened (J.items run.journal))) }
     ensures replays { ReplaysNamed D.Disk J.items (meaning_of (map string_bytes words.now)) disk result.disk result.run }
     ensures said { IsSaid (K.written err.old) (K.written err.new) (K.faults err.old) (K.faults err.new) (end_line result.kind) }

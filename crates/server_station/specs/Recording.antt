@@ -23,7 +23,8 @@ abbrev pub refused_by : Full → StationEnd
 refused_by (full.Limit entries bytes) = JournalFull entries bytes
 refused_by full.NoMemory = NoMemory
 
--- A step of the node at a moment that ended so: what the node's own contract says of it, word for word.
+-- A step of the node at a moment that ended so: the node's own clauses, word for word, but for those on disks that tell no files, and on states that
+-- images go on to stand for.
 pub record IsStep {D V : Type 0} (g : Ghosts D) (d : Standing) (end : StepEnd) (event : NodeEvent) (now : ℕ) (before after : Node D V g) (outputs : List Output) : Type 0 where
   pub steps : Needs d.database (own_member before) (node_of before) event now (g.files before.store.disk)
       → StepsFreely g d (own_member before) end event now (node_of before) (node_of after) outputs before.store.disk after.store.disk

@@ -4,6 +4,7 @@
 #![tactic(auto)]
 
 mod askers;
+mod laws;
 mod pasts;
 mod recorded;
 mod shorts;
@@ -12,6 +13,7 @@ mod station;
 mod turns;
 
 pub use askers::Asker;
+pub use laws::law_recorded_fits;
 pub use recorded::StationEnd;
 pub use server_journal::{
     Counts, Full, GhostJournal, Journal, JournalItem, Keeper, Limits, Opening, Seat,

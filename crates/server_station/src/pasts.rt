@@ -22,12 +22,14 @@ impl<D: Disk, V: DraftService> Drop for Past<D, V> {
     }
 }
 
+/// What is kept of a node that is opened: the node as it then is.
 struct AsItIs;
 
 impl<T> Says<T, T> for AsItIs {
     ghost says = { λ x. x };
 }
 
+/// What was put out before the first step: nothing.
 struct Nothing;
 
 impl Says<(), LinkedList<Output>> for Nothing {
@@ -36,6 +38,7 @@ impl Says<(), LinkedList<Output>> for Nothing {
     ghost says = { λ _. [] };
 }
 
+/// What has been put out after a step: what was put out before it, and behind that what it has put out.
 struct Behind;
 
 impl<'a> Says<(&'a Ghost<LinkedList<Output>>, &'a Outputs), LinkedList<Output>> for Behind {

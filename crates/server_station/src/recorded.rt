@@ -1,9 +1,11 @@
 //! A server whose steps are recorded.
-ghost use Rattle.std.specs.Prelude.{◌≡◌, ◌+◌, ◌++◌, ◌<◌, ◌≤◌, ◌^◌, [], length, max};
+ghost use Rattle.std.specs.Prelude.{◌≡◌, ◌+◌, ◌++◌, ◌<◌, ◌≤◌, ◌^◌, [], length, max, true};
 ghost use Rattle.ubik_types.specs.Moment.{IsMoment};
-ghost use Rattle.server_station.specs.Fit.{IsFit};
+ghost use Rattle.server_journal.specs.Counts.{asks_of};
+ghost use Rattle.ubik_node.specs.Node.{own_member};
+ghost use Rattle.server_station.specs.Fit.{IsFit, IsNext, are_numbered, are_taken, is_taken};
 ghost use Rattle.server_station.specs.Recording.{refused_by};
-ghost use Rattle.server_station.specs.Replaying.{Replays};
+ghost use Rattle.server_station.specs.Replaying.{IsJustOpened, Replays};
 
 use crate::pasts::Past;
 use crate::shorts::shorts_in;
@@ -45,6 +47,10 @@ pub(crate) struct Recorded<D: Disk, V: DraftService, L: Opening, J: Keeper> {
     ghost begun: { 0 < node.last },
     ghost moment: { node.last < 2 ^ 31 },
     ghost counted: { shares.total.total ≡ length (J.items journal) },
+    ghost numbered: { are_numbered 0 (J.items journal) ≡ true },
+    ghost taken: { are_taken (own_member node) (J.items journal) ≡ true },
+    ghost opened: { IsJustOpened past.opened.value },
+    ghost member: { own_member node ≡ own_member past.opened.value },
     ghost replays: { Replays D.Disk V.standing past.opened.value node (J.items journal) past.outputs.value },
 }
 
@@ -86,6 +92,8 @@ impl<D: Disk, V: DraftService, L: Opening, J: Keeper> Recorded<D, V, L, J> {
         requires moment { IsMoment now }
         requires order { self.old.node.last ≤ now }
         requires fit { IsFit event }
+        requires next { asks_of (J.items self.old.journal) + 1 < 2 ^ 32 → IsNext (asks_of (J.items self.old.journal)) event }
+        requires taken { is_taken (own_member self.old.node) event ≡ true }
         requires empty { out.old ≡ [] }
         ensures records { Records D.Disk V.standing (J.limits self.old.journal) result event now self.old.node self.new.node
             (J.items self.old.journal) (J.items self.new.journal) out.new }

@@ -1,9 +1,10 @@
 //! What lies under the lock.
-ghost use Rattle.std.specs.Prelude.{◌≡◌, ◌+◌, ◌++◌, ◌<◌, ◌^◌, ℕ, [], length, max, IfOk, IfErr};
+ghost use Rattle.std.specs.Prelude.{◌≡◌, ◌+◌, ◌++◌, ◌<◌, ◌^◌, ℕ, [], length, max, true, IfOk, IfErr};
 ghost use Rattle.ubik_calls.specs.declared.frames.Frame.TheVariants as frames;
 ghost use Rattle.ubik_calls.specs.WireGrammar.{HasSpelling};
 ghost use Rattle.ubik_types.specs.Moment.{IsMoment};
-ghost use Rattle.server_station.specs.Fit.{IsFit, IsNext};
+ghost use Rattle.server_station.specs.Fit.{IsFit, IsNext, is_taken};
+ghost use Rattle.server_station.specs.Replaying.{IsJustOpened};
 
 use crate::askers::Askers;
 use crate::pasts::Past;
@@ -56,6 +57,7 @@ impl<D: Disk, V: DraftService, L: Opening, J: Keeper> Station<D, V, L, J> {
         requires parts { (blank.parts ≡ L.parts) × (L.all ≡ L.parts) × (L.all ≡ 7) }
         requires empty { J.items journal ≡ [] }
         requires moment { IsMoment node.last }
+        requires opened { IsJustOpened node }
         ensures node { IfOk result (λ station. station.recorded.node ≡ node) }
         ensures journal { IfOk result (λ station. station.recorded.journal ≡ journal) }
         ensures askers { IfOk result (λ station. station.askers ≡ []) }
@@ -151,6 +153,7 @@ impl<D: Disk, V: DraftService, L: Opening, J: Keeper> Station<D, V, L, J> {
         requires moment { IsMoment now }
         requires fit { IsFit event }
         requires next { IsNext (asks_of (J.items self.old.recorded.journal)) event }
+        requires taken { is_taken (own_member self.old.recorded.node) event ≡ true }
         requires empty { out.old ≡ [] }
         ensures records { Records D.Disk V.standing (J.limits self.old.recorded.journal) result event (max self.old.recorded.node.last now)
             self.old.recorded.node self.new.recorded.node (J.items self.old.recorded.journal) (J.items self.new.recorded.journal) out.new }

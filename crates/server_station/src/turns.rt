@@ -1,9 +1,9 @@
 //! The turns of a station: what a frame that came is, the step for it, and the frames that go out of that.
-ghost use Rattle.std.specs.Prelude.{◌≡◌, ◌+◌, ◌%◌, ◌^◌, ◌∷◌, [], length, max, option_to_list};
+ghost use Rattle.std.specs.Prelude.{◌≡◌, ◌+◌, ◌%◌, ◌<◌, ◌^◌, ◌∷◌, [], length, max, option_to_list, true};
 ghost use Rattle.ubik_types.specs.Moment.{IsMoment};
 ghost use Rattle.ubik_calls.specs.declared.frames.Frame.TheVariants as frames;
 ghost use Rattle.ubik_calls.specs.WireGrammar.{HasSpelling};
-ghost use Rattle.server_station.specs.Fit.{IsFit, IsFramed};
+ghost use Rattle.server_station.specs.Fit.{IsFit, IsFramed, IsNext, is_taken};
 
 use crate::Station;
 use crate::askers::Asker;
@@ -24,6 +24,10 @@ impl<D: Disk, V: DraftService, L: Opening, J: Keeper> Station<D, V, L, J> {
 
     /// Makes a turn, at `now` or at the moment of the last step, whichever is later, in seconds: a step at most. `out` is empty before it,
     /// and then has what goes out of the step. What a step that was made has in the journal is kept before anything goes out of it.
+    ///
+    /// It ends with Done where all was done that the turn asks for, and with Halted where the disk has failed in its step or before. With
+    /// Cut the step was made, and memory ran out while its frames were spelled: `out` has the first of them. With JournalFull and NoMemory
+    /// no step was made, and nothing goes out.
     pub fn turn(&mut self, seat: &mut Seat<L>, now: u32, turn: Turn, out: &mut Sendings) -> TurnEnd
         requires all { L.all ≡ L.parts }
         requires moment { IsMoment now }
@@ -126,6 +130,8 @@ impl<D: Disk, V: DraftService, L: Opening, J: Keeper> Station<D, V, L, J> {
         requires moment { IsMoment now }
         requires fit { IsFit event }
         requires framed { IsFramed event }
+        requires next { asks_of (J.items self.old.recorded.journal) + 1 < 2 ^ 32 → IsNext (asks_of (J.items self.old.recorded.journal)) event }
+        requires taken { is_taken (own_member self.old.recorded.node) event ≡ true }
         requires empty { out.old ≡ [] }
         ensures turned { TurnsBy D.Disk V.standing (J.limits self.old.recorded.journal) event (option_to_list asker) (max self.old.recorded.node.last now)
             (seen self.old.recorded.node (J.items self.old.recorded.journal) self.old.askers self.old.recorded.past.outputs.value)

@@ -45,6 +45,7 @@ pub fn opened<L: Opening, J: Keeper>(
 }
 
 /// A station over a disk on which nothing is pending.
+#[tactic(auto, using(server_station::proofs::Replaying::just_opened))]
 fn opened_over<D: Disk + Drop, V: DraftService, L: Opening, J: Keeper>(
     rt: &impl Abort,
     alloc: Global,

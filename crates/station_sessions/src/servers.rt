@@ -37,6 +37,7 @@ impl<D: Disk + Drop, V: DraftService, L: Opening> Drop for Server<D, V, L> {
 
 impl<D: Disk + Drop, V: DraftService, L: Opening> Server<D, V, L> {
     /// Opens the server at a place of the cell, over a disk on which nothing is pending.
+    #[tactic(auto, using(server_station::proofs::Replaying::just_opened))]
     pub fn open(
         alloc: Global,
         blank: Blank,

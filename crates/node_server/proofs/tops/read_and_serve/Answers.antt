@@ -16,7 +16,7 @@ returns-in-Err-clause-words g c =
 
 pub returns-in-Err-clause-explained : goal.returns-in-Err-clause-explained
 returns-in-Err-clause-explained g c =
-    unread g.D.Disk g.J.Keeper.items g.J.Keeper.limits _ _ _ c.args.disk c.in-Err.fault _ c.kind_of_words.ensures
+    unread g.D.Disk g.J.Keeper.items g.J.Keeper.limits _ _ _ c.args.disk c.in-Err.fault _ c.requires.settled c.kind_of_words.ensures
 
 pub returns-in-Ok-clause-replays : goal.returns-in-Ok-clause-replays
 returns-in-Ok-clause-replays g c =
