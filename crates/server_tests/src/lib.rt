@@ -3,6 +3,10 @@
 #![tactic(auto)]
 
 #[cfg(test)]
+mod meetings;
+#[cfg(test)]
+mod replays;
+#[cfg(test)]
 mod rounds;
 #[cfg(test)]
 mod stations;

@@ -1,6 +1,7 @@
 //! Stations under test.
 ghost use Rattle.std.specs.Prelude.{◌≡◌, [], IfOk};
 ghost use Rattle.disk_base.specs.Crash.{IsSettled};
+ghost use Rattle.ubik_types.specs.Moment.{IsMoment};
 
 use db_image::DraftService;
 use disk_base::{Disk, MemDisk, StopDisk};
@@ -41,27 +42,31 @@ pub fn opened<L: Opening, J: Keeper>(
     ensures { IfOk result (λ station. station.recorded.shares.lent ≡ 0) }
 {
     let disk = revived(MemDisk::new(alloc, &[])?);
-    opened_over(rt, alloc, disk, blank, journal)
+    opened_over(rt, alloc, (&[Host(1)], 0), OPENED, disk, blank, journal)
 }
 
-/// A station over a disk on which nothing is pending.
+/// A station over a disk on which nothing is pending: of a server of these hosts, ascending, and its place among them.
 #[tactic(auto, using(server_station::proofs::Replaying::just_opened))]
-fn opened_over<D: Disk + Drop, V: DraftService, L: Opening, J: Keeper>(
+pub fn opened_over<D: Disk + Drop, V: DraftService, L: Opening, J: Keeper>(
     rt: &impl Abort,
     alloc: Global,
+    place: (&[Host], usize),
+    now: u32,
     disk: D,
     blank: Blank,
     journal: J,
 ) -> Result<Station<D, V, L, J>, Fail>
+    requires moment { IsMoment now }
     requires settled { IsSettled (D.files disk) (D.may_leave disk) }
     requires name { blank.name ≡ L.name }
     requires parts { (blank.parts ≡ L.parts) × (L.all ≡ L.parts) × (L.all ≡ 7) }
     requires empty { J.items journal ≡ [] }
     ensures { IfOk result (λ station. station.recorded.shares.lent ≡ 0) }
 {
-    let cell = Cell::new(alloc, &[Host(1)])?;
-    assert!(rt; cell.len() == 1);
-    let node = match Node::open(alloc, cell, 0, disk, OPENED) {
+    let (hosts, me) = place;
+    let cell = Cell::new(alloc, hosts)?;
+    assert!(rt; me < cell.len());
+    let node = match Node::open(alloc, cell, me, disk, now) {
         Ok(node) => node,
         Err(refused) => return Err(refused.why)?,
     };

@@ -1,12 +1,11 @@
 //! Whole servers over a net, a clock and a disk in memory.
-use crate::rounds::ASK;
-use crate::stations::{bytes_in, revived};
+use crate::stations::revived;
 use disk_base::{MemDisk, MemSink};
 use io_base::{
-    Clock, ListClock, MemFrame, MemNet, MemSent, NoSpawner, OpenGate, Spawner, ThreadSpawner,
-    WallClock,
+    Clock, MemFrame, MemNet, MemSent, NoSpawner, OpenGate, Spawner, ThreadSpawner, WallClock,
 };
-use node_server::{ServerKind, server_top};
+use node_server::{ServerEnd, ServerKind, ServerRun, server_top};
+use server_station::Journal;
 use std::alloc::Global;
 use std::process::Abort;
 use std::sync::Wait;
@@ -14,9 +13,9 @@ use std::test::Fail;
 use std::thread::Threads;
 
 /// Words that fit, of the only server of its cell.
-const WORDS: [&str; 4] = ["ptserver", "folder", "10.0.0.1", "10.0.0.1"];
+pub const WORDS: [&str; 4] = ["ptserver", "folder", "10.0.0.1", "10.0.0.1"];
 
-fn words_of(alloc: Global, words: &[&str]) -> Result<Vec<String>, Fail> {
+pub fn words_of(alloc: Global, words: &[&str]) -> Result<Vec<String>, Fail> {
     let mut all = Vec::new(alloc);
     for word in words {
         all.push(String::from_str(alloc, word)?)?;
@@ -26,20 +25,28 @@ fn words_of(alloc: Global, words: &[&str]) -> Result<Vec<String>, Fail> {
 
 /// What a server is run over, beside its words: what comes over its net, and the line that it prints.
 #[derive(Drop)]
-struct Given<'a> {
-    frames: Vec<MemFrame>,
-    line: &'a [u8],
+pub struct Given<'a> {
+    pub frames: Vec<MemFrame>,
+    pub line: &'a [u8],
 }
 
-/// Runs a server; how it ended, and what it sent.
-fn run<C: Clock, P: Spawner, R: Threads + Wait + Abort + Sync + Copy + Drop>(
+/// What is left of a run: how it ended, its journal, and what it sent.
+#[derive(Drop)]
+pub struct Left {
+    pub kind: ServerKind,
+    pub run: Option<ServerRun<Journal>>,
+    pub sent: Vec<MemSent>,
+}
+
+/// Runs a server over an empty disk.
+pub fn run<C: Clock, P: Spawner, R: Threads + Wait + Abort + Sync + Copy + Drop>(
     rt: R,
     alloc: Global,
     words: &[&str],
     clock: &C,
     spawner: &P,
     given: Given,
-) -> Result<(ServerKind, Vec<MemSent>), Fail> {
+) -> Result<Left, Fail> {
     let words = words_of(alloc, words)?;
     let disk = revived(MemDisk::new(alloc, &[])?);
     let Given { frames, line } = given;
@@ -48,14 +55,19 @@ fn run<C: Clock, P: Spawner, R: Threads + Wait + Abort + Sync + Copy + Drop>(
     let end = server_top(
         &rt, alloc, &words, disk, &net, clock, spawner, &OpenGate, &mut err,
     );
-    assert_eq!(rt; end.status, end.kind.status());
+    let ServerEnd {
+        status,
+        kind,
+        disk: _,
+        run,
+    } = end;
+    assert_eq!(rt; status, kind.status());
     assert_eq!(rt; err.written(), line);
-    Ok((end.kind, net.sent()))
-}
-
-/// A clock that shows 1000, and then 1060.
-fn moments<R: Wait + Drop>(rt: R, alloc: Global) -> Result<ListClock<R>, Fail> {
-    Ok(ListClock::new(rt, Vec::from_array(alloc, [1000, 1060])?))
+    Ok(Left {
+        kind,
+        run,
+        sent: net.sent(),
+    })
 }
 
 /// Words that are refused.
@@ -101,7 +113,7 @@ fn servers_end(rt: HostRuntime) -> Result<(), Fail> {
     let clock = WallClock::new(rt);
     for (words, line, place) in REFUSED {
         let frames = Vec::new(alloc);
-        let (kind, sent) = run(
+        let left = run(
             rt,
             alloc,
             words,
@@ -109,12 +121,12 @@ fn servers_end(rt: HostRuntime) -> Result<(), Fail> {
             &ThreadSpawner,
             Given { frames, line },
         )?;
-        assert_eq!(rt; kind, ServerKind::Words { place });
-        assert!(rt; sent.is_empty());
+        assert_eq!(rt; left.kind, ServerKind::Words { place });
+        assert!(rt; left.run.is_none() && left.sent.is_empty());
     }
     let frames = Vec::new(alloc);
     let line = b"afs_dbserver: no thread\n";
-    let (kind, sent) = run(
+    let left = run(
         rt,
         alloc,
         &WORDS,
@@ -122,38 +134,7 @@ fn servers_end(rt: HostRuntime) -> Result<(), Fail> {
         &NoSpawner,
         Given { frames, line },
     )?;
-    assert_eq!(rt; (kind, kind.status()), (ServerKind::NoThread, 6));
-    assert!(rt; sent.is_empty());
-    Ok(())
-}
-
-#[test]
-fn a_call_is_answered(rt: HostRuntime) -> Result<(), Fail> {
-    let alloc = rt.alloc();
-    let mut frames = Vec::new(alloc);
-    frames.push(MemFrame {
-        peer: 5,
-        frame: bytes_in(alloc, &ASK)?,
-    })?;
-    let clock = moments(rt, alloc)?;
-    let (kind, sent) = run(
-        rt,
-        alloc,
-        &WORDS,
-        &clock,
-        &ThreadSpawner,
-        Given { frames, line: b"" },
-    )?;
-    assert_eq!(rt; (kind, kind.status()), (ServerKind::Closed, 0));
-    // no quorum at 1060, until 0, in no phase, and not applied
-    let reply = bytes_in(alloc, &[28, 2, 7, 2, 1060, 0, 0, 0])?;
-    assert_eq!(rt; sent.len(), 1);
-    match &sent[0] {
-        MemSent::Back { peer, frame } => {
-            assert_eq!(rt; *peer, 5);
-            assert_eq!(rt; frame.as_slice(), reply.as_slice());
-        }
-        MemSent::To { .. } => panic!(rt; "a packet"),
-    }
+    assert_eq!(rt; (left.kind, left.kind.status()), (ServerKind::NoThread, 6));
+    assert!(rt; left.sent.is_empty());
     Ok(())
 }
