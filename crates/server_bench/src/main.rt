@@ -9,6 +9,7 @@ mod location_calls;
 mod measures;
 mod node_calls;
 mod protection_calls;
+mod station_calls;
 mod transfers;
 mod turns;
 
@@ -61,7 +62,7 @@ fn database(rt: &HostRuntime) -> Result<Vec<u8>, Fault>
 fn tell(rt: &HostRuntime, measure: Measure, database: &[u8]) -> Result<(), Fault>
     requires { length database.now ≤ MAX_DATABASE_LEN }
 {
-    measure.run(rt.alloc(), database)?;
+    measure.run(rt, database)?;
     println!(rt; "{measure}").map_err(|_| Fault::Output)
 }
 

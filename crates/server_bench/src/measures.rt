@@ -3,9 +3,9 @@ ghost use Rattle.std.specs.Prelude.{◌≤◌, length};
 ghost use Rattle.page_file.specs.declared.label.TheConstants.{MAX_DATABASE_LEN};
 
 use crate::location_calls::Plan;
+use crate::station_calls::{Blocks, Kept};
 use crate::turns::Asked;
-use crate::{location_calls, node_calls, protection_calls, transfers};
-use std::alloc::Global;
+use crate::{location_calls, node_calls, protection_calls, station_calls, transfers};
 use std::env::Args;
 use std::fmt;
 use thiserror::Error;
@@ -19,6 +19,12 @@ database that standard input gives. Its words are one of
   node CALL TIMES              a server that is alone in its cell is asked
                                calls of the protection database; standard
                                input is the database file
+  station CALL TIMES           the same calls, as frames, of a station of that
+                               server, whose journal is ghost data
+  turns KEPT EVERY BLOCKS      so many blocks of so many turns of a station, each
+                               of which translates a name, over an empty
+                               database; a line is told behind each block. KEPT
+                               is ghost, or held for a journal in memory
   transfer open                two servers are opened over disks in memory, the
                                first one with that database file
   transfer send                the first one then sends its database to the
@@ -42,6 +48,10 @@ failed, and 6 where the words have no meaning.
 pub enum Measure {
     /// Calls that a server alone in its cell is asked.
     Node { asked: Asked, times: u16 },
+    /// The same calls, of a station of that server.
+    Station { asked: Asked, times: u16 },
+    /// Turns of a station, in blocks.
+    Turns(Blocks),
     /// Two servers are opened, and the first one sends its database to the second, or does not.
     Transfer { sends: bool },
     /// Calls of the protection database over a draft.
@@ -51,7 +61,7 @@ pub enum Measure {
 }
 
 /// Those that an empty database takes.
-pub const FIXED: [Measure; 8] = [
+pub const FIXED: [Measure; 11] = [
     Measure::Node {
         asked: Asked::NewEntry,
         times: 3,
@@ -60,6 +70,19 @@ pub const FIXED: [Measure; 8] = [
         asked: Asked::NameToId,
         times: 3,
     },
+    Measure::Station {
+        asked: Asked::NewEntry,
+        times: 3,
+    },
+    Measure::Station {
+        asked: Asked::NameToId,
+        times: 3,
+    },
+    Measure::Turns(Blocks {
+        kept: Kept::Held,
+        every: 2,
+        count: 1,
+    }),
     Measure::Transfer { sends: false },
     Measure::Transfer { sends: true },
     Measure::Protection {
@@ -128,6 +151,15 @@ fn plan_in(words: &mut Args) -> Option<Plan> {
     })
 }
 
+/// Blocks of turns.
+fn blocks_in(words: &mut Args) -> Option<Blocks> {
+    Some(Blocks {
+        kept: Kept::read(words.next()?.as_str())?,
+        every: words.next()?.parse().ok()?,
+        count: words.next()?.parse().ok()?,
+    })
+}
+
 impl Measure {
     /// The measure of this name, of which the next words tell the rest; none where they do not.
     pub fn read(name: &str, words: &mut Args) -> Option<Measure> {
@@ -136,6 +168,11 @@ impl Measure {
                 let (asked, times) = asked_in(words)?;
                 Some(Measure::Node { asked, times })
             }
+            "station" => {
+                let (asked, times) = asked_in(words)?;
+                Some(Measure::Station { asked, times })
+            }
+            "turns" => blocks_in(words).map(Measure::Turns),
             "transfer" => match words.next()?.as_str() {
                 "open" => Some(Measure::Transfer { sends: false }),
                 "send" => Some(Measure::Transfer { sends: true }),
@@ -150,13 +187,21 @@ impl Measure {
         }
     }
 
-    /// Does the work over this database file, or over this image.
-    pub fn run(self, alloc: Global, database: &[u8]) -> Result<(), Fault>
+    /// Does the work over this database file, or over this image; only turns are told as they are made.
+    pub fn run(self, rt: &HostRuntime, database: &[u8]) -> Result<(), Fault>
         requires { length database.now ≤ MAX_DATABASE_LEN }
     {
+        let alloc = rt.alloc();
         let done = match self {
             Measure::Node { asked, times } => {
                 node_calls::is_done(alloc, database, asked, times)?
+            }
+            Measure::Station { asked, times } => {
+                station_calls::is_done(alloc, database, asked, times)?
+            }
+            Measure::Turns(blocks) => {
+                station_calls::tell_blocks(rt, blocks)?;
+                true
             }
             Measure::Transfer { sends } => transfers::is_done(alloc, database, sends)?,
             Measure::Protection { asked, times } => {
@@ -174,6 +219,14 @@ impl fmt::Display for Measure {
             Measure::Node { asked, times } => {
                 let word = asked.word();
                 write!(f, "node {word}: calls answered {times}")
+            }
+            Measure::Station { asked, times } => {
+                let word = asked.word();
+                write!(f, "station {word}: calls answered {times}")
+            }
+            Measure::Turns(blocks) => {
+                let (word, every, count) = (blocks.kept.word(), blocks.every, blocks.count);
+                write!(f, "turns {word}: {count} times {every} answered")
             }
             Measure::Transfer { sends: true } => {
                 write!(f, "transfer send: both servers have the database")
