@@ -1,5 +1,5 @@
 //! A station as the bench of a crew.
-ghost use Rattle.std.specs.Prelude.{◌≡◌, ◌+◌, ◌<◌, ◌≤◌, length, slice_index, true, []};
+ghost use Rattle.std.specs.Prelude.{◌≡◌, ◌+◌, ◌<◌, ◌≤◌, length, max, slice_index, true, []};
 ghost use Rattle.std.proofs.Props.{props};
 ghost use Rattle.ubik_types.specs.Moment.{IsMoment};
 ghost use Rattle.node_server.specs.Moments.{AreTimed, moments_of};
@@ -95,6 +95,11 @@ pub(crate) struct StationBench<D: Disk, V: DraftService, L: Running, J: Keeper> 
 
 impl<D: Disk + Send, V: DraftService + Send, L: Running + Send, J: Keeper + Send> Bench
     for StationBench<D, V, L, J> {
+    ghost use Rattle.ubik_node.specs.Node.{own_member};
+    ghost use Rattle.server_rounds.specs.declared.turns.TurnEnd.{TurnEnd as End};
+    ghost use Rattle.server_rounds.specs.Clock.{IsOfClock};
+    ghost use Rattle.server_journal.specs.Counts.{asks_of};
+    ghost use Rattle.server_station.specs.Turns.{Turned, act_of, seen};
     ghost use Rattle.node_server.specs.Causes.{is_seen};
 
     ghost caused = { λ b. is_seen L.limits (J.items b.station.recorded.journal) L.failed_before (D.faults b.station.recorded.node.store.disk) };
@@ -103,14 +108,38 @@ impl<D: Disk + Send, V: DraftService + Send, L: Running + Send, J: Keeper + Send
 
     type Seat = Seat<L>;
 
-    fn turn(&mut self, seat: &mut Seat<L>, now: u32, turn: Turn, out: &mut Sendings) -> TurnEnd {
+    // (all that a turn of the station does, beside what a crew asks of a bench)
+    fn turn(&mut self, seat: &mut Seat<L>, now: u32, turn: Turn, out: &mut Sendings) -> TurnEnd
+        requires moment { IsMoment now }
+        requires clocked { IsOfClock L.gave now }
+        requires empty { out.old ≡ [] }
+        ensures caused { is_seen L.limits (J.items self.new.station.recorded.journal) L.failed_before (D.faults self.new.station.recorded.node.store.disk) result ≡ true }
+        ensures stays { (end : End) → is_seen L.limits (J.items self.old.station.recorded.journal) L.failed_before (D.faults self.old.station.recorded.node.store.disk) end ≡ true
+            → is_seen L.limits (J.items self.new.station.recorded.journal) L.failed_before (D.faults self.new.station.recorded.node.store.disk) end ≡ true }
+        ensures turned { Turned D.Disk V.standing (J.limits self.old.station.recorded.journal)
+            (act_of (own_member self.old.station.recorded.node) (asks_of (J.items self.old.station.recorded.journal)) turn) (max self.old.station.recorded.node.last now)
+            (seen self.old.station.recorded.node (J.items self.old.station.recorded.journal) self.old.station.askers self.old.station.recorded.past.outputs.value)
+            (seen self.new.station.recorded.node (J.items self.new.station.recorded.journal) self.new.station.askers self.new.station.recorded.past.outputs.value) out.new result }
+        ensures share { seat.new.share.amount + length (J.items self.old.station.recorded.journal)
+            ≡ seat.old.share.amount + length (J.items self.new.station.recorded.journal) }
+        ensures lent { self.new.station.recorded.shares.lent ≡ self.old.station.recorded.shares.lent }
+    {
         // Read, so that what its type says of the ledger's parts is at hand.
         let _ = &self.whole.of;
         let StationBench { station, .. } = self;
         station.turn(seat, now, turn, out)
     }
 
-    fn take_back(&mut self, seat: Seat<L>) {
+    // (the seat is the station's again, and nothing else changes)
+    fn take_back(&mut self, seat: Seat<L>)
+        ensures stays { (end : End) → is_seen L.limits (J.items self.old.station.recorded.journal) L.failed_before (D.faults self.old.station.recorded.node.store.disk) end ≡ true
+            → is_seen L.limits (J.items self.new.station.recorded.journal) L.failed_before (D.faults self.new.station.recorded.node.store.disk) end ≡ true }
+        ensures lent { self.new.station.recorded.shares.lent + 1 ≡ self.old.station.recorded.shares.lent }
+        ensures node { self.new.station.recorded.node ≡ self.old.station.recorded.node }
+        ensures journal { self.new.station.recorded.journal ≡ self.old.station.recorded.journal }
+        ensures askers { self.new.station.askers ≡ self.old.station.askers }
+        ensures past { self.new.station.recorded.past ≡ self.old.station.recorded.past }
+    {
         // As in `turn`.
         let _ = &self.whole.of;
         let StationBench { station, .. } = self;
