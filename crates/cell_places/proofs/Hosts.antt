@@ -1,4 +1,4 @@
--- Hosts of a cell, and the servers that polls name.
+-- Hosts of a cell, which stay in each event, and the servers that polls name.
 use Rattle.std.proofs.Common.{Bool, true, false, cond, ◌≡◌, ◌⊎◌, inl, inr, true≢false, ℕ, zero, suc, ◌+◌, ◌<◌, List, [], ◌∷◌, length}
 use Rattle.std.proofs.Common.{refl, sym, ap, subst, ◌∙◌, arith}
 use Rattle.std.proofs.lemmas.Bool.Decides.{nat_tests}
@@ -9,9 +9,14 @@ use Rattle.ubik_types.specs.declared.hosts.Host.{Host}
 use Rattle.ubik_types.specs.declared.versions.Version.{Version}
 use Rattle.ubik_types.specs.Phase.{Polled}
 use Rattle.ubik_types.specs.Version.{zero_version, version_lt, version_eq}
+use Rattle.db_image.specs.Database.{Database}
+use Rattle.cell_model.specs.declared.events.NodeEvent.{NodeEvent}
 use Rattle.cell_model.specs.NodeRule.{place_of}
 use Rattle.cell_model.specs.Polls.{best_version, best_answer, first_with, only_at}
-use Rattle.cell_model.specs.Step.{host_at}
+use Rattle.cell_model.specs.Step.{Member, host_at}
+use Rattle.cell_model.specs.World.{World, Site, SiteHappened, Event, Tick, Tick_all, Step, Stop, Fault, Crash, Restart}
+use Rattle.cell_model.specs.World.{happens, happens_at, triggered, occasion, member, site_of, world_after}
+use Rattle.cell_model.specs.World.{crash_at, fault_at, restart_at, step_at, stop_at}
 use Rattle.cell_model.proofs.StepKinds.{lt_zero}
 use Rattle.cell_model.proofs.Voters.{own_place, place_there}
 use Rattle.cell_places.specs.Places.{IsPollOf}
@@ -46,6 +51,29 @@ all_placed hosts = from_placed hosts 0 hosts (λ i host at. subst (λ (n : ℕ).
   where
     plus_none : (i : ℕ) → i ≡ i + 0
     plus_none i = omega arith
+
+-- ---- they stay
+
+at_hosts : (w : World) (k : ℕ) (f : Site → SiteHappened) (o : Option Site) → (happens_at w k f o).world.hosts ≡ w.hosts
+at_hosts w k f None = refl
+at_hosts w k f (Some site) = refl
+
+triggered_hosts : (w : World) (f : Member → NodeEvent → Site → SiteHappened) (o : Option (ℕ × NodeEvent)) → (triggered w f o).world.hosts ≡ w.hosts
+triggered_hosts w f None = refl
+triggered_hosts w f (Some o) = at_hosts w o.0 (f (member w o.0) o.1) (site_of w o.0)
+
+pub hosts_stay : (db : Database) (w : World) (e : Event) → (happens db w e).world.hosts ≡ w.hosts
+hosts_stay db w (Tick server seconds) = refl
+hosts_stay db w (Tick_all seconds) = refl
+hosts_stay db w (Step trigger short) = triggered_hosts w (λ m e site. step_at db m trigger e short site site.node) (occasion w trigger)
+hosts_stay db w (Stop trigger short made) = triggered_hosts w (λ m e site. stop_at db m e short made site site.node) (occasion w trigger)
+hosts_stay db w (Fault trigger short made) = triggered_hosts w (λ m e site. fault_at db m e short made site site.node) (occasion w trigger)
+hosts_stay db w (Crash server) = at_hosts w server crash_at (site_of w server)
+hosts_stay db w (Restart server failed) = at_hosts w server (restart_at (length w.hosts) server failed) (site_of w server)
+
+pub all_hosts_stay : (db : Database) (w : World) (events : List Event) → (world_after db w events).hosts ≡ w.hosts
+all_hosts_stay db w [] = refl
+all_hosts_stay db w (e ∷ events) = all_hosts_stay db (happens db w e).world events ∙ hosts_stay db w e
 
 -- ---- polls
 

@@ -6,33 +6,15 @@ use Rattle.std.proofs.lemmas.Bool.{eq-eqb, ne_eqb}
 use Rattle.db_image.specs.Database.{Database}
 use Rattle.ubik_types.specs.declared.hosts.Host.{Host}
 use Rattle.ubik_types.specs.declared.versions.Version.{Version}
-use Rattle.cell_model.specs.declared.events.NodeEvent.{NodeEvent}
 use Rattle.cell_model.specs.Durable.{Made, version_after}
-use Rattle.cell_model.specs.World.{Site as ModelSite, World, Event, Tick, Tick_all, Step, Stop, Fault, Crash, Restart, SiteHappened, calls_on, entries_from}
-use Rattle.cell_model.specs.World.{first_world, happens, happens_at, member, site_of, step_at, stop_at, fault_at, crash_at, restart_at, triggered, occasion}
-use Rattle.cell_model.specs.World.{world_after}
+use Rattle.cell_model.specs.World.{Site as ModelSite, World, Event, calls_on, entries_from}
+use Rattle.cell_model.specs.World.{first_world, happens, site_of, world_after}
+use Rattle.cell_places.proofs.Hosts.{hosts_stay}
 use Rattle.cell_runs.specs.Script.{Cell, Opening, calls_on_all, first_of}
 use Rattle.cell_sites.specs.Counts.{AreCountsFrom, HoldRun, IsCountOf, IsCutShort, IsRiseIn, IsRiseOver, IsSurplus, calls_of}
 use Rattle.cell_sites.specs.Disks.{AreReadBy, Held}
 
 -- ---- the world after one more event
-
-at_hosts : (w : World) (k : ℕ) (f : ModelSite → SiteHappened) (o : Option ModelSite) → (happens_at w k f o).world.hosts ≡ w.hosts
-at_hosts w k f None = refl
-at_hosts w k f (Some s) = refl
-
-triggered_hosts : (w : World) (f : _) (o : Option (ℕ × NodeEvent)) → (triggered w f o).world.hosts ≡ w.hosts
-triggered_hosts w f None = refl
-triggered_hosts w f (Some o) = at_hosts w o.0 (f (member w o.0) o.1) (site_of w o.0)
-
-pub hosts_stay : (db : Database) (w : World) (e : Event) → (happens db w e).world.hosts ≡ w.hosts
-hosts_stay db w (Tick server seconds) = refl
-hosts_stay db w (Tick_all seconds) = refl
-hosts_stay db w (Step trigger short) = triggered_hosts w (λ m e site. step_at db m trigger e short site site.node) (occasion w trigger)
-hosts_stay db w (Stop trigger short made) = triggered_hosts w (λ m e site. stop_at db m e short made site site.node) (occasion w trigger)
-hosts_stay db w (Fault trigger short made) = triggered_hosts w (λ m e site. fault_at db m e short made site site.node) (occasion w trigger)
-hosts_stay db w (Crash server) = at_hosts w server crash_at (site_of w server)
-hosts_stay db w (Restart server failed) = at_hosts w server (restart_at (length w.hosts) server failed) (site_of w server)
 
 world_more : (db : Database) (w : World) (events : List Event) (e : Event)
     → world_after db w (events ++ e ∷ []) ≡ (happens db (world_after db w events) e).world

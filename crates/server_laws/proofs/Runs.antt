@@ -22,10 +22,11 @@ use Rattle.journal_model.proofs.Replaying.{items_front, items_last, items_more}
 use Rattle.journal_model.specs.Schedules.{ScheduleEntry, Tick, Tick_all, Open, Item, Stop, Progress, AllAllowed, EntryFits, Fits, HasJournal, IsAllowed, IsOwn}
 use Rattle.journal_model.specs.Schedules.{IsOwnItem, IsReplay, ItemFits, Life, OpeningFits, StepFits}
 use Rattle.journal_model.specs.Schedules.{all_events, asked_at, ends_life, entered, events_of, item_event, life_after, life_from, life_in, life_with, node_in, scheduled}
+use Rattle.cell_places.proofs.Hosts.{all_hosts_stay}
 use Rattle.server_laws.specs.Laws.{AllMeant, IsWorldRun}
 use Rattle.server_laws.proofs.Events.{Comes, IsBrought, item_comes, stop_event, stop_is, stopped}
 use Rattle.server_laws.proofs.Lives.{AllLives, IsLife, at_down, at_one, here, item_goes, replay_is}
-use Rattle.server_laws.proofs.Sites.{SameNodes, hosts_stay, set_same, some_site, ticked_each, ticked_one}
+use Rattle.server_laws.proofs.Sites.{SameNodes, set_same, some_site, ticked_each, ticked_one}
 
 -- ---- runs
 
@@ -333,7 +334,7 @@ module _ (d : Standing) (hosts : List Host) (clock : ℕ) (failed : List Bool)
   schedule_journals w [] lives reached same all fits journals k = journals k
   schedule_journals w (entry ∷ schedule) lives reached same all fits journals k =
       schedule_journals (entered db w entry) schedule (lives_after w lives entry) (next w entry reached fits.0)
-      (hosts_stay db w (events_of w entry) ∙ same) ((goes_at w entry reached fits.0).replays lives all) fits.1
+      (all_hosts_stay db w (events_of w entry) ∙ same) ((goes_at w entry reached fits.0).replays lives all) fits.1
       (journal_after w entry lives same all fits.0 journals) k
 
   -- an item that the world allows is its server's own, where it is the next one of its journal
@@ -395,5 +396,5 @@ module _ (d : Standing) (hosts : List Host) (clock : ℕ) (failed : List Bool)
       let fits : EntryFits d w entry = (allowed.0, own_by w entry lives same all allowed.0 journals) in (
         fits,
         schedule_fits after schedule (lives_after w lives entry) (next w entry reached fits)
-            (hosts_stay db w (events_of w entry) ∙ same) ((goes_at w entry reached fits).replays lives all) allowed.1 later,
+            (all_hosts_stay db w (events_of w entry) ∙ same) ((goes_at w entry reached fits).replays lives all) allowed.1 later,
       )

@@ -1,38 +1,7 @@
 -- The servers of a world, where one of them is another one or its clock goes on.
 use Rattle.std.proofs.Common.{◌≡◌, ◌⊎◌, inl, inr, ℕ, zero, suc, List, [], ◌∷◌, length, map, set, slice_get, refl, sym, ap, ◌∙◌, arith}
 use Rattle.std.specs.Prelude.{Option, Some, None, IsSomeAnd}
-use Rattle.db_image.specs.Database.{Database}
-use Rattle.cell_model.specs.declared.events.NodeEvent.{NodeEvent}
-use Rattle.cell_model.specs.Step.{Member}
-use Rattle.cell_model.specs.World.{World, Site, SiteHappened, Event, happens, happens_at, triggered, occasion, member, site_of, ticked, tick_at, world_after}
-use Rattle.cell_model.specs.World.{crash_at, fault_at, restart_at, step_at, stop_at}
-use Rattle.cell_model.specs.World as world
-
--- ---- the hosts stay
-
-hosts_at : (w : World) (k : ℕ) (f : Site → SiteHappened) (o : Option Site) → (happens_at w k f o).world.hosts ≡ w.hosts
-hosts_at w k f None = refl
-hosts_at w k f (Some site) = refl
-
-hosts_triggered : (w : World) (f : Member → NodeEvent → Site → SiteHappened) (o : Option (ℕ × NodeEvent)) → (triggered w f o).world.hosts ≡ w.hosts
-hosts_triggered w f None = refl
-hosts_triggered w f (Some o) = hosts_at w o.0 (f (member w o.0) o.1) (site_of w o.0)
-
-hosts_happen : (db : Database) (w : World) (e : Event) → (happens db w e).world.hosts ≡ w.hosts
-hosts_happen db w (world.Tick server seconds) = refl
-hosts_happen db w (world.Tick_all seconds) = refl
-hosts_happen db w (world.Step trigger short) =
-    hosts_triggered w (λ m e site. step_at db m trigger e short site site.node) (occasion w trigger)
-hosts_happen db w (world.Stop trigger short made) =
-    hosts_triggered w (λ m e site. stop_at db m e short made site site.node) (occasion w trigger)
-hosts_happen db w (world.Fault trigger short made) =
-    hosts_triggered w (λ m e site. fault_at db m e short made site site.node) (occasion w trigger)
-hosts_happen db w (world.Crash server) = hosts_at w server crash_at (site_of w server)
-hosts_happen db w (world.Restart server failed) = hosts_at w server (restart_at (length w.hosts) server failed) (site_of w server)
-
-pub hosts_stay : (db : Database) (w : World) (events : List Event) → (world_after db w events).hosts ≡ w.hosts
-hosts_stay db w [] = refl
-hosts_stay db w (e ∷ events) = hosts_stay db (happens db w e).world events ∙ hosts_happen db w e
+use Rattle.cell_model.specs.World.{Site, ticked, tick_at}
 
 -- ---- its servers
 

@@ -2,35 +2,16 @@
 use Rattle.std.proofs.Common.{Bool, true, false, cond, ◌≡◌, ℕ, zero, suc, ◌-◌, ◌&&◌, nat_lt, nat_le, List, [], length, refl, ◌∙◌}
 use Rattle.std.specs.Prelude.{Option, Some, None, Ok, Err, IfOk, set, drop, map}
 use Rattle.ubik_types.specs.declared.hosts.Host.{Host}
-use Rattle.db_image.specs.Database.{Database}
-use Rattle.cell_model.specs.declared.events.NodeEvent.{NodeEvent}
-use Rattle.cell_model.specs.Step.{Member, host_at}
-use Rattle.cell_model.specs.World.{Site, World, Trigger, Delivery, Beacon_turn, Recover_turn, Asking, Event, Tick, Tick_all, Step, Stop, Fault, Crash, Restart, SiteHappened, happens_at, triggered, happens, step_at, stop_at, fault_at, crash_at, restart_at, occasion, member, site_of, tick_at, ticked, may_tick}
+use Rattle.cell_model.specs.Step.{host_at}
+use Rattle.cell_model.specs.World.{Site, Trigger, Delivery, Beacon_turn, Recover_turn, Asking, Event, Tick, Tick_all, Step, Stop, Fault, Crash, Restart}
+use Rattle.cell_model.specs.World.{occasion, site_of, tick_at, ticked, may_tick}
+use Rattle.cell_places.proofs.Hosts.{hosts_stay}
 use Rattle.cell_script.specs.declared.lines.Line.{Line}
 use Rattle.cell_script.specs.declared.lines.Line.TheVariants as line
 use Rattle.cell_script.specs.declared.lines.Why.TheVariants as why
 use Rattle.cell_runs.specs.declared.endings.Ending.{Ending}
 use Rattle.cell_runs.specs.Script.{Choice, Choices, Cell, Cell_run, Run_or_why, DiskOutcome, Serves, Fails_after, Stops_after, outcome_of, place_in, stepped_so, stepped, delivered, all_delivered, unless_ended, choice_of, first_choice, first_waiting, at_server, at_up, at_down, at_packet, is_down_at, unless_skewed, run_in, asked, asked_in, with_event, cell_size_of, dropped_of, shown_site}
 use Rattle.cell_runs.specs.ScriptDatabase.{ScriptDatabase}
-
--- ---- events
-
-at_hosts : (w : World) (k : ℕ) (f : Site → SiteHappened) (o : Option Site) → (happens_at w k f o).world.hosts ≡ w.hosts
-at_hosts w k f None = refl
-at_hosts w k f (Some site) = refl
-
-triggered_hosts : (w : World) (f : Member → NodeEvent → Site → SiteHappened) (o : Option (ℕ × NodeEvent)) → (triggered w f o).world.hosts ≡ w.hosts
-triggered_hosts w f None = refl
-triggered_hosts w f (Some o) = at_hosts w o.0 (f (member w o.0) o.1) (site_of w o.0)
-
-happens_hosts : (db : Database) (w : World) (e : Event) → (happens db w e).world.hosts ≡ w.hosts
-happens_hosts db w (Tick server seconds) = refl
-happens_hosts db w (Tick_all seconds) = refl
-happens_hosts db w (Step trigger short) = triggered_hosts w (λ m e site. step_at db m trigger e short site site.node) (occasion w trigger)
-happens_hosts db w (Stop trigger short made) = triggered_hosts w (λ m e site. stop_at db m e short made site site.node) (occasion w trigger)
-happens_hosts db w (Fault trigger short made) = triggered_hosts w (λ m e site. fault_at db m e short made site site.node) (occasion w trigger)
-happens_hosts db w (Crash server) = at_hosts w server crash_at (site_of w server)
-happens_hosts db w (Restart server failed) = at_hosts w server (restart_at (length w.hosts) server failed) (site_of w server)
 
 module _ (script_db : ScriptDatabase) where
   -- ---- steps
@@ -39,9 +20,9 @@ module _ (script_db : ScriptDatabase) where
   Stays hosts r = r.cell.run.world.hosts ≡ hosts
 
   so_stays : (c : Cell) (trigger : Trigger) (k : ℕ) (short : List Bool) (outcome : DiskOutcome) → Stays c.run.world.hosts (stepped_so script_db c trigger k short outcome)
-  so_stays c trigger k short (Serves calls) = happens_hosts script_db.database c.run.world (Step trigger short)
-  so_stays c trigger k short (Fails_after unheard made) = happens_hosts script_db.database c.run.world (Fault trigger unheard made)
-  so_stays c trigger k short (Stops_after unheard made) = happens_hosts script_db.database c.run.world (Stop trigger unheard made)
+  so_stays c trigger k short (Serves calls) = hosts_stay script_db.database c.run.world (Step trigger short)
+  so_stays c trigger k short (Fails_after unheard made) = hosts_stay script_db.database c.run.world (Fault trigger unheard made)
+  so_stays c trigger k short (Stops_after unheard made) = hosts_stay script_db.database c.run.world (Stop trigger unheard made)
 
   stepped_stays : (c : Cell) (choice : Choice) (trigger : Trigger) → Stays c.run.world.hosts (stepped script_db c choice trigger)
   stepped_stays c choice trigger =
@@ -88,7 +69,7 @@ module _ (script_db : ScriptDatabase) where
     packet_stays number r stays = if_stays (nat_lt 0 number && nat_le number (length c.run.world.packets)) (Ok r) (Err why.Packet) stays tt
 
     skewed_stays : (sites : List Site) (e : Event) → MayStay (unless_skewed script_db c sites e)
-    skewed_stays sites e = if_stays (may_tick sites) (Ok (with_event script_db c e)) (Err why.Skew) (happens_hosts script_db.database c.run.world e) tt
+    skewed_stays sites e = if_stays (may_tick sites) (Ok (with_event script_db c e)) (Err why.Skew) (hosts_stay script_db.database c.run.world e) tt
 
     pub line_stays : (choices : Choices) (l : Line) → MayStay (run_in script_db c choices l)
     line_stays choices (line.Tick server seconds) =
@@ -108,10 +89,10 @@ module _ (script_db : ScriptDatabase) where
     line_stays choices (line.Stop server calls f) =
         up_stays server (λ k. record { cell = record c { armed = set c.armed k (Some (record { calls = calls; made = 0 })) }; items = []; ending = None }) (λ k. refl)
     line_stays choices (line.Crash server) =
-        up_stays server (λ k. with_event script_db (record c { armed = set c.armed k None }) (Crash k)) (λ k. happens_hosts script_db.database c.run.world (Crash k))
+        up_stays server (λ k. with_event script_db (record c { armed = set c.armed k None }) (Crash k)) (λ k. hosts_stay script_db.database c.run.world (Crash k))
     line_stays choices (line.Restart server) =
         down_stays server (λ k. with_event script_db c (Restart k (first_choice choices).fails))
-        (λ k. happens_hosts script_db.database c.run.world (Restart k (first_choice choices).fails))
+        (λ k. hosts_stay script_db.database c.run.world (Restart k (first_choice choices).fails))
     line_stays choices (line.Show server) =
         server_stays server (λ k. Ok (record { cell = c; items = shown_site (cell_size_of c) k (site_of c.run.world k); ending = None })) (λ k. refl)
     line_stays choices (line.Cell servers clock k) = tt
