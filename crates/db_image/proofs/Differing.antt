@@ -16,10 +16,10 @@ use Rattle.db_image.proofs.Bytes.{byte_in}
 use Rattle.db_image.proofs.Covering.{bytes_at, bytes_len}
 use Rattle.db_image.proofs.Steps.{block_at_past, block_changes_past}
 
-block_length : (xs : List ℕ) (at size : ℕ) → length (block_at xs at size) ≡ min size (length xs - at)
+pub block_length : (xs : List ℕ) (at size : ℕ) → length (block_at xs at size) ≡ min size (length xs - at)
 block_length xs at size = length-take size (drop at xs) ∙ ap (min size) (length-drop at xs)
 
-block_index : (xs : List ℕ) (at size i : ℕ) → i < size → slice_index (block_at xs at size) i ≡ slice_index xs (at + i)
+pub block_index : (xs : List ℕ) (at size i : ℕ) → i < size → slice_index (block_at xs at size) i ≡ slice_index xs (at + i)
 block_index xs at size i below = get_or-take size (drop at xs) i 0 below ∙ get_or-drop at xs i 0
 
 -- a byte of a block of the draft

@@ -3,12 +3,12 @@ use Rattle.std.proofs.Common.{◌≡◌, ◌≢◌, ℕ, suc, zero, ◌+◌, ◌
 use Rattle.std.specs.Str.{bytes_eq}
 use Rattle.std.proofs.Math.Nat.{mul-le-mul_left}
 use Rattle.std.proofs.lemmas.Bool.{cases_lt}
-use Rattle.std.proofs.lemmas.List.{append-nil, length-append, length-take, length-take-le, length-drop, take_all, drop_all, take-append-drop, take-take, take-append-le, take_at, drop_at, drop-drop, drop-take}
+use Rattle.std.proofs.lemmas.List.{append-nil, places, length-append, length-take, length-take-le, length-drop, take_all, drop_all, take-append-drop, take-take, take-append-le, take_at, drop_at, drop-drop, drop-take}
 use Rattle.std.proofs.lemmas.Slice.Eq.{bytes_eq-Decides}
 use Rattle.ubik_types.specs.declared.images.Change.{Change}
-use Rattle.ubik_types.specs.declared.images.Change.TheVariants.{Put}
+use Rattle.ubik_types.specs.declared.images.Change.TheVariants.{Put, Cut}
 use Rattle.ubik_types.specs.Image.{extended, changed, effect}
-use Rattle.db_image.specs.Blocks.{block_at, block_change, block_changes, changes_between}
+use Rattle.db_image.specs.Blocks.{LeadSome, block_at, block_change, block_changes, changes_between}
 use Rattle.db_image.proofs.Steps.{block_at_past}
 
 -- the old image with the new bytes before a place
@@ -104,3 +104,20 @@ changes_lead head block old new some grows =
 pub changes_none : (head block : ℕ) (old new : List ℕ) → block ≢ 0 → length old ≤ length new → changes_between head block old new ≡ [] → old ≡ new
 changes_none head block old new some grows none =
     ap (effect old) (sym none) ∙ changes_lead head block old new some grows
+
+-- how long an image is after changes follows from how long it was
+effect_length : (old other : List ℕ) (changes : List Change) → length old ≡ length other → length (effect old changes) ≡ length (effect other changes)
+effect_length old other [] same = same
+effect_length old other (change ∷ changes) same = effect_length (changed old change) (changed other change) changes (changed_length old other change same)
+  where
+    changed_length : (old other : List ℕ) (change : Change) → length old ≡ length other → length (changed old change) ≡ length (changed other change)
+    changed_length old other (Put at bytes) same = grind (arith, places)
+    changed_length old other (Cut len) same = grind (arith, places)
+
+pub some_length : (head block size len : ℕ) (changes : List Change) → block ≢ 0 → LeadSome head block size len changes
+    → (image : List ℕ) → length image ≡ size → length (effect image changes) ≡ len
+some_length head block size len changes some lead image same =
+    effect_length image lead.old changes (same ∙ sym lead.before)
+    ∙ ap (λ (these : List Change). length (effect lead.old these)) lead.between
+    ∙ ap length (changes_lead head block lead.old lead.new some (omega (arith, lead.before, lead.after, lead.longer)))
+    ∙ lead.after

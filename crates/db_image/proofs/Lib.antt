@@ -3,6 +3,7 @@ pub mod Bytes
 pub mod Covering
 pub mod Decided
 pub mod Differing
+pub mod Found
 pub mod Laid
 pub mod Laying
 pub mod Loading

@@ -99,11 +99,12 @@ loaded_byte o n size bytes k b at some absent replaces old new here =
 
 -- a loaded block is as a changed block has to be
 fresh_is_changed : (l : Layout) (size len : ℕ) (beneath : Option (List ℕ)) (k : ℕ) (b : ChangedBlock) → size ≤ len
-    → IsFresh l size beneath k b → IsChanged l len beneath k b
+    → IsFresh l size beneath k b → IsChanged l size len beneath k b
 fresh_is_changed l size len beneath k b longer fresh = record {
   full = ap length fresh.new ∙ simp (length-append, length-replicate) (omega (arith, fresh.len));
   zero = λ i past. ap (λ (bytes : List ℕ). slice_index bytes i) fresh.new ∙ padded_past b.old.items _ i (omega (arith, fresh.len));
   old = fresh.bytes;
+  had = fresh.len;
 }
 
 pub loads_laid : (o n : Overlay) (size : ℕ) (beneath : Option (List ℕ)) (k : ℕ) (b : ChangedBlock) → IsLaid o size beneath
@@ -118,8 +119,8 @@ loads_laid o n size beneath k b laid replaces fresh = record {
       (⊎_elim
       (λ (same : q ≡ k).
       let this : b ≡ c = cc (replaces.here, is, same) in
-      subst (λ (d : ChangedBlock). IsChanged o.layout o.len beneath q d) this
-      (subst (λ (r : ℕ). IsChanged o.layout o.len beneath r b) (sym same)
+      subst (λ (d : ChangedBlock). IsChanged o.layout size o.len beneath q d) this
+      (subst (λ (r : ℕ). IsChanged o.layout size o.len beneath r b) (sym same)
       (fresh_is_changed o.layout size o.len beneath k b laid.longer fresh)))
       (λ (other : q ≢ k). laid.each q c (sym (replaces.others q other) ∙ is))
       (cases_eq q k));

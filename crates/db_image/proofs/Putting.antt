@@ -26,11 +26,12 @@ raised_laid o n end size beneath laid raises grown = record {
   told = laid.told;
   longer = omega (arith, laid.longer, raises.len);
   each = λ k b is.
-      let before : IsChanged o.layout o.len beneath k b = laid.each k b (sym (raises.blocks k) ∙ is) in
+      let before : IsChanged o.layout size o.len beneath k b = laid.each k b (sym (raises.blocks k) ∙ is) in
       rw raises.layout record {
         full = before.full;
         zero = λ i past. before.zero i (omega (arith, past, raises.len));
         old = before.old;
+        had = before.had;
       };
   grown = λ grows. rw (raises.layout, raises.blocks (block_number o.layout size))
       (⊎_elim
@@ -70,6 +71,7 @@ lays_laid o n at size bytes beneath laid within lays full = record {
         full = whole;
         zero = zero_behind o n at size bytes beneath k before.0 c laid within lays before.1 is whole;
         old = λ xs has. before.2 ∙ (laid.each k before.0 before.1).old xs has;
+        had = ap length before.2 ∙ (laid.each k before.0 before.1).had;
       };
   grown = λ grows. rw lays.layout (lays.kept _ (laid.grown (omega (arith, grows, lays.len))));
 }

@@ -1,5 +1,5 @@
 -- The blocks of an image: a head, and blocks of one length behind it. The changes of a call are the blocks that differ (own).
-use Rattle.std.specs.Prelude.{ℕ, zero, suc, ◌+◌, ◌<◌, if◌then◌else◌, List, [], ◌∷◌, ◌++◌, All, length, take, drop}
+use Rattle.std.specs.Prelude.{ℕ, zero, suc, ◌+◌, ◌<◌, ◌≤◌, ◌≡◌, if◌then◌else◌, List, [], ◌∷◌, ◌++◌, All, length, take, drop}
 use Rattle.std.specs.Str.{bytes_eq}
 use Rattle.ubik_types.specs.declared.images.Change.{Change}
 use Rattle.ubik_types.specs.declared.images.Change.TheVariants.{Put, Cut}
@@ -23,6 +23,16 @@ block_changes old new at size (suc count) =
 abbrev pub changes_between : (head block : ℕ) → (old new : List ℕ) → List Change
 changes_between head block old new =
     block_change old new 0 head ++ block_changes old new head block (length new)
+
+-- Changes that lead from some image of `size` bytes to some image of `len` bytes, no fewer: puts of whole blocks, ascending, each within the
+-- image after them.
+pub record LeadSome (head block size len : ℕ) (changes : List Change) : Type 0 where
+  pub old : List ℕ
+  pub new : List ℕ
+  pub before : length old ≡ size
+  pub after : length new ≡ len
+  pub longer : size ≤ len
+  pub between : changes ≡ changes_between head block old new
 
 -- it puts some bytes
 abbrev pub PutsSome : Change → Type 0

@@ -1,5 +1,5 @@
 -- A draft: an image beneath, and blocks that were changed over it.
-use Rattle.std.specs.Prelude.{ℕ, ◌+◌, ◌-◌, ◌*◌, ◌<◌, ◌≤◌, ◌≡◌, ◌≢◌, List, Option, Some, None, IsSome, ◌++◌, length, map, take, drop, slice_index}
+use Rattle.std.specs.Prelude.{ℕ, ◌+◌, ◌-◌, ◌*◌, ◌<◌, ◌≤◌, ◌≡◌, ◌≢◌, List, Option, Some, None, IsSome, ◌++◌, length, map, min, take, drop, slice_index}
 use Rattle.std.specs.BTreeMap.{get}
 use Rattle.std.specs.List.{range_with_len}
 use Rattle.std.specs.Option.{option_map_or, ForSome}
@@ -47,11 +47,13 @@ bytes_over o beneath = map (λ at. byte_over o at (slice_index beneath at)) (ran
 abbrev pub ShowsFrom : (at : ℕ) → (bytes buf : List ℕ) → Type 0
 ShowsFrom at bytes buf = (i : ℕ) → i < length buf → slice_index buf i ≡ slice_index bytes (at + i)
 
--- A changed block of a draft of so many bytes: what it is now, zero bytes behind the draft's end, and what stands beneath.
-pub record IsChanged (l : Layout) (len : ℕ) (beneath : Option (List ℕ)) (k : ℕ) (b : ChangedBlock) : Type 0 where
+-- A changed block of a draft of `len` bytes over an image of `size` bytes: what it is now, zero bytes behind the draft's end, and what stands beneath, of
+-- which the length is known of each image.
+pub record IsChanged (l : Layout) (size len : ℕ) (beneath : Option (List ℕ)) (k : ℕ) (b : ChangedBlock) : Type 0 where
   pub full : length b.new.items ≡ block_size l k
   pub zero : (i : ℕ) → len ≤ block_start l k + i → slice_index b.new.items i ≡ 0
   pub old : ForSome beneath (λ bytes. b.old.items ≡ block_at bytes (block_start l k) (block_size l k))
+  pub had : length b.old.items ≡ min (size - block_start l k) (block_size l k)
 
 -- each changed block is a whole one
 abbrev pub IsFull : Overlay → Type 0
@@ -63,7 +65,7 @@ pub record IsLaid (o : Overlay) (size : ℕ) (beneath : Option (List ℕ)) : Typ
   pub block : 0 < o.layout.block
   pub told : ForSome beneath (λ bytes. length bytes ≡ size)
   pub longer : size ≤ o.len
-  pub each : (k : ℕ) (b : ChangedBlock) → changed_at o k ≡ Some b → IsChanged o.layout o.len beneath k b
+  pub each : (k : ℕ) (b : ChangedBlock) → changed_at o k ≡ Some b → IsChanged o.layout size o.len beneath k b
   pub grown : size < o.len → IsSome (changed_at o (block_number o.layout size))
 
 -- one block is another one, or a new one, and all others stay

@@ -2,7 +2,7 @@
 ghost use Rattle.std.specs.Prelude.{◌≡◌, ◌≢◌, ◌≤◌, ℕ, List, [], length};
 ghost use Rattle.ubik_types.specs.Image.{effect};
 ghost use Rattle.ubik_types.specs.Logged.{passed_limit, too_large};
-ghost use Rattle.db_image.specs.Blocks.{changes_between};
+ghost use Rattle.db_image.specs.Blocks.{changes_between, LeadSome};
 
 use ubik_types::{Change, Changes, MAX_CHANGES, MAX_IMAGE};
 
@@ -50,9 +50,12 @@ pub fn too_large(len: usize, changes: &Changes) -> Option<u64>
 }
 
 /// The changes from an image to another that is no shorter lead from the one to the other, so images without changes are equal.
+/// Over each image of the old length they lead to one of the new length.
 pub fn law_changes_lead()
     ensures leads { (head block : ℕ) (old new : List ℕ) → block ≢ 0 → length old ≤ length new
         → effect old (changes_between head block old new) ≡ new }
     ensures none { (head block : ℕ) (old new : List ℕ) → block ≢ 0 → length old ≤ length new
         → changes_between head block old new ≡ [] → old ≡ new }
+    ensures len { (head block size len : ℕ) (changes : List Change) → block ≢ 0 → LeadSome head block size len changes
+        → (image : List ℕ) → length image ≡ size → length (effect image changes) ≡ len }
 {}

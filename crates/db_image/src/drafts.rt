@@ -4,7 +4,7 @@ ghost use Rattle.std.specs.Option.{option_map};
 ghost use Rattle.ubik_types.specs.Image.{changed};
 ghost use Rattle.ubik_types.specs.declared.images.Change.TheVariants.{Put};
 ghost use Rattle.db_image.specs.Asked.{AsksAtMost};
-ghost use Rattle.db_image.specs.Blocks.{changes_between, PutSome};
+ghost use Rattle.db_image.specs.Blocks.{changes_between, LeadSome, PutSome};
 ghost use Rattle.db_image.specs.Draft.{StaysAsItWas, put_cost};
 ghost use Rattle.db_image.specs.Images.{ReadsAtMost, IsOfImage};
 
@@ -72,12 +72,14 @@ impl<I: ImageRead> Draft<I> {
     }
 
     /// The image beneath, and one put of each whole block that is new or in which a byte is another one than beneath, ascending. The image
-    /// is not read. Where it tells its bytes, those of the draft are told.
+    /// is not read. Where it tells its bytes, those of the draft are told. Where it tells nothing the puts lead from some image of its length to
+    /// some image of the draft's.
     pub fn finish(self) -> (I, Result<Changes, NoMemory>)
         ensures image { result.0 ≡ self.image }
         ensures told { IfSome (I.held self.image) (λ old. IsSomeAnd self.bytes (λ new. length new ≡ self.len)) }
         ensures changes { IfOk result.1 (λ changes. IfSome (I.held self.image) (λ old. IfSome self.bytes (λ new.
             changes ≡ changes_between self.layout.head self.layout.block old new))) }
+        ensures lead { IfOk result.1 (LeadSome self.layout.head self.layout.block (I.size self.image) self.len) }
         ensures puts { IfOk result.1 PutSome }
     {
         let changes = self.over.changes(self.image.len());

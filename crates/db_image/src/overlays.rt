@@ -1,10 +1,10 @@
 //! Changed blocks over an image.
-ghost use Rattle.std.specs.Prelude.{◌≡◌, ◌≢◌, ◌+◌, ◌-◌, ◌*◌, ◌<◌, ◌≤◌, ◌^◌, ℕ, List, Some, IfSome, IsSome, IsSomeAnd, OnOk, OnErr, IfErr, IfOk, IsErrOf, length, slice_index, min, max, take, drop, replicate, ◌++◌, []};
+ghost use Rattle.std.specs.Prelude.{◌≡◌, ◌≢◌, ◌+◌, ◌-◌, ◌*◌, ◌<◌, ◌≤◌, ◌^◌, ℕ, List, Option, Some, IfSome, IsSome, IsSomeAnd, OnOk, OnErr, IfErr, IfOk, IsErrOf, length, slice_index, min, max, take, drop, replicate, ◌++◌, []};
 ghost use Rattle.std.specs.Option.{ForSome, option_copied};
 ghost use Rattle.ubik_types.specs.Image.{changed};
 ghost use Rattle.ubik_types.specs.declared.images.Change.TheVariants.{Put};
 ghost use Rattle.db_image.specs.Images.{OnlyReads, ReadsAtMost, IsOfImage};
-ghost use Rattle.db_image.specs.Blocks.{block_at, block_change, changes_between, PutSome};
+ghost use Rattle.db_image.specs.Blocks.{block_at, block_change, changes_between, LeadSome, PutSome};
 ghost use Rattle.db_image.specs.Places.{block_number, block_start, block_size};
 ghost use Rattle.db_image.specs.Draft.{changed_at, byte_of, byte_over, IsLaid, IsFull, SameBytes, IsLoaded, Lays, Replaces, Keeps, IsLaidOver, ShowsFrom, bytes_over, range_cost, put_cost, IsChangeOf};
 
@@ -382,6 +382,8 @@ impl Overlay {
         ensures puts { IfOk result PutSome }
         ensures changes { IfOk result (λ changes. (beneath : List ℕ) → IsLaid self.now size (Some beneath)
             → changes ≡ changes_between self.now.layout.head self.now.layout.block beneath (bytes_over self.now beneath)) }
+        ensures lead { IfOk result (λ changes. (held : Option (List ℕ)) → IsLaid self.now size held
+            → LeadSome self.now.layout.head self.now.layout.block size self.now.len changes) }
     {
         let mut changes = changes_new(self.alloc);
         self.push_change(&mut changes, size, 0, 0)?;

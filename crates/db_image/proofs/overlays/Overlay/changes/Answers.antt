@@ -5,6 +5,7 @@ use Rattle.db_image.specs.Blocks.{block_change, block_changes, changes_between, 
 use Rattle.db_image.specs.Draft.{bytes_over}
 use Rattle.db_image.proofs.BlockNumbers.{size_behind, mul_more}
 use Rattle.db_image.proofs.Differing.{first_pushed, none_behind}
+use Rattle.db_image.proofs.Found.{lead_some}
 use Rattle.db_image.proofs.Steps.{one_pushed, all_pushed}
 use Rattle.db_image.proofs.overlays.Overlay.changes.Goals as goal
 use Rattle.db_image.proofs.overlays.Overlay.changes.Goals.{else-loop-index-test, then-loop-index-test+then-at-len}
@@ -61,3 +62,6 @@ returns-clause-changes c = λ beneath laid.
           all_pushed c.loop-index.changes rest all (none_behind o c.args.size c.loop-index.at left beneath laid (omega arith))
           (c.loop-index.invariant.rest beneath laid)
     ]
+
+pub returns-clause-lead : goal.returns-clause-lead
+returns-clause-lead c = λ held laid. lead_some c.args.self.now c.args.size held c.loop-index.changes laid (returns-clause-changes c)
