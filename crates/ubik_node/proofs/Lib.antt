@@ -16,7 +16,6 @@ pub mod Fronts
 pub mod Gapless
 pub mod HeldImages
 pub mod Images
-pub mod Keeping
 pub mod Lapsed
 pub mod Least
 pub mod Lending

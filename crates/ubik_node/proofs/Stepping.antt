@@ -13,7 +13,7 @@ use Rattle.cell_model.specs.Step.{Member, Stepped}
 use Rattle.cell_model.proofs.MeantSteps.{step_is_meant}
 use Rattle.disk_base.specs.declared.disks.Disk.{Ghosts}
 use Rattle.ubik_node.specs.Disk.{FailsIn, Serves}
-use Rattle.ubik_node.proofs.Keeping.{steps_keep_states}
+use Rattle.state_laws.proofs.Keeping.{steps_keep_states}
 use Rattle.ubik_node.specs.declared.nodes.StepEnd.{StepEnd}
 use Rattle.ubik_node.specs.declared.nodes.StepEnd.TheVariants.{Done, Halted, NoMemory}
 use Rattle.ubik_node.specs.Node.{BringsStates, HoldsStates, Makes, Steps, StepsFreely, durable_in}

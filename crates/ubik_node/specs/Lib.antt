@@ -10,7 +10,6 @@ pub mod Faults
 pub mod Lone
 pub mod Node
 pub mod Serving
-pub mod States
 pub mod StoreImages
 pub mod Stored
 pub mod Taking

@@ -25,7 +25,7 @@ use Rattle.ubik_node.specs.declared.nodes.StepEnd.TheVariants.{Done, Halted, NoM
 use Rattle.ubik_node.specs.Choices.{Choices, dbs_of}
 use Rattle.ubik_node.specs.Disk.{FailsIn, Serves}
 use Rattle.ubik_node.specs.Evaluation.{is_evaluated}
-use Rattle.ubik_node.specs.States.{HasStates, TakesStates}
+use Rattle.state_laws.specs.States.{HasStates, TakesStates}
 use Rattle.ubik_node.specs.Stored.{IsStoredAs}
 use Rattle.server_state.specs.State.{server_of, member_of}
 

@@ -32,7 +32,7 @@ use Rattle.cell_model.specs.Receiver.{begin_received, commit_received, get_piece
 use Rattle.cell_model.specs.Recovery.{bytes_received, fetch_installed, fetch_refused, fetch_went_on, held_by, holder_added, is_whole, lacking_sent, next_sent, piece_kept_received, piece_received, polled, recovered, relabelled, relabelled_to, first_of_epoch, text_with, told_to_spread, version_is_received, version_kept_received}
 use Rattle.cell_model.specs.Step.{Basis, Member, Stepped, cell_size, is_fetch, is_ready, is_short, leased, short_after, with_phase}
 use Rattle.cell_model.specs.Writes.{flight_settled, image_before, is_free, next_turns, own_write_begun, settled, settled_in, settled_with_turns, turned, write_turn, written_in, written_small, written_within}
-use Rattle.ubik_node.specs.States.{BringStates, HasState, HasStates, StepsKeepStates, TakesOnly}
+use Rattle.state_laws.specs.States.{BringStates, HasState, HasStates, StepsKeepStates, TakesOnly}
 
 -- what is so of calls is so of the first of them, and of the last
 bring_front : (d : Standing) (front back : List Made) → BringStates d (front ++ back) → BringStates d front
