@@ -1,3 +1,7 @@
+pub mod Parts
+pub mod Bringing
+pub mod Bytes
+pub mod Keeping
 pub mod Labels
 pub mod Opening
 pub mod Reading

@@ -6,7 +6,10 @@ use Rattle.disk_base.specs.Files.{Files}
 use Rattle.page_file.specs.Fault.{Refuses, IsUnlabelled}
 use Rattle.page_file.specs.declared.faults.PageFault.TheVariants.{BadLabel}
 use Rattle.page_file.specs.Label.{version_of_label, version_by, version_of_database, IsHeadOf}
-use Rattle.page_file.specs.Pages.{LabelledAs, Agrees, AgreesIn}
+use Rattle.std.specs.List.{All}
+use Rattle.page_file.specs.Kept.{Cached, IsPageIn, no_pages}
+use Rattle.page_file.specs.Pages.{LabelledAs, Agrees, AgreesIn, image_of}
+use Rattle.page_file.proofs.Bytes.{All-none}
 use Rattle.page_file.proofs.Labels.{version_by_label, version_by_head, front_of_head, version_of_empty, version_of_filled}
 
 -- a fact of the files behind two equal disks
@@ -39,23 +42,24 @@ labelled_as_read : (file : List ℕ) (v : Version) → version_of_label (take 64
 labelled_as_read file v read = let P : Option Version → Type 0 = λ r. IfSome r (λ w. w ≡ v) in subst P (sym read) refl
 
 -- pages with the length and the version of the head agree with the file
-pub found_agrees : (before after : Option Files) (len : ℕ) (head : List ℕ) (v : Version) → after ≡ before → 64 ≤ len → len ≤ 16777280 → IfSome before (λ fs. len ≡ length fs.database) → IfSome before (λ fs. IsHeadOf head fs.database) → version_by len head ≡ Some v → AgreesIn (record { version = Some v; len = len - 64 }) after
-found_agrees before after len head v stays some most told is read =
-    moved (λ fs. Agrees (record { version = Some v; len = len - 64 }) fs.database) before after (sym stays) (agrees before told is)
+pub found_agrees : (before after : Option Files) (len : ℕ) (head : List ℕ) (v : Version) (cached : Cached) → cached ≡ no_pages → after ≡ before → 64 ≤ len → len ≤ 16777280 → IfSome before (λ fs. len ≡ length fs.database) → IfSome before (λ fs. IsHeadOf head fs.database) → version_by len head ≡ Some v → AgreesIn (record { version = Some v; len = len - 64; cache = cached }) after
+found_agrees before after len head v cached none stays some most told is read =
+    moved (λ fs. Agrees (record { version = Some v; len = len - 64; cache = cached }) fs.database) before after (sym stays) (agrees before told is)
   where
-    agrees : (files : Option Files) → IfSome files (λ fs. len ≡ length fs.database) → IfSome files (λ fs. IsHeadOf head fs.database) → AgreesIn (record { version = Some v; len = len - 64 }) files
+    agrees : (files : Option Files) → IfSome files (λ fs. len ≡ length fs.database) → IfSome files (λ fs. IsHeadOf head fs.database) → AgreesIn (record { version = Some v; len = len - 64; cache = cached }) files
     agrees None told is = tt
     agrees (Some fs) told is =
         record {
           len = omega (arith, length-drop 64 fs.database);
           version = labelled_as_read fs.database v (ap version_of_label (sym (front_of_head head fs.database (omega arith) is)) ∙ sym (version_by_label len head some most) ∙ read);
+          kept = subst (λ (c : Cached). All (IsPageIn (image_of fs.database)) c.pages) (sym none) (All-none (IsPageIn (image_of fs.database)));
         }
 
 -- pages that read no label agree where their length is that of the image
-pub over_agrees : (before after : Option Files) (len n : ℕ) → after ≡ before → n ≡ len - 64 → IfSome before (λ fs. len ≡ length fs.database) → AgreesIn (record { version = None; len = n }) after
-over_agrees before after len n stays is told =
-    moved (λ fs. Agrees (record { version = None; len = n }) fs.database) before after (sym stays) (agrees before told)
+pub over_agrees : (before after : Option Files) (len n : ℕ) (cached : Cached) → cached ≡ no_pages → after ≡ before → n ≡ len - 64 → IfSome before (λ fs. len ≡ length fs.database) → AgreesIn (record { version = None; len = n; cache = cached }) after
+over_agrees before after len n cached none stays is told =
+    moved (λ fs. Agrees (record { version = None; len = n; cache = cached }) fs.database) before after (sym stays) (agrees before told)
   where
-    agrees : (files : Option Files) → IfSome files (λ fs. len ≡ length fs.database) → AgreesIn (record { version = None; len = n }) files
+    agrees : (files : Option Files) → IfSome files (λ fs. len ≡ length fs.database) → AgreesIn (record { version = None; len = n; cache = cached }) files
     agrees None told = tt
-    agrees (Some fs) told = record { len = omega (arith, length-drop 64 fs.database); version = tt }
+    agrees (Some fs) told = record { len = omega (arith, length-drop 64 fs.database); version = tt; kept = subst (λ (c : Cached). All (IsPageIn (image_of fs.database)) c.pages) (sym none) (All-none (IsPageIn (image_of fs.database))) }

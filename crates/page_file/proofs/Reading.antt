@@ -1,11 +1,12 @@
 -- What was read of a database file, where the disk tells its files.
-use Rattle.std.proofs.Common.{◌≡◌, ◌<◌, ◌≤◌, ◌+◌, ◌-◌, ◌∙◌, ℕ, min, List, ◌++◌, length, take, drop, get_or, replicate, Option, Some, None, IfSome, arith, ap, sym, length-take, length-drop}
+use Rattle.std.proofs.Common.{◌≡◌, ◌<◌, ◌≤◌, ◌+◌, ◌*◌, ◌-◌, ◌∙◌, ℕ, min, List, ◌++◌, length, take, drop, get_or, replicate, Option, Some, None, IfSome, arith, ap, sym, subst, length-take, length-drop}
 use Rattle.std.proofs.lemmas.Grind.{common_steps}
 use Rattle.std.proofs.Math.Seq.{take-add}
-use Rattle.std.proofs.lemmas.List.{drop-drop, get_or-replicate}
+use Rattle.std.proofs.lemmas.List.{drop-drop, get_or-replicate, length-replicate}
 use Rattle.std.proofs.lemmas.Slice.{take-put_mid}
 use borrow.Rule.Slice.PartMut.{put_mid}
 use Rattle.disk_base.specs.Files.{Files}
+use Rattle.page_file.specs.Kept.{IsPageOf}
 use Rattle.page_file.specs.Label.{IsHeadOf}
 use Rattle.page_file.specs.Pages.{image_of}
 
@@ -63,3 +64,30 @@ range_read (Some fs) (Some now) at done part m k buf piece stays within long sam
     let kept : now ≡ fs = cc in
     piece_read (image_of fs.database) buf piece at done part m k within long same front read
     ∙ ap (λ (f : Files). take (done + part) (drop at (image_of f.database))) (sym kept)
+
+-- the same, by the positions that the code has
+pub range_read_to : (before after : Option Files) (at done place upto part m k : ℕ) (buf piece : List ℕ) → after ≡ before → place ≡ at + done → upto ≡ done + part → done + part ≤ length buf → length piece ≡ part → m ≡ part → IfSome before (λ fs. take done buf ≡ take done (drop at (image_of fs.database))) → IfSome before (λ fs. piece ≡ take m (drop place (image_of fs.database))) → IfSome after (λ fs. take upto (put_mid done k buf piece) ≡ take upto (drop at (image_of fs.database)))
+range_read_to before after at done place upto part m k buf piece stays here end within long same front read =
+    let Behind : ℕ → Type 0 = λ n. IfSome after (λ fs. take n (put_mid done k buf piece) ≡ take n (drop at (image_of fs.database))) in
+    let Read : ℕ → Type 0 = λ n. IfSome before (λ fs. piece ≡ take m (drop n (image_of fs.database))) in
+    subst Behind (sym end) (range_read before after at done part m k buf piece stays within long same front (subst Read here read))
+
+-- what was read over zero bytes is a page of the image
+page_byte : (image bytes zeros : List ℕ) (at n k : ℕ) → ((j : ℕ) → j < 1024 → get_or zeros j 0 ≡ 0) → length zeros ≡ 1024 → at < length image → n ≡ min (length image - at) 1024 → bytes ≡ take n (drop at image) → k < 1024 → get_or (bytes ++ drop n zeros) k 0 ≡ get_or image (at + k) 0
+page_byte image bytes zeros at n k zero long within is read below = grind (arith, common_steps)
+
+page_length : (image bytes zeros : List ℕ) (at n : ℕ) → length zeros ≡ 1024 → at < length image → n ≡ min (length image - at) 1024 → bytes ≡ take n (drop at image) → length (bytes ++ drop n zeros) ≡ 1024
+page_length image bytes zeros at n long within is read = grind (arith, common_steps)
+
+pub page_read : (files : Option Files) (len page n m : ℕ) (bytes : List ℕ) → page * 1024 < len → n ≡ min (len - page * 1024) 1024 → m ≡ n → IfSome files (λ fs. len ≡ length (image_of fs.database)) → IfSome files (λ fs. bytes ≡ take m (drop (page * 1024) (image_of fs.database))) → IfSome files (λ fs. IsPageOf (image_of fs.database) page (bytes ++ drop n (replicate 1024 0)))
+page_read None len page n m bytes within is same told read = tt
+page_read (Some fs) len page n m bytes within is same told read =
+    let zeros : List ℕ = replicate 1024 0 in
+    let image : List ℕ = image_of fs.database in
+    let part : n ≡ min (length image - page * 1024) 1024 = is ∙ ap (λ (l : ℕ). min (l - page * 1024) 1024) told in
+    let front : bytes ≡ take n (drop (page * 1024) image) = read ∙ ap (λ (i : ℕ). take i (drop (page * 1024) image)) same in
+    let inside : page * 1024 < length image = subst (λ l. page * 1024 < l) told within in
+    record {
+      len = page_length image bytes zeros (page * 1024) n (length-replicate {A = ℕ} 1024 0) inside part front;
+      same = λ k below. page_byte image bytes zeros (page * 1024) n k (λ j h. get_or-replicate 1024 j 0 0 h) (length-replicate {A = ℕ} 1024 0) inside part front below;
+    }

@@ -1,4 +1,5 @@
 pub mod Fault
+pub mod Kept
 pub mod Label
 pub mod Pages
 pub mod View

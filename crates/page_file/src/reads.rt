@@ -1,10 +1,12 @@
 //! What is read of the database file: its length, its head, and parts of it.
-ghost use Rattle.std.specs.Prelude.{◌≡◌, ◌+◌, ◌≤◌, ◌<◌, ◌^◌, IfSome, OnOk, IfOk, IfErr, IsErr, length, take, drop};
+ghost use Rattle.std.specs.Prelude.{◌≡◌, ◌+◌, ◌*◌, ◌≤◌, ◌<◌, ◌^◌, IfSome, OnOk, IfOk, IfErr, IsErr, length, take, drop};
 ghost use Rattle.disk_base.specs.Stops.{IsStopped};
 ghost use Rattle.disk_base.specs.Runs.{OnlyReads};
+ghost use Rattle.page_file.specs.Kept.{IsPageOf};
 ghost use Rattle.page_file.specs.Label.{IsHeadOf};
 ghost use Rattle.page_file.specs.Pages.{image_of};
 
+use crate::cache::PageBytes;
 use crate::faults::PageFault;
 use crate::label::LABEL_LEN;
 use disk_base::{Disk, DiskEnd, FileNo, LenEnd};
@@ -57,20 +59,19 @@ fn read_image<D: Disk>(disk: &mut D, at: u64, buf: &mut [u8]) -> Result<(), Page
     }
 }
 
-/// Reads bytes of the image from a position on, which lie within it, in pages.
-pub(crate) fn read_pages<D: Disk>(disk: &mut D, at: u32, buf: &mut [u8]) -> Result<(), PageFault>
-    requires within { IfSome (D.files disk.old) (λ fs. at + length buf.old ≤ length (image_of fs.database)) }
-    ensures bytes { OnOk result (IfSome (D.files disk.old) (λ fs. buf.new ≡ take (length buf.old) (drop at (image_of fs.database)))) }
-    ensures stopped { 0 < length buf.old → IsStopped (D.stop disk.old) → IsErr result }
+/// Reads a page of an image of this length that has a byte of it.
+pub(crate) fn read_page<D: Disk>(disk: &mut D, len: u64, page: u64) -> Result<PageBytes, PageFault>
+    requires len { IfSome (D.files disk.old) (λ fs. len ≡ length (image_of fs.database)) }
+    requires within { page * PAGE_LEN < len }
+    requires fits { page * PAGE_LEN + PAGE_LEN + LABEL_LEN < 2 ^ 64 }
+    ensures bytes { IfOk result (λ bytes. IfSome (D.files disk.old) (λ fs. IsPageOf (image_of fs.database) page bytes)) }
+    ensures stopped { IsStopped (D.stop disk.old) → IsErr result }
     ensures fault { IfErr result (λ fault. fault ≡ PageFault.DiskFault) }
     ensures reads { OnlyReads D.Disk disk.old disk.new (IsErr result) }
 {
-    let mut done = 0;
-    while done < buf.len() {
-        let from = at as usize + done;
-        let part = (PAGE_LEN - from % PAGE_LEN).min(buf.len() - done);
-        read_image(disk, from as u64, &mut buf[done..done + part])?;
-        done += part;
-    }
-    Ok(())
+    let at = page * PAGE_LEN as u64;
+    let there = (len - at).min(PAGE_LEN as u64) as usize;
+    let mut bytes = [0; PAGE_LEN];
+    read_image(disk, at, &mut bytes[..there])?;
+    Ok(bytes)
 }

@@ -16,7 +16,7 @@ returns-in-Some-clause-version g c =
 
 pub returns-in-Some-clause-agrees : goal.returns-in-Some-clause-agrees
 returns-in-Some-clause-agrees g c =
-    found_agrees _ _ _ _ _ (c.in_ok-head.ensures.reads.files false≢true ∙ c.in_ok-len.ensures.reads.files false≢true) (c.in-Some.ensures.labelled refl) (c.in-Some.ensures.fits refl) c.in_ok-len.ensures.len
+    found_agrees _ _ _ _ _ _ c.new-in-Some.ensures (c.in_ok-head.ensures.reads.files false≢true ∙ c.in_ok-len.ensures.reads.files false≢true) (c.in-Some.ensures.labelled refl) (c.in-Some.ensures.fits refl) c.in_ok-len.ensures.len
     (moved (λ fs. IsHeadOf c.in_ok-head.head fs.database) _ _ (c.in_ok-len.ensures.reads.files false≢true) c.in_ok-head.ensures.head)
     (sym c.in-Some.ensures.version)
 
