@@ -1,4 +1,5 @@
+pub mod Ascending
 pub mod Blocks
 pub mod Bytes
 pub mod Ends
-pub mod Least
+pub mod Kept

@@ -2,9 +2,11 @@
 #![tactic(auto)]
 
 mod blocks;
+mod keyed;
 mod scans;
 mod writes;
 
 pub use blocks::{BLOCK_LEN, Block, block_count, block_place, word_at};
-pub use scans::{Found, Wanted, read_block, scan, scan_least};
+pub use keyed::{Keyed, scan_first};
+pub use scans::{Found, Wanted, read_block, scan};
 pub use writes::{push_filled, push_words, push_zeros};

@@ -3,13 +3,15 @@ use Rattle.std.proofs.Common.{◌≡◌, ℕ, zero, suc, ◌<◌, ◌≤◌, Boo
 use Rattle.std.specs.Prelude.{slice_set}
 use Rattle.std.specs.List.{list_any}
 use Rattle.std.specs.Option.{option_map}
+use Rattle.std.proofs.lemmas.Bool.{eq-eqb}
 use Rattle.db_image.specs.Ends.{end_of}
 use Rattle.db_image.specs.declared.draft_services.CallEnd.{CallEnd}
+use Rattle.db_blocks.proofs.Maps.{test_other}
 use Rattle.vl_calls.specs.declared.answers.VlAnswer.TheVariants as answer
 use Rattle.vldb_records.specs.declared.entries.VlEntry.{VlEntry}
 use Rattle.vldb_records.specs.declared.entries.VlSite.{VlSite}
 use Rattle.vldb_records.specs.declared.listings.Listing.{Listing}
-use Rattle.vldb_records.specs.Listing.{IsNextListed, is_listed}
+use Rattle.vldb_records.specs.Listing.{AreListed, IsNextListed, is_listed}
 use Rattle.vldb_records.specs.Location.{Location}
 use Rattle.vldb_records.specs.Records.{Holds, after_set_places}
 use Rattle.vldb_records.proofs.EntryAgain.{not_zero}
@@ -42,7 +44,7 @@ any_same host (site ∷ sites) some =
 listed_is : (host : ℕ) (e : VlEntry) → 0 < host → is_listed (of_server host) e ≡ has_site_at host e
 listed_is host e low = and_true (list_any (λ site. (eqb host 0 || eqb site.host host) && true) e.sites) ∙ any_same host e.sites (not_zero host low)
 
-pub no_site_there : (bytes : Option (List ℕ)) (host : ℕ) → 0 < host
+no_site_there : (bytes : Option (List ℕ)) (host : ℕ) → 0 < host
     → IfSome bytes (λ image. (s : Location) → Holds image s → IsNextListed s (of_server host) 0 None)
     → IfSome bytes (λ image. (s : Location) → Holds image s → false ≡ list_any (has_site_at host) (entries s))
 no_site_there None host low is = tt
@@ -50,7 +52,7 @@ no_site_there (Some image) host low is = λ s holds.
     sym (none_meets s (has_site_at host) 1 2147483647
     (λ rw_id f at. sym (listed_is host f low) ∙ is s holds rw_id f (omega (arith, (holds.valid.records rw_id f at).rw_low, holds.valid.ids rw_id f at)) at))
 
-pub site_there : (bytes : Option (List ℕ)) (host : ℕ) (e : VlEntry) → 0 < host
+site_there : (bytes : Option (List ℕ)) (host : ℕ) (e : VlEntry) → 0 < host
     → IfSome bytes (λ image. (s : Location) → Holds image s → IsNextListed s (of_server host) 0 (Some e))
     → IfSome bytes (λ image. (s : Location) → Holds image s → true ≡ list_any (has_site_at host) (entries s))
 site_there None host e low is = tt
@@ -58,6 +60,18 @@ site_there (Some image) host e low is = λ s holds.
     let l = is s holds in
     let r = holds.valid.records e.rw e l.0 in
     sym (some_meets s (has_site_at host) 1 2147483647 e.rw e (omega (arith, r.rw_low)) (omega (arith, r.rw)) l.0 (sym (listed_is host e low) ∙ l.2))
+
+some_not : (es : List VlEntry) → suc (length es) ≡ 0 → ⊥
+some_not es same = omega arith
+
+-- the first such entry, if there is one
+pub any_site : (bytes : Option (List ℕ)) (host : ℕ) (es : List VlEntry) (none : Bool) → 0 < host → none ≡ eqb (length es) 0
+    → IfSome bytes (λ image. (s : Location) → Holds image s → AreListed s (of_server host) 0 1 es)
+    → IfSome bytes (λ image. (s : Location) → Holds image s → not none ≡ list_any (has_site_at host) (entries s))
+any_site None host es none low is are = tt
+any_site (Some image) host [] none low is are = λ s holds. ap not (is ∙ eq-eqb 0 0 refl) ∙ no_site_there (Some image) host low are s holds
+any_site (Some image) host (e ∷ es) none low is are = λ s holds.
+    ap not (is ∙ test_other (suc (length es)) 0 (some_not es)) ∙ site_there (Some image) host e low (λ t held. (are t held).0) s holds
 
 -- ---- the places
 

@@ -1,31 +1,26 @@
 -- A page is made of the next listed entries, one after the other.
-use Rattle.std.proofs.Common.{◌≡◌, ◌≢◌, ℕ, zero, suc, ◌+◌, ◌-◌, ◌<◌, ◌≤◌, ℤ, pos, negsuc, Bool, true, false, not, ◌&&◌, ◌||◌, cond, eqb, ltb, List, [], ◌∷◌, ◌++◌, length, take, Option, Some, None, IfSome, refl, sym, ap, subst, ◌∙◌, ⊎_elim, append_assoc, arith}
+use Rattle.std.proofs.Common.{◌≡◌, ◌≢◌, ℕ, zero, suc, ◌+◌, ◌-◌, ◌<◌, ◌≤◌, ℤ, pos, negsuc, Bool, true, false, not, ◌&&◌, ◌||◌, cond, eqb, ltb, List, [], ◌∷◌, ◌++◌, take, Option, Some, None, IfSome, refl, sym, ap, ◌∙◌, ⊎_elim, arith}
 use Rattle.std.specs.Prelude.{filter, option_to_list}
 use Rattle.std.specs.List.{AllByRecursion, flat_map, list_any, range_with_len}
 use Rattle.std.specs.Ordering.{int_eq}
 use mathlib.Core.Path.{fun_ext}
 use Rattle.std.proofs.lemmas.Bool.{and_from, and_parts, cases_eq, eq-eqb, eqb-true, false_from_ne_true, lt-ltb, le-ltb, ltb-true}
 use Rattle.std.proofs.lemmas.Bool.Decides.{Decides-int_eq}
-use Rattle.std.proofs.lemmas.List.{append-nil, length-append}
 use Rattle.std.proofs.lemmas.List.Elements.{filter-append}
-use Rattle.db_image.specs.Draft.{Drafted}
 use Rattle.db_image.specs.Ends.{end_of}
 use Rattle.db_image.specs.declared.draft_services.CallEnd.{CallEnd}
-use Rattle.db_image.specs.declared.images.ImageRead.{Ghosts}
-use Rattle.db_blocks.specs.Ends.{OnlyLooks}
 use Rattle.db_blocks.proofs.Maps.{test_other}
-use Rattle.db_blocks.proofs.Scanned.{looks_none, looks_so, looks_then}
 use Rattle.vl_calls.specs.Entries.{IsEntryText}
 use Rattle.vl_calls.specs.declared.answers.VlAnswer.TheVariants as answer
 use Rattle.vldb_records.specs.declared.entries.VlEntry.{VlEntry}
 use Rattle.vldb_records.specs.declared.entries.VlSite.{VlSite}
 use Rattle.vldb_records.specs.declared.listings.Listing.{Listing}
-use Rattle.vldb_records.specs.Listing.{IsNextListed, is_listed, is_listed_site}
+use Rattle.vldb_records.specs.Listing.{AreListed, IsNextListed, is_listed, is_listed_above, is_listed_site}
 use Rattle.vldb_records.specs.Location.{Location, IsLocation, IsSmall}
 use Rattle.vldb_records.specs.Records.{Holds}
 use Rattle.vl_service.specs.Meaning.{Answers, Refuses, Verdict, entries, entries_from, is_partition, is_site, page, reply_by}
 use Rattle.vl_service.specs.Meaning as meaning
-use Rattle.vl_service.specs.Pages.{above, is_above, listing_of, page_of}
+use Rattle.vl_service.specs.Pages.{above, listing_of, page_of}
 use Rattle.vl_service.specs.Refusals.{bad_partition}
 use Rattle.vl_service.proofs.Found.{small_text}
 
@@ -71,15 +66,15 @@ same_pass p q s a (suc n) same =
 
 -- ---- the next listed entry is the first of those above
 
-false_below : (l : Listing) (last : ℕ) (f : VlEntry) → f.rw ≤ last → is_above l last f ≡ false
+false_below : (l : Listing) (last : ℕ) (f : VlEntry) → f.rw ≤ last → is_listed_above l last f ≡ false
 false_below l last f low = ap (λ (b : Bool). b && is_listed l f) (le-ltb last f.rw low)
 
 next_passes : (s : Location) (l : Listing) (last : ℕ) (e : VlEntry) (a n : ℕ) → IsLocation s → IsNextListed s l last (Some e) → a ≤ e.rw → e.rw < a + n
-    → passing (is_above l last) s a n ≡ e ∷ passing (is_above l e.rw) s a n
+    → passing (is_listed_above l last) s a n ≡ e ∷ passing (is_listed_above l e.rw) s a n
 next_passes s l last e a zero valid next from below = absurd (omega arith)
 next_passes s l last e a (suc n) valid next from below =
-    let p = is_above l last in
-    let q = is_above l e.rw in
+    let p = is_listed_above l last in
+    let q = is_listed_above l e.rw in
     let rest = passing q s (a + 1) n in
     passing_step p s a n
     ∙ ⊎_elim
@@ -109,16 +104,16 @@ next_passes s l last e a (suc n) valid next from below =
     (cases_eq a e.rw)
 
 above_next : (s : Location) (l : Listing) (last first count : ℕ) (e : VlEntry) → IsLocation s → IsNextListed s l last (Some e) → first ≤ e.rw → e.rw < first + count
-    → filter (is_above l last) (entries_from first count s) ≡ e ∷ filter (is_above l e.rw) (entries_from first count s)
+    → filter (is_listed_above l last) (entries_from first count s) ≡ e ∷ filter (is_listed_above l e.rw) (entries_from first count s)
 unfolding entries_from
 above_next s l last first count e valid next from below = next_passes s l last e first count valid next from below
 
 above_none : (s : Location) (l : Listing) (last first count : ℕ) → IsLocation s → IsNextListed s l last None
-    → filter (is_above l last) (entries_from first count s) ≡ []
+    → filter (is_listed_above l last) (entries_from first count s) ≡ []
 unfolding entries_from
 above_none s l last first count valid next =
-    none_pass (is_above l last) s first count
-    (λ rw_id f at. false_from_ne_true (is_above l last f) (λ met.
+    none_pass (is_listed_above l last) s first count
+    (λ rw_id f at. false_from_ne_true (is_listed_above l last f) (λ met.
     let own = valid.ids rw_id f at in
     let parts = and_parts (ltb last f.rw) (is_listed l f) met in
     let more : last < f.rw = ltb-true last f.rw parts.0 in
@@ -126,95 +121,21 @@ above_none s l last first count valid next =
     let listed = parts.1 in
     absurd cc))
 
--- ---- how far a page has come
+-- ---- so the next ones, one after the other, are the first of them
 
-pub record Paging {I : Type 0} (g : Ghosts I) (first now : Drafted I) (l : Listing) (after last : ℕ) (es : List VlEntry) : Type 0 where
-  pub frame : OnlyLooks g first now ⊥
-  pub count : length es ≤ 100
-  pub small : AllByRecursion IsSmall es
-  pub pages : IfSome first.bytes (λ image. (s : Location) → Holds image s → page_of l after s ≡ es ++ take (100 - length es) (above l last s))
+take_from : (s : Location) (l : Listing) (n after : ℕ) (es : List VlEntry) → IsLocation s → AreListed s l after n es → es ≡ take n (above l after s)
+take_from s l zero after es valid are = are
+take_from s l (suc n) after [] valid are = ap (take (suc n)) (sym (above_none s l after 1 2147483647 valid are))
+take_from s l (suc n) after (e ∷ es) valid are =
+    let r = valid.records e.rw e are.0.0 in
+    ap (λ (xs : List VlEntry). e ∷ xs) (take_from s l n e.rw es valid are.1)
+    ∙ ap (take (suc n)) (sym (above_next s l after 1 2147483647 e valid are.0 (omega (arith, r.rw_low)) (omega (arith, r.rw))))
 
-pages_none : (bytes : Option (List ℕ)) (l : Listing) (after : ℕ)
-    → IfSome bytes (λ image. (s : Location) → Holds image s → page_of l after s ≡ [] ++ take (100 - length {A = VlEntry} []) (above l after s))
-pages_none None l after = tt
-pages_none (Some image) l after = λ s holds. refl
-
-pub paging_none : {I : Type 0} (g : Ghosts I) (d : Drafted I) (l : Listing) (after : ℕ) (es : List VlEntry) → es ≡ [] → Paging g d d l after after es
-paging_none g d l after es is =
-    subst (λ (xs : List VlEntry). Paging g d d l after after xs) (sym is)
-    (record { frame = looks_none g d ⊥ (λ h. h); count = omega arith; small = tt; pages = pages_none d.bytes l after })
-
-all_push : (P : VlEntry → Type 0) (es : List VlEntry) (e : VlEntry) → AllByRecursion P es → P e → AllByRecursion P (es ++ e ∷ [])
-all_push P [] e all here = (here, tt)
-all_push P (x ∷ es) e all here = (all.0, all_push P es e all.1 here)
-
-take_next : (n m : ℕ) (e : VlEntry) (rest : List VlEntry) → n ≡ suc m → take n (e ∷ rest) ≡ e ∷ take m rest
-take_next n m e rest is = ap (λ (k : ℕ). take k (e ∷ rest)) is
-
-page_more : (s : Location) (l : Listing) (after last : ℕ) (es : List VlEntry) (e : VlEntry) → IsLocation s → length es < 100 → IsNextListed s l last (Some e)
-    → page_of l after s ≡ es ++ take (100 - length es) (above l last s)
-    → page_of l after s ≡ (es ++ e ∷ []) ++ take (100 - length (es ++ e ∷ [])) (above l e.rw s)
-page_more s l after last es e valid low next is =
-    let r = valid.records e.rw e next.0 in
-    let rest = above l e.rw s in
-    let left = 100 - length (es ++ e ∷ []) in
-    let more : 100 - length es ≡ suc left = omega (arith, low, length-append es (e ∷ [])) in
-    is
-    ∙ ap (λ (xs : List VlEntry). es ++ take (100 - length es) xs) (above_next s l last 1 2147483647 e valid next (omega (arith, r.rw_low)) (omega (arith, r.rw)))
-    ∙ ap (λ (xs : List VlEntry). es ++ xs) (take_next (100 - length es) left e rest more)
-    ∙ sym (append_assoc es (e ∷ []) (take left rest))
-
-pages_more : (bytes mid : Option (List ℕ)) (l : Listing) (after last : ℕ) (es : List VlEntry) (e : VlEntry) → mid ≡ bytes → length es < 100
-    → IfSome mid (λ image. (s : Location) → Holds image s → IsNextListed s l last (Some e))
-    → IfSome bytes (λ image. (s : Location) → Holds image s → page_of l after s ≡ es ++ take (100 - length es) (above l last s))
-    → IfSome bytes (λ image. (s : Location) → Holds image s → page_of l after s ≡ (es ++ e ∷ []) ++ take (100 - length (es ++ e ∷ [])) (above l e.rw s))
-pages_more None mid l after last es e same low next is = tt
-pages_more (Some image) mid l after last es e same low next is = λ s holds.
-    let here = subst (λ (o : Option (List ℕ)). IfSome o (λ image. (s : Location) → Holds image s → IsNextListed s l last (Some e))) same next in
-    page_more s l after last es e holds.valid low (here s holds) (is s holds)
-
-pub paging_more : {I : Type 0} (g : Ghosts I) (first now later : Drafted I) (failed : Type 0) (l : Listing) (after last : ℕ) (es more : List VlEntry) (e : VlEntry)
-    → Paging g first now l after last es → OnlyLooks g now later failed → ¬ failed → length es < 100
-    → IfSome now.bytes (λ image. (s : Location) → Holds image s → IsNextListed s l last (Some e)) → IsSmall e → more ≡ es ++ e ∷ []
-    → Paging g first later l after e.rw more
-paging_more g first now later failed l after last es more e so looks fine low next small is =
-    subst (λ (xs : List VlEntry). Paging g first later l after e.rw xs) (sym is) (record {
-      frame = looks_then g first now later ⊥ ⊥ so.frame (looks_so g now later failed ⊥ looks (λ h. absurd h));
-      count = omega (arith, low, length-append es (e ∷ []));
-      small = all_push IsSmall es e so.small small;
-      pages = pages_more first.bytes now.bytes l after last es e so.frame.same.bytes low next so.pages;
-    })
-
-take_none : (n : ℕ) → take {A = VlEntry} n [] ≡ []
-take_none zero = refl
-take_none (suc n) = refl
-
-page_last : (bytes mid : Option (List ℕ)) (l : Listing) (after last : ℕ) (es : List VlEntry) → mid ≡ bytes
-    → IfSome mid (λ image. (s : Location) → Holds image s → IsNextListed s l last None)
-    → IfSome bytes (λ image. (s : Location) → Holds image s → page_of l after s ≡ es ++ take (100 - length es) (above l last s))
+pub page_from : (bytes : Option (List ℕ)) (l : Listing) (after : ℕ) (es : List VlEntry)
+    → IfSome bytes (λ image. (s : Location) → Holds image s → AreListed s l after 100 es)
     → IfSome bytes (λ image. (s : Location) → Holds image s → es ≡ page_of l after s)
-page_last None mid l after last es same next is = tt
-page_last (Some image) mid l after last es same next is = λ s holds.
-    let here = subst (λ (o : Option (List ℕ)). IfSome o (λ image. (s : Location) → Holds image s → IsNextListed s l last None)) same next in
-    sym (is s holds ∙ ap (λ (xs : List VlEntry). es ++ take (100 - length es) xs) (above_none s l last 1 2147483647 holds.valid (here s holds))
-    ∙ ap (λ (xs : List VlEntry). es ++ xs) (take_none (100 - length es)) ∙ append-nil es)
-
-pub paging_last : {I : Type 0} (g : Ghosts I) (first now : Drafted I) (l : Listing) (after last : ℕ) (es : List VlEntry) → Paging g first now l after last es
-    → IfSome now.bytes (λ image. (s : Location) → Holds image s → IsNextListed s l last None)
-    → IfSome first.bytes (λ image. (s : Location) → Holds image s → es ≡ page_of l after s)
-paging_last g first now l after last es so next = page_last first.bytes now.bytes l after last es so.frame.same.bytes next so.pages
-
-page_full : (bytes : Option (List ℕ)) (l : Listing) (after last : ℕ) (es : List VlEntry) → 100 ≤ length es
-    → IfSome bytes (λ image. (s : Location) → Holds image s → page_of l after s ≡ es ++ take (100 - length es) (above l last s))
-    → IfSome bytes (λ image. (s : Location) → Holds image s → es ≡ page_of l after s)
-page_full None l after last es full is = tt
-page_full (Some image) l after last es full is = λ s holds.
-    let none : 100 - length es ≡ 0 = omega (arith, full) in
-    sym (is s holds ∙ ap (λ (n : ℕ). es ++ take n (above l last s)) none ∙ append-nil es)
-
-pub paging_full : {I : Type 0} (g : Ghosts I) (first now : Drafted I) (l : Listing) (after last : ℕ) (es : List VlEntry) → Paging g first now l after last es
-    → 100 ≤ length es → IfSome first.bytes (λ image. (s : Location) → Holds image s → es ≡ page_of l after s)
-paging_full g first now l after last es so full = page_full first.bytes l after last es full so.pages
+page_from None l after es are = tt
+page_from (Some image) l after es are = λ s holds. take_from s l 100 after es holds.valid (are s holds)
 
 -- ---- what a call asks for is a listing
 
@@ -247,7 +168,7 @@ any_site : (host : ℕ) (z : ℤ) (locked : Bool) (sites : List VlSite) → is_p
 any_site host z locked sites is = ap (λ (test : VlSite → Bool). list_any test sites) (fun_ext (λ site. site_at host z locked site is))
 
 listed_at : (after host : ℕ) (z : ℤ) (locked : Bool) (e : VlEntry) → is_partition z ≡ true
-    → meaning.is_listed after host z locked e ≡ is_above (listing_of host z locked) after e
+    → meaning.is_listed after host z locked e ≡ is_listed_above (listing_of host z locked) after e
 listed_at after host (pos n) locked e is =
     and_assoc (ltb after e.rw) (list_any (is_site host (pos n)) e.sites) (not locked || not (eqb e.lock_op 0))
     ∙ ap (λ (b : Bool). ltb after e.rw && (b && (not locked || not (eqb e.lock_op 0)))) (any_site host (pos n) locked e.sites is)

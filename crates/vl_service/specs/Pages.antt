@@ -1,8 +1,8 @@
 -- A page of the entries that a call lists, by the records' listings.
-use Rattle.std.specs.Prelude.{ℕ, ℤ, pos, negsuc, ◌&&◌, Bool, List, take, filter, nat_lt, Some, None}
+use Rattle.std.specs.Prelude.{ℕ, ℤ, pos, negsuc, Bool, List, take, filter, Some, None}
 use Rattle.vldb_records.specs.declared.entries.VlEntry.{VlEntry}
 use Rattle.vldb_records.specs.declared.listings.Listing.{Listing}
-use Rattle.vldb_records.specs.Listing.{is_listed}
+use Rattle.vldb_records.specs.Listing.{is_listed_above}
 use Rattle.vldb_records.specs.Location.{Location}
 use Rattle.vl_service.specs.Meaning.{entries}
 
@@ -11,13 +11,9 @@ abbrev pub listing_of : (host : ℕ) → (partition : ℤ) → (locked : Bool) �
 listing_of host (pos n) locked = record { host = host; partition = Some n; locked = locked }
 listing_of host (negsuc n) locked = record { host = host; partition = None; locked = locked }
 
--- a listed entry with an id above one
-abbrev pub is_above : Listing → (after : ℕ) → VlEntry → Bool
-is_above listing after e = nat_lt after e.rw && is_listed listing e
-
--- all of them
+-- the listed entries with an id above one
 abbrev pub above : Listing → (after : ℕ) → Location → List VlEntry
-above listing after s = filter (is_above listing after) (entries s)
+above listing after s = filter (is_listed_above listing after) (entries s)
 
 -- the first hundred of them
 abbrev pub page_of : Listing → (after : ℕ) → Location → List VlEntry

@@ -16,7 +16,7 @@ use crate::rules::{BAD_ENTRY, BAD_SERVER, NO_ENTRY};
 use db_image::{CallEnd, Draft, ImageRead, RecordFault};
 use std::alloc::Global;
 use vl_calls::VlAnswer;
-use vldb_records::{Listing, PLACES, addresses, next_listed, set_addresses};
+use vldb_records::{Listing, PLACES, addresses, first_listed, set_addresses};
 
 /// Whether an address is a server's; 0 is none's.
 fn has_address(addresses: &[u32; PLACES], host: u32) -> bool
@@ -52,10 +52,8 @@ fn has_site_at<I: ImageRead>(
         partition: None,
         locked: false,
     };
-    let Some(_) = next_listed(alloc, d, &listing, 0)? else {
-        return Ok(false);
-    };
-    Ok(true)
+    let first = first_listed(alloc, d, &listing, 0, 1)?;
+    Ok(!first.as_slice().is_empty())
 }
 
 /// Whether an address would go of which an entry has a site.

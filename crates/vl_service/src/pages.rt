@@ -17,7 +17,7 @@ use call_grammar::Items;
 use db_image::{CallEnd, Draft, ImageRead, RecordFault};
 use std::alloc::Global;
 use vl_calls::{Entries, MAX_PAGE, VlAnswer};
-use vldb_records::{Listing, VlEntry, next_listed};
+use vldb_records::{Listing, first_listed};
 
 /// Whether a partition is one; -1 for any.
 fn is_partition(partition: i32) -> bool
@@ -56,15 +56,7 @@ fn listed<I: ImageRead>(
     ensures fault { IfErr result (HasItsCause d.old.bytes) }
     ensures frame { OnlyLooks I.ImageRead d.old d.new (IsErrOf result RecordFault.DiskFault) }
 {
-    let mut entries: Vec<VlEntry> = Vec::new(alloc);
-    let mut last = after;
-    while entries.len() < MAX_PAGE as usize {
-        let Some(e) = next_listed(alloc, d, listing, last)? else {
-            break;
-        };
-        last = e.rw;
-        entries.push(e)?;
-    }
+    let entries = first_listed(alloc, d, listing, after, MAX_PAGE as usize)?;
     Ok(Items::new(entries))
 }
 

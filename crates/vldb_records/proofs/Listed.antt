@@ -1,93 +1,199 @@
 -- What a scan for listed entries found is what the database has.
-use Rattle.std.proofs.Common.{◌≡◌, ℕ, ◌<◌, true, eqb, List, Option, Some, None, IfSome, refl, sym, ap, subst, ◌∙◌, arith}
-use Rattle.std.proofs.lemmas.Bool.{and_parts, eqb-true, false_from_ne_true}
-use Rattle.db_blocks.specs.Blocks.{word_at}
-use Rattle.db_blocks.specs.Least.{IsAbove, IsLeastAbove}
+use Rattle.std.proofs.Common.{◌≡◌, ℕ, zero, suc, ◌+◌, ◌<◌, ◌≤◌, Bool, true, eqb, ltb, List, [], ◌∷◌, Option, Some, None, IfSome, Result, Ok, Err, IfErr, length, map, take, refl, sym, ap, subst, ◌∙◌, inl, arith}
+use Rattle.std.specs.List.{AllByRecursion}
+use Rattle.std.proofs.lemmas.Bool.{and_from, and_parts, eqb-true, false_from_ne_true, lt-ltb, ltb-true}
+use Rattle.db_blocks.specs.Ascending.{AreGood, ascending, first_blocks, numbers_met}
+use Rattle.db_image.specs.declared.faults.RecordFault.{RecordFault}
+use Rattle.db_image.specs.declared.faults.RecordFault.TheVariants.{DiskFault, BadRecord, NoMemory}
+use Rattle.db_blocks.specs.Blocks.{IsWhole}
+use Rattle.db_blocks.specs.Ends.{HasCause}
+use Rattle.db_blocks.proofs.Order.{AreApart, IsOrder, order_behind, order_least, order_of}
 use Rattle.vldb_records.specs.declared.entries.VlEntry.{VlEntry}
 use Rattle.vldb_records.specs.declared.listings.Listing.{Listing}
-use Rattle.vldb_records.specs.Listing.{IsNextListed, is_listed, is_listed_in}
-use Rattle.vldb_records.specs.Location.{Location}
+use Rattle.vldb_records.specs.Listing.{AreListed, IsNextListed, is_listed, is_listed_above, is_listed_in, rw_in}
+use Rattle.vldb_records.specs.Location.{Location, IsSmall, first_location}
 use Rattle.vldb_records.specs.Records.{Holds, block_at, block_of, blocks_in, entry_in, kind_of, whole}
 use Rattle.vldb_records.proofs.EntryAgain.{entry_again, kind_again, rw_again}
-use Rattle.vldb_records.proofs.Lookups.{block_entry}
+use Rattle.vldb_records.proofs.HeadRead.{length-head, whole_empty}
+use Rattle.vldb_records.proofs.Lookups.{block_entry, entry_small}
 
 -- an entry's block is listed as the entry is
-listed_again : (s : Location) (l : Listing) (rw_id : ℕ) (e : VlEntry) (image : List ℕ) → Holds image s → s.entry rw_id ≡ Some e
-    → is_listed_in l s.addresses (block_of s.addresses e) ≡ is_listed l e
-listed_again s l rw_id e image holds at =
+listed_again : (s : Location) (l : Listing) (after rw_id : ℕ) (e : VlEntry) (image : List ℕ) → Holds image s → s.entry rw_id ≡ Some e
+    → is_listed_in l after s.addresses (block_of s.addresses e) ≡ is_listed_above l after e
+listed_again s l after rw_id e image holds at =
     rw (kind_again s.addresses e, entry_again s.addresses e (holds.valid.records rw_id e at) (holds.valid.hosts rw_id e at)) refl
 
-listed_kind : (l : Listing) (addresses block : List ℕ) → is_listed_in l addresses block ≡ true → kind_of block ≡ 1
-listed_kind l addresses block met = eqb-true (kind_of block) 1 (and_parts (eqb (kind_of block) 1) (is_listed l (entry_in addresses block)) met).0
+-- the scan's test and key of a block
+abbrev test_of : Location → Listing → (after : ℕ) → List ℕ → ℕ → Bool
+test_of s l after image k = is_listed_in l after s.addresses (block_at (whole image) k)
 
--- the block of a listed entry above an id
-listed_above : (image : List ℕ) (s : Location) (l : Listing) (after rw_id : ℕ) (f : VlEntry) → Holds image s → s.entry rw_id ≡ Some f → after < rw_id
-    → is_listed l f ≡ true
-    → (j : ℕ) × IsAbove 3132 (is_listed_in l s.addresses) 8 after (whole image) (blocks_in (whole image)) j × (word_at (block_at (whole image) j) 8 ≡ rw_id)
-listed_above image s l after rw_id f holds at more listed =
+abbrev key_of : List ℕ → ℕ → ℕ
+key_of image k = rw_in (block_at (whole image) k)
+
+-- the block of a listed entry
+record IsAt (s : Location) (l : Listing) (after : ℕ) (image : List ℕ) (rw_id k : ℕ) : Type 0 where
+  below : k < blocks_in (whole image)
+  meets : test_of s l after image k ≡ true
+  key : key_of image k ≡ rw_id
+
+block_found : (image : List ℕ) (s : Location) (l : Listing) (after rw_id : ℕ) (f : VlEntry) → Holds image s → s.entry rw_id ≡ Some f
+    → after < rw_id
+    → is_listed l f ≡ true → (k : ℕ) × IsAt s l after image rw_id k
+block_found image s l after rw_id f holds at more listed =
     let o = holds.laid.only rw_id f at in
     let valid = holds.valid.records rw_id f at in
-    let own : word_at (block_at (whole image) o.0) 8 ≡ rw_id = ap (λ (b : List ℕ). word_at b 8) o.2 ∙ rw_again s.addresses f (omega (arith, valid.rw)) ∙ holds.valid.ids rw_id f at in (
+    let own = holds.valid.ids rw_id f at in (
       o.0,
       record {
         below = o.1;
-        meets = ap (is_listed_in l s.addresses) o.2 ∙ listed_again s l rw_id f image holds at ∙ listed;
-        above = omega (arith, own, more);
+        meets = ap (is_listed_in l after s.addresses) o.2 ∙ listed_again s l after rw_id f image holds at
+            ∙ and_from (ltb after f.rw) (is_listed l f) (lt-ltb after f.rw (omega (arith, own, more))) listed;
+        key = ap rw_in o.2 ∙ rw_again s.addresses f (omega (arith, valid.rw)) ∙ own;
       },
-      own,
     )
 
-listed_none : (image addresses : List ℕ) (s : Location) (l : Listing) (after : ℕ) → Holds image s → addresses ≡ s.addresses
-    → IsLeastAbove 3132 (is_listed_in l addresses) 8 after (whole image) (blocks_in (whole image)) None → IsNextListed s l after None
-listed_none image addresses s l after holds places is =
-    let is_here = subst (λ (a : List ℕ). IsLeastAbove 3132 (is_listed_in l a) 8 after (whole image) (blocks_in (whole image)) None) places is in
-    λ rw_id e more at. false_from_ne_true (is_listed l e) (λ listed. let a = listed_above image s l after rw_id e holds at more listed in is_here a.0 a.1)
-
-pub none_listed : (bytes : Option (List ℕ)) (addresses : List ℕ) (l : Listing) (after : ℕ)
-    → IfSome bytes (λ image. IsLeastAbove 3132 (is_listed_in l addresses) 8 after (whole image) (blocks_in (whole image)) None)
-    → IfSome bytes (λ image. (s : Location) → Holds image s → addresses ≡ s.addresses)
-    → IfSome bytes (λ image. (s : Location) → Holds image s → IsNextListed s l after None)
-none_listed None addresses l after is places = tt
-none_listed (Some image) addresses l after is places = λ s holds. listed_none image addresses s l after holds (places s holds) is
-
--- the entry that was read of a block is the database's
-record IsRead (s : Location) (l : Listing) (block : List ℕ) (e : VlEntry) : Type 0 where
+-- the entry that is read of a block is the database's
+record IsRead (s : Location) (l : Listing) (after : ℕ) (image : List ℕ) (k : ℕ) (e : VlEntry) : Type 0 where
   there : s.entry e.rw ≡ Some e
-  number : word_at block 8 ≡ e.rw
+  block : block_at (whole image) k ≡ block_of s.addresses e
+  key : key_of image k ≡ e.rw
+  above : after < e.rw
   listed : is_listed l e ≡ true
 
-read_listed : (image : List ℕ) (s : Location) (l : Listing) (after k : ℕ) (block : List ℕ) (e : VlEntry) → Holds image s
-    → IsAbove 3132 (is_listed_in l s.addresses) 8 after (whole image) (blocks_in (whole image)) k → block ≡ block_at (whole image) k → e ≡ entry_in s.addresses block
-    → IsRead s l block e
-read_listed image s l after k block e holds above here is =
-    let o = block_entry (whole image) s k holds.laid above.below (listed_kind l s.addresses (block_at (whole image) k) above.meets) in
-    let form : block ≡ block_of s.addresses o.0 = here ∙ o.1.1 in
+read_at : (image : List ℕ) (s : Location) (l : Listing) (after k : ℕ) → Holds image s → k < blocks_in (whole image)
+    → test_of s l after image k ≡ true
+    → IsRead s l after image k (entry_in s.addresses (block_at (whole image) k))
+read_at image s l after k holds below met =
+    let block = block_at (whole image) k in
+    let kind = eqb-true (kind_of block) 1 (and_parts (eqb (kind_of block) 1) (is_listed_above l after
+    (entry_in s.addresses block)) met).0 in
+    let o = block_entry (whole image) s k holds.laid below kind in
     let valid = holds.valid.records o.0.rw o.0 o.1.0 in
-    let same : e ≡ o.0 = is ∙ ap (entry_in s.addresses) form ∙ entry_again s.addresses o.0 valid (holds.valid.hosts o.0.rw o.0 o.1.0) in
-    subst (λ (x : VlEntry). IsRead s l block x) (sym same) (record {
+    let same : entry_in s.addresses block ≡ o.0 = ap (entry_in s.addresses) o.1.1
+    ∙ entry_again s.addresses o.0 valid (holds.valid.hosts o.0.rw o.0 o.1.0) in
+    let is = sym (listed_again s l after o.0.rw o.0 image holds o.1.0) ∙ ap (is_listed_in l after s.addresses) (sym o.1.1) ∙ met in
+    let parts = and_parts (ltb after o.0.rw) (is_listed l o.0) is in
+    subst (λ (x : VlEntry). IsRead s l after image k x) (sym same) (record {
       there = o.1.0;
-      number = ap (λ (b : List ℕ). word_at b 8) form ∙ rw_again s.addresses o.0 (omega (arith, valid.rw));
-      listed = sym (listed_again s l o.0.rw o.0 image holds o.1.0) ∙ ap (is_listed_in l s.addresses) (sym o.1.1) ∙ above.meets;
+      block = o.1.1;
+      key = ap rw_in o.1.1 ∙ rw_again s.addresses o.0 (omega (arith, valid.rw));
+      above = ltb-true after o.0.rw parts.0;
+      listed = parts.1;
     })
 
-listed_some : (image addresses : List ℕ) (s : Location) (l : Listing) (after : ℕ) (block : List ℕ) (e : VlEntry) → Holds image s → addresses ≡ s.addresses
-    → IsLeastAbove 3132 (is_listed_in l addresses) 8 after (whole image) (blocks_in (whole image)) (Some block) → e ≡ entry_in addresses block
-    → IsNextListed s l after (Some e)
-listed_some image addresses s l after block e holds places is read =
-    let here = subst (λ (a : List ℕ). IsLeastAbove 3132 (is_listed_in l a) 8 after (whole image) (blocks_in (whole image)) (Some block)) places is in
-    let r = read_listed image s l after here.0 block e holds here.1 here.2 (read ∙ ap (λ (a : List ℕ). entry_in a block) places) in
-    let above : after < word_at block 8 = subst (λ (b : List ℕ). after < word_at b 8) (sym here.2) here.1.above in (
+-- no two such blocks have one id
+apart_keys : (image : List ℕ) (s : Location) (l : Listing) (after : ℕ) → Holds image s
+    → AreApart (test_of s l after image) (key_of image) (blocks_in (whole image))
+apart_keys image s l after holds = λ j k below_j below_k met_j met_k same.
+    let addresses = s.addresses in
+    let one = entry_in addresses (block_at (whole image) j) in
+    let two = entry_in addresses (block_at (whole image) k) in
+    let a = read_at image s l after j holds below_j met_j in
+    let b = read_at image s l after k holds below_k met_k in
+    let ids : one.rw ≡ two.rw = sym a.key ∙ same ∙ b.key in
+    let some : Some one ≡ Some two = sym a.there ∙ ap s.entry ids ∙ b.there in
+    let entries : one ≡ two = cc in
+    holds.laid.one j k one below_j below_k (a.there, a.block) (a.there, b.block ∙ ap (block_of addresses) (sym entries))
+
+-- the numbers behind one that was listed
+record IsBehind (s : Location) (l : Listing) (image : List ℕ) (first low after : ℕ) : Type 0 where
+  less : first ≤ after
+  up : (k : ℕ) → k < blocks_in (whole image) → test_of s l first image k ≡ true → after < key_of image k → low ≤ key_of image k
+
+next_of : (image : List ℕ) (s : Location) (l : Listing) (first low after k : ℕ) (ks : List ℕ) → Holds image s
+    → IsOrder (test_of s l first image) (key_of image) (blocks_in (whole image)) low (k ∷ ks) → IsBehind s l image first low after
+    → after < key_of image k → IsNextListed s l after (Some (entry_in s.addresses (block_at (whole image) k)))
+next_of image s l first low after k ks holds o behind more =
+    let here = o.each k (inl refl) in
+    let r = read_at image s l first k holds here.0 here.1 in (
       r.there,
-      omega (arith, above, r.number),
+      omega (arith, more, r.key),
       r.listed,
-      λ rw_id f more at listed.
-          let a = listed_above image s l after rw_id f holds at more listed in
-          omega (arith, here.3 a.0 a.1, a.2, r.number),
+      λ rw_id f above at listed.
+          let a = block_found image s l first rw_id f holds at (omega (arith, above, behind.less)) listed in
+          let far = behind.up a.0 a.1.below a.1.meets (omega (arith, above, a.1.key)) in
+          omega (
+            arith,
+            order_least (test_of s l first image) (key_of image) (blocks_in
+                (whole image)) low k a.0 ks o a.1.below a.1.meets far,
+            r.key,
+            a.1.key,
+          ),
     )
 
-pub some_listed : (bytes : Option (List ℕ)) (addresses : List ℕ) (l : Listing) (after : ℕ) (block : List ℕ) (e : VlEntry)
-    → IfSome bytes (λ image. IsLeastAbove 3132 (is_listed_in l addresses) 8 after (whole image) (blocks_in (whole image)) (Some block))
-    → IfSome bytes (λ image. (s : Location) → Holds image s → addresses ≡ s.addresses) → e ≡ entry_in addresses block
-    → IfSome bytes (λ image. (s : Location) → Holds image s → IsNextListed s l after (Some e))
-some_listed None addresses l after block e is places read = tt
-some_listed (Some image) addresses l after block e is places read = λ s holds. listed_some image addresses s l after block e holds (places s holds) is read
+listed_from : (image : List ℕ) (s : Location) (l : Listing) (first : ℕ) (n low after : ℕ) (ks : List ℕ) → Holds image s
+    → IsOrder (test_of s l first image) (key_of image) (blocks_in (whole image)) low ks → IsBehind s l image first low after
+    → ((k : ℕ) → k < blocks_in (whole image) → test_of s l first image k ≡ true → low ≤ key_of image k → after < key_of image k)
+    → AreListed s l after n (map (entry_in s.addresses) (map (block_at (whole image)) (take n ks)))
+listed_from image s l first zero low after ks holds o behind more = refl
+listed_from image s l first (suc n) low after [] holds o behind more = λ rw_id e above at.
+    false_from_ne_true (is_listed l e) (λ listed.
+    let a = block_found image s l first rw_id e holds at (omega (arith, above, behind.less)) listed in
+    o.all a.0 a.1.below a.1.meets (behind.up a.0 a.1.below a.1.meets (omega (arith, above, a.1.key))))
+listed_from image s l first (suc n) low after (k ∷ ks) holds o behind more =
+    let here = o.each k (inl refl) in
+    let r = read_at image s l first k holds here.0 here.1 in
+    let next = (entry_in s.addresses (block_at (whole image) k)).rw in (
+      next_of image s l first low after k ks holds o behind (more k here.0 here.1 o.rises.0),
+      listed_from image s l first n (key_of image k + 1) next ks holds
+          (order_behind (test_of s l first image) (key_of image) (blocks_in (whole image)) low k ks o)
+          (record { less = omega (arith, r.above); up = λ j below met above. omega (arith, above, r.key) })
+          (λ j below met above. omega (arith, above, r.key)),
+    )
+
+listed_at : (image addresses : List ℕ) (s : Location) (l : Listing) (after most : ℕ) (blocks : List (List ℕ)) → Holds image s
+    → addresses ≡ s.addresses
+    → blocks ≡ first_blocks 3132 (is_listed_in l after addresses) rw_in most (whole image)
+    → AreListed s l after most (map (entry_in addresses) blocks)
+listed_at image addresses s l after most blocks holds places is =
+    subst (λ (bs : List (List ℕ)). AreListed s l after most (map (entry_in addresses) bs)) (sym is)
+    (subst (λ (a : List ℕ). AreListed s l after most (map (entry_in a) (first_blocks 3132 (is_listed_in l after a) rw_in most
+    (whole image)))) (sym places)
+    (listed_from image s l after most 0 after (numbers_met 3132 (is_listed_in l after s.addresses) rw_in (whole image)) holds
+    (order_of (test_of s l after image) (key_of image) (blocks_in (whole image)) (apart_keys image s l after holds))
+    (record { less = omega arith; up = λ k below met above. omega arith })
+    (λ k below met above. let r = read_at image s l after k holds below met in omega (arith, r.above, r.key))))
+
+pub are_listed : (bytes : Option (List ℕ)) (addresses : List ℕ) (l : Listing) (after most : ℕ) (blocks : List (List ℕ)) (es : List VlEntry)
+    → IfSome bytes (λ image. blocks ≡ first_blocks 3132 (is_listed_in l after addresses) rw_in most (whole image))
+    → IfSome bytes (λ image. (s : Location) → Holds image s → addresses ≡ s.addresses) → es ≡ map (entry_in addresses) blocks
+    → IfSome bytes (λ image. (s : Location) → Holds image s → AreListed s l after most es)
+are_listed None addresses l after most blocks es is places read = tt
+are_listed (Some image) addresses l after most blocks es is places read = λ s holds.
+    subst (AreListed s l after most) (sym read) (listed_at image addresses s l after most blocks holds (places s holds) is)
+
+all_small : (addresses : List ℕ) (blocks : List (List ℕ)) → AllByRecursion IsSmall (map (entry_in addresses) blocks)
+all_small addresses [] = tt
+all_small addresses (b ∷ blocks) = (entry_small addresses b (entry_in addresses b) refl, all_small addresses blocks)
+
+pub are_small : (addresses : List ℕ) (blocks : List (List ℕ)) (es : List VlEntry) → es ≡ map (entry_in addresses) blocks
+    → AllByRecursion IsSmall es
+are_small addresses blocks es read = subst (AllByRecursion IsSmall) (sym read) (all_small addresses blocks)
+
+-- the empty image has no block
+none_first : (n : ℕ) → [] ≡ take {A = ℕ} n []
+none_first zero = refl
+none_first (suc n) = refl
+
+pub empty_blocks : (bytes : Option (List ℕ)) (len most : ℕ) (test : List ℕ → Bool) (key : List ℕ → ℕ) (blocks : List (List ℕ)) → blocks ≡ []
+    → IfSome bytes (λ image. length image ≡ len) → len ≡ 0 → IfSome bytes (λ image. blocks ≡ first_blocks 3132 test key most (whole image))
+empty_blocks None len most test key blocks is told none = tt
+empty_blocks (Some image) len most test key blocks is told none =
+    let count : blocks_in (whole image) ≡ 0 = ap blocks_in (whole_empty image (told ∙ none))
+    ∙ omega (arith, length-head first_location 0 refl) in
+    is ∙ ap (map (block_at (whole image))) (none_first most)
+    ∙ ap (λ (n : ℕ). map (block_at (whole image)) (take most (ascending (λ k. test (block_at (whole image) k)) (λ k. key (block_at
+    (whole image) k)) n))) (sym count)
+
+-- any block may stand in an image
+whole_fault : (bytes : Option (List ℕ)) (fault : RecordFault) → HasCause bytes (AreGood 3132 (λ block. true)) fault
+    → HasCause bytes (IsWhole 3132) fault
+whole_fault bytes DiskFault cause = tt
+whole_fault None (BadRecord at) cause = tt
+whole_fault (Some image) (BadRecord at) cause = λ whole. cause (record { whole = whole; each = λ k below. refl })
+whole_fault bytes NoMemory cause = tt
+
+pub err_listed : {X : Type 0} (r : Result X RecordFault) (bytes : Option (List ℕ))
+    → IfErr r (HasCause bytes (AreGood 3132 (λ block. true))) → IfErr r (HasCause bytes (IsWhole 3132))
+err_listed (Ok x) bytes cause = tt
+err_listed (Err fault) bytes cause = whole_fault bytes fault cause

@@ -1,20 +1,19 @@
 -- What a scan found is what the database has.
-use Rattle.std.proofs.Common.{◌≡◌, ℕ, ◌^◌, ◌<◌, Bool, true, false, eqb, List, take, drop, min, Option, Some, None, IsSome, IfSome, Result, Ok, Err, IfOk, length, refl, sym, ap, subst, ◌∙◌, inl, inr, arith}
+use Rattle.std.proofs.Common.{◌≡◌, ℕ, ◌^◌, ◌<◌, Bool, true, false, eqb, List, take, drop, min, Option, Some, None, IfSome, Result, Ok, Err, IfOk, length, refl, sym, ap, subst, ◌∙◌, inl, inr, arith}
 use Rattle.std.specs.Str.{bytes_eq}
 use Rattle.std.specs.List.{position_or_len, range_with_len}
 use Rattle.std.proofs.lemmas.List.{length-map, length-take}
 use Rattle.std.proofs.lemmas.List.FromFn.{length-range_with_len}
-use Rattle.std.proofs.lemmas.Bool.{and_parts, eq-eqb, eqb-true}
+use Rattle.std.proofs.lemmas.Bool.{and_parts, eqb-true}
 use Rattle.std.proofs.lemmas.Slice.Eq.{bytes_eq-Decides}
 use Rattle.db_image.specs.declared.faults.RecordFault.{RecordFault}
 use Rattle.db_blocks.specs.Blocks.{IsFirst, word_at}
-use Rattle.db_blocks.specs.Least.{IsAbove, IsLeastAbove}
 use Rattle.db_blocks.specs.Bytes.{zeros}
 use Rattle.db_blocks.specs.declared.scans.Found.{Found}
 use Rattle.db_blocks.proofs.FoundBlocks.{found_meets, none_meets}
 use Rattle.vldb_records.specs.declared.entries.VlEntry.{VlEntry}
-use Rattle.vldb_records.specs.Location.{Location, IsNamed, IsNext, IsOfId, IsSmall, has_id, first_location}
-use Rattle.vldb_records.specs.Records.{Holds, IsLaidOut, IsBlockOf, block_at, block_of, blocks_in, entry_in, has_id_in, has_name, is_entry, kind_of, name_in, site_in, whole}
+use Rattle.vldb_records.specs.Location.{Location, IsNamed, IsOfId, IsSmall, has_id, first_location}
+use Rattle.vldb_records.specs.Records.{Holds, IsLaidOut, IsBlockOf, block_at, block_of, blocks_in, entry_in, has_id_in, has_name, kind_of, name_in, site_in, whole}
 use Rattle.vldb_records.proofs.EntryAgain.{entry_again, kind_again, rw_again, ro_again, backup_again, name_again}
 use Rattle.vldb_records.proofs.HeadRead.{whole_same, whole_empty, length-head}
 
@@ -121,71 +120,6 @@ pub ok_whole : {X : Type 0} (r : Result X RecordFault) (bytes : Option (List ℕ
 ok_whole (Err e) bytes len P told more is = tt
 ok_whole (Ok f) None len P told more is = tt
 ok_whole (Ok f) (Some image) len P told more is = subst (P f) (sym (whole_same image (omega arith))) is
-
--- ---- the next read-write id
-
-above_of : (image : List ℕ) (s : Location) (after rw_id : ℕ) (f : VlEntry) → Holds image s → s.entry rw_id ≡ Some f → after < rw_id
-    → (j : ℕ) × IsAbove 3132 is_entry 8 after (whole image) (blocks_in (whole image)) j × (word_at (block_at (whole image) j) 8 ≡ rw_id)
-above_of image s after rw_id f holds at more =
-    let o = holds.laid.only rw_id f at in
-    let valid = holds.valid.records rw_id f at in
-    let own : word_at (block_at (whole image) o.0) 8 ≡ rw_id = ap (λ (b : List ℕ). word_at b 8) o.2 ∙ rw_again s.addresses f (omega (arith, valid.rw)) ∙ holds.valid.ids rw_id f at in (
-      o.0,
-      record {
-        below = o.1;
-        meets = eq-eqb (kind_of (block_at (whole image) o.0)) 1 (ap kind_of o.2 ∙ kind_again s.addresses f);
-        above = omega (arith, own, more);
-      },
-      own,
-    )
-
-none_if : {X : Type 0} (o : Option X) → ((x : X) → o ≡ Some x → ⊥) → o ≡ None
-none_if None never = refl
-none_if (Some x) never = absurd (never x refl)
-
-some_of : {X : Type 0} (o : Option X) → IsSome o → (x : X) × (o ≡ Some x)
-some_of None some = absurd cc
-some_of (Some x) some = (x, refl)
-
-pub next_none : (bytes : Option (List ℕ)) (after : ℕ) → IfSome bytes (λ image. IsLeastAbove 3132 is_entry 8 after (whole image) (blocks_in (whole image)) None)
-    → IfSome bytes (λ image. (s : Location) → Holds image s → IsNext s after None)
-next_none None after is = tt
-next_none (Some image) after is = λ s holds rw_id more. none_if (s.entry rw_id) (λ f at. let a = above_of image s after rw_id f holds at more in is a.0 a.1)
-
-next_there : (image : List ℕ) (s : Location) (after k : ℕ) (block addresses : List ℕ) (e : VlEntry) → Holds image s
-    → IsAbove 3132 is_entry 8 after (whole image) (blocks_in (whole image)) k → block ≡ block_at (whole image) k → addresses ≡ s.addresses → e ≡ entry_in addresses block
-    → (s.entry e.rw ≡ Some e) × (word_at block 8 ≡ e.rw)
-next_there image s after k block addresses e holds above here places is =
-    let o = block_entry (whole image) s k holds.laid above.below (eqb-true (kind_of (block_at (whole image) k)) 1 above.meets) in
-    let form : block ≡ block_of s.addresses o.0 = here ∙ o.1.1 in
-    let valid = holds.valid.records o.0.rw o.0 o.1.0 in
-    let same : e ≡ o.0 = is ∙ ap (λ (a : List ℕ). entry_in a block) places ∙ ap (entry_in s.addresses) form
-    ∙ entry_again s.addresses o.0 valid (holds.valid.hosts o.0.rw o.0 o.1.0) in
-    subst (λ (x : VlEntry). (s.entry x.rw ≡ Some x) × (word_at block 8 ≡ x.rw)) (sym same)
-    (o.1.0, ap (λ (b : List ℕ). word_at b 8) form ∙ rw_again s.addresses o.0 (omega (arith, valid.rw)))
-
-pub next_some : (bytes : Option (List ℕ)) (after : ℕ) (block addresses : List ℕ) (e : VlEntry)
-    → IfSome bytes (λ image. IsLeastAbove 3132 is_entry 8 after (whole image) (blocks_in (whole image)) (Some block))
-    → IfSome bytes (λ image. (s : Location) → Holds image s → addresses ≡ s.addresses) → e ≡ entry_in addresses block
-    → IfSome bytes (λ image. (s : Location) → Holds image s → IsNext s after (Some e))
-next_some None after block addresses e is places here = tt
-next_some (Some image) after block addresses e is places here = λ s holds.
-    let t = next_there image s after is.0 block addresses e holds is.1 is.2 (places s holds) here in
-    let above : after < word_at block 8 = subst (λ (b : List ℕ). after < word_at b 8) (sym is.2) is.1.above in (
-      t.0,
-      omega (arith, above, t.1),
-      λ rw_id more some.
-          let f = some_of (s.entry rw_id) some in
-          let a = above_of image s after rw_id f.0 holds f.1 more in
-          omega (arith, is.3 a.0 a.1, a.2, t.1),
-    )
-
-pub empty_least : (bytes : Option (List ℕ)) (len : ℕ) (test : List ℕ → Bool) (place after : ℕ) → IfSome bytes (λ image. length image ≡ len) → len ≡ 0
-    → IfSome bytes (λ image. IsLeastAbove 3132 test place after (whole image) (blocks_in (whole image)) None)
-empty_least None len test place after told none = tt
-empty_least (Some image) len test place after told none = λ k above.
-    let count : blocks_in (whole image) ≡ 0 = ap blocks_in (whole_empty image (told ∙ none)) ∙ omega (arith, length-head first_location 0 refl) in
-    omega (arith, above.below, count)
 
 -- ---- what is read of a block has a place in one
 

@@ -94,11 +94,6 @@ abbrev pub IsOfId : Location → (id : ℕ) → Option VlEntry → Type 0
 IsOfId s id None = (rw : ℕ) (e : VlEntry) → s.entry rw ≡ Some e → has_id id e ≡ false
 IsOfId s id (Some e) = (s.entry e.rw ≡ Some e) × (has_id id e ≡ true)
 
--- the entry with the least read-write id above one, if there is one
-abbrev pub IsNext : Location → (after : ℕ) → Option VlEntry → Type 0
-IsNext s after None = (rw : ℕ) → after < rw → s.entry rw ≡ None
-IsNext s after (Some e) = (s.entry e.rw ≡ Some e) × (after < e.rw) × ((rw : ℕ) → after < rw → IsSome (s.entry rw) → e.rw ≤ rw)
-
 -- ---- places
 
 -- the addresses with these servers' among them: a new one takes the lowest free place, if there is one

@@ -107,9 +107,6 @@ entry_in addresses block = record {
 abbrev pub is_free : List ℕ → Bool
 is_free block = kind_of block == 0
 
-abbrev pub is_entry : List ℕ → Bool
-is_entry block = kind_of block == 1
-
 abbrev pub has_name : List ℕ → List ℕ → Bool
 has_name name block = kind_of block == 1 && bytes_eq (name_in block) name
 

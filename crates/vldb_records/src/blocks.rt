@@ -26,8 +26,6 @@ pub(crate) enum Sought<'a> {
     Name(&'a [u8]),
     /// The entry that has this id.
     Id(u32),
-    /// Any entry.
-    Entry,
     /// A free block.
     Free,
 }
@@ -41,7 +39,6 @@ impl<'a> Wanted for Sought<'a> {
         match *self {
             Sought::Name(name) => has_name(block, name),
             Sought::Id(id) => has_id(block, id),
-            Sought::Entry => kind_of(block) == ENTRY,
             Sought::Free => kind_of(block) == FREE,
         }
     }

@@ -4,18 +4,17 @@ ghost use Rattle.std.specs.Option.{option_map};
 ghost use Rattle.db_blocks.specs.Blocks.{IsFirst, block_place};
 ghost use Rattle.db_blocks.specs.declared.blocks.TheConstants.{BLOCK_LEN};
 ghost use Rattle.db_blocks.specs.Ends.{OnlyLooks};
-ghost use Rattle.db_blocks.specs.Least.{IsLeastAbove};
 ghost use Rattle.vldb_records.specs.Ends.{HasItsCause};
-ghost use Rattle.vldb_records.specs.Location.{Location, IsNamed, IsNext, IsOfId, IsSmall};
-ghost use Rattle.vldb_records.specs.Records.{Holds, addresses_in, blocks_in, entry_in, is_entry, whole};
+ghost use Rattle.vldb_records.specs.Location.{Location, IsNamed, IsOfId, IsSmall};
+ghost use Rattle.vldb_records.specs.Records.{Holds, addresses_in, entry_in, whole};
 ghost use Rattle.vldb_records.specs.Sought.{is_sought};
-ghost use Rattle.vldb_records.specs.declared.layout.TheConstants.{HEAD_LEN, RW_AT};
+ghost use Rattle.vldb_records.specs.declared.layout.TheConstants.{HEAD_LEN};
 
 use crate::blocks::{Sought, entry_in};
 use crate::entries::VlEntry;
 use crate::heads::addresses;
-use crate::layout::{HEAD_LEN, PLACES, RW_AT};
-use db_blocks::{Block, Found, scan, scan_least};
+use crate::layout::{HEAD_LEN, PLACES};
+use db_blocks::{Found, scan};
 use db_image::{Draft, ImageRead, RecordFault};
 use std::alloc::Global;
 
@@ -98,37 +97,4 @@ pub fn find_id<I: ImageRead>(
     };
     let addresses = addresses(d)?;
     Ok(Some(entry_in(alloc, &addresses, &found.block)?))
-}
-
-/// The entry's block with the least read-write id above one; an empty draft has none.
-fn find_least<I: ImageRead>(d: &mut Draft<I>, after: u32) -> Result<Option<Block>, RecordFault>
-    requires { d.old.len < 2 ^ 31 }
-    ensures found { IfOk result (λ found. IfSome d.old.bytes (λ image.
-        IsLeastAbove HEAD_LEN is_entry RW_AT after (whole image) (blocks_in (whole image)) found)) }
-    ensures fault { IfErr result (HasItsCause d.old.bytes) }
-    ensures frame { OnlyLooks I.ImageRead d.old d.new (IsErrOf result RecordFault.DiskFault) }
-{
-    if d.len() == 0 {
-        return Ok(None);
-    }
-    scan_least(d, HEAD_LEN as u32, &Sought::Entry, RW_AT, after)
-}
-
-/// The entry with the least read-write id above one.
-pub fn next_entry<I: ImageRead>(
-    alloc: Global,
-    d: &mut Draft<I>,
-    after: u32,
-) -> Result<Option<VlEntry>, RecordFault>
-    requires { d.old.len < 2 ^ 31 }
-    ensures found { IfOk result (λ found. IfSome d.old.bytes (λ image. (s : Location) → Holds image s → IsNext s after found)) }
-    ensures small { IfOk result (λ found. IfSome found IsSmall) }
-    ensures fault { IfErr result (HasItsCause d.old.bytes) }
-    ensures frame { OnlyLooks I.ImageRead d.old d.new (IsErrOf result RecordFault.DiskFault) }
-{
-    let Some(block) = find_least(d, after)? else {
-        return Ok(None);
-    };
-    let addresses = addresses(d)?;
-    Ok(Some(entry_in(alloc, &addresses, &block)?))
 }

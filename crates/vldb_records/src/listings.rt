@@ -1,13 +1,13 @@
 //! Entries, found by where they lie and whether they are locked.
-ghost use Rattle.std.specs.Prelude.{◌≡◌, ◌+◌, ◌<◌, ◌≤◌, ◌^◌, ℕ, Bool, List, IfSome, IfOk, IfErr, IsErrOf, map, min, not, ◌==◌};
-ghost use Rattle.std.specs.List.{list_any, range_with_len};
+ghost use Rattle.std.specs.Prelude.{◌≡◌, ◌+◌, ◌<◌, ◌≤◌, ◌^◌, ℕ, Bool, List, IfSome, IfOk, IfErr, IsErrOf, length, map, min, not, ◌==◌};
+ghost use Rattle.std.specs.List.{AllByRecursion, list_any, range_with_len};
+ghost use Rattle.db_blocks.specs.Ascending.{first_blocks};
 ghost use Rattle.db_blocks.specs.Blocks.{word_at};
 ghost use Rattle.db_blocks.specs.Ends.{OnlyLooks};
-ghost use Rattle.db_blocks.specs.Least.{IsLeastAbove};
 ghost use Rattle.vldb_records.specs.Ends.{HasItsCause};
-ghost use Rattle.vldb_records.specs.Listing.{IsNextListed, is_listed_in, is_listed_site, is_on};
+ghost use Rattle.vldb_records.specs.Listing.{AreListed, is_listed_in, is_listed_site, is_on, rw_in};
 ghost use Rattle.vldb_records.specs.Location.{Location, IsSmall};
-ghost use Rattle.vldb_records.specs.Records.{Holds, blocks_in, kind_of, site_in, whole};
+ghost use Rattle.vldb_records.specs.Records.{Holds, entry_in, kind_of, site_in, whole};
 ghost use Rattle.vldb_records.specs.declared.layout.TheConstants.{COUNT_AT, HEAD_LEN, RW_AT, SITES_FIELD};
 
 use crate::blocks::{entry_in, kind_of, site_in};
@@ -15,9 +15,10 @@ use crate::entries::{VlEntry, VlSite};
 use crate::forms::ENTRY;
 use crate::heads::addresses;
 use crate::layout::{COUNT_AT, HEAD_LEN, LOCK_OP_AT, PLACES, RW_AT, SITES_FIELD};
-use db_blocks::{Block, Wanted, scan_least, word_at};
+use db_blocks::{Block, Keyed, scan_first, word_at};
 use db_image::{Draft, ImageRead, RecordFault};
 use std::alloc::Global;
+use ubik_types::NoMemory;
 
 /// Which entries are listed: those with a site of a server on a partition.
 #[derive(Clone, Copy)]
@@ -60,65 +61,98 @@ fn has_listed_site(listing: &Listing, addresses: &[u32; PLACES], block: &Block) 
     false
 }
 
-/// What a scan for listed entries looks for.
+/// What a scan for listed entries looks for: those with a read-write id above one, in the order of these ids.
 #[derive(Clone, Copy)]
 struct Listed<'a> {
     listing: Listing,
+    after: u32,
     addresses: &'a [u32; PLACES],
 }
 
-impl<'a> Wanted for Listed<'a> {
-    ghost use Rattle.vldb_records.specs.Listing.{is_listed_in};
+impl<'a> Keyed for Listed<'a> {
+    ghost use Rattle.vldb_records.specs.Listing.{is_listed_in, rw_in};
+    ghost use Rattle.std.specs.Prelude.{true};
 
-    ghost test = { λ wanted. is_listed_in wanted.listing wanted.addresses.now };
+    ghost test = { λ wanted. is_listed_in wanted.listing wanted.after wanted.addresses.now };
+
+    ghost key = { λ wanted. rw_in };
+
+    ghost fits = { λ wanted block. true };
+
+    fn fits(&self, _block: &Block) -> bool {
+        true
+    }
 
     #[tactic(auto, unfolding(crate::specs::Records::entry_in))]
     fn is_met(&self, block: &Block) -> bool {
         kind_of(block) == ENTRY
-            && (has_listed_site(&self.listing, self.addresses, block)
-                && (!self.listing.locked || word_at(block, LOCK_OP_AT) != 0))
+            && (self.after < word_at(block, RW_AT)
+                && (has_listed_site(&self.listing, self.addresses, block)
+                    && (!self.listing.locked || word_at(block, LOCK_OP_AT) != 0)))
+    }
+
+    fn key_of(&self, block: &Block) -> u32 {
+        word_at(block, RW_AT)
     }
 }
 
-/// The listed entry's block with the least read-write id above one, where the servers have these addresses; an empty draft has none.
+/// The blocks of the first so many listed entries, where the servers have these addresses; an empty draft has none.
 fn find_listed<I: ImageRead>(
+    alloc: Global,
     d: &mut Draft<I>,
-    listing: &Listing,
-    addresses: &[u32; PLACES],
-    after: u32,
-) -> Result<Option<Block>, RecordFault>
+    wanted: &Listed<'_>,
+    most: usize,
+) -> Result<Vec<Block>, RecordFault>
     requires { d.old.len < 2 ^ 31 }
-    ensures found { IfOk result (λ found. IfSome d.old.bytes (λ image.
-        IsLeastAbove HEAD_LEN (is_listed_in listing.now addresses.now) RW_AT after (whole image) (blocks_in (whole image)) found)) }
+    ensures found { IfOk result (λ blocks. IfSome d.old.bytes (λ image. blocks.items ≡ first_blocks HEAD_LEN
+        (is_listed_in wanted.now.listing wanted.now.after wanted.now.addresses.now) rw_in most (whole image))) }
+    ensures few { IfOk result (λ blocks. length blocks.items ≤ most) }
     ensures fault { IfErr result (HasItsCause d.old.bytes) }
     ensures frame { OnlyLooks I.ImageRead d.old d.new (IsErrOf result RecordFault.DiskFault) }
 {
     if d.len() == 0 {
-        return Ok(None);
+        return Ok(Vec::new(alloc));
     }
-    let wanted = Listed {
-        listing: *listing,
-        addresses,
-    };
-    scan_least(d, HEAD_LEN as u32, &wanted, RW_AT, after)
+    scan_first(alloc, d, HEAD_LEN as u32, wanted, most)
 }
 
-/// The listed entry with the least read-write id above one.
-pub fn next_listed<I: ImageRead>(
+/// The entries of blocks, where the servers have these addresses.
+fn entries_in(
+    alloc: Global,
+    addresses: &[u32; PLACES],
+    blocks: &[Block],
+) -> Result<Vec<VlEntry>, NoMemory>
+    ensures { IfOk result (λ entries. entries.items ≡ map (entry_in addresses.now) blocks.now) }
+{
+    let mut entries = Vec::new(alloc);
+    for block in blocks {
+        let entry = entry_in(alloc, addresses, block)?;
+        entries.push(entry)?;
+    }
+    Ok(entries)
+}
+
+/// The first so many listed entries with a read-write id above one, ascending by it.
+pub fn first_listed<I: ImageRead>(
     alloc: Global,
     d: &mut Draft<I>,
     listing: &Listing,
     after: u32,
-) -> Result<Option<VlEntry>, RecordFault>
+    most: usize,
+) -> Result<Vec<VlEntry>, RecordFault>
     requires { d.old.len < 2 ^ 31 }
-    ensures found { IfOk result (λ found. IfSome d.old.bytes (λ image. (s : Location) → Holds image s → IsNextListed s listing.now after found)) }
-    ensures small { IfOk result (λ found. IfSome found IsSmall) }
+    ensures found { IfOk result (λ found. IfSome d.old.bytes (λ image. (s : Location) → Holds image s → AreListed s listing.now after most found.items)) }
+    ensures small { IfOk result (λ found. AllByRecursion IsSmall found.items) }
+    ensures few { IfOk result (λ found. length found.items ≤ most) }
     ensures fault { IfErr result (HasItsCause d.old.bytes) }
     ensures frame { OnlyLooks I.ImageRead d.old d.new (IsErrOf result RecordFault.DiskFault) }
 {
     let addresses = addresses(d)?;
-    let Some(block) = find_listed(d, listing, &addresses, after)? else {
-        return Ok(None);
+    let wanted = Listed {
+        listing: *listing,
+        after,
+        addresses: &addresses,
     };
-    Ok(Some(entry_in(alloc, &addresses, &block)?))
+    let blocks = find_listed(alloc, d, &wanted, most)?;
+    Ok(entries_in(alloc, &addresses, &blocks)?)
 }
