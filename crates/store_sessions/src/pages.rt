@@ -15,7 +15,7 @@ use ubik_types::Version;
 /// Reads length and label of a database file.
 pub fn open_pages(alloc: Global, disk: MemDisk) -> Result<(Device, Answer), Fault> {
     let mut disk = disk;
-    match Pages::open(&mut disk) {
+    match Pages::open(alloc, &mut disk) {
         Ok(pages) => hold(alloc, disk, pages),
         Err(fault) => Ok((Device::Disk(disk), refusal(alloc, &fault)?)),
     }
@@ -24,7 +24,7 @@ pub fn open_pages(alloc: Global, disk: MemDisk) -> Result<(Device, Answer), Faul
 /// Reads the length of a database file, and no label.
 pub fn open_over(alloc: Global, disk: MemDisk) -> Result<(Device, Answer), Fault> {
     let mut disk = disk;
-    match Pages::over(&mut disk) {
+    match Pages::over(alloc, &mut disk) {
         Ok(pages) => hold(alloc, disk, pages),
         Err(fault) => Ok((Device::Disk(disk), refusal(alloc, &fault)?)),
     }
@@ -67,6 +67,7 @@ pub fn call_pages(
         ["truncate", len] => truncate(alloc, paged, number_in(len)?),
         ["label", version] => label(alloc, paged, version_of(version)?),
         ["sync"] => sync(alloc, paged),
+        ["kept", page] => kept(alloc, paged, number_in(page)?),
         _ => Err(Fault::Form),
     }
 }
@@ -83,6 +84,11 @@ fn failed(alloc: Global, disk: MemDisk, pages: &Pages) -> Result<(Device, Answer
     let len = pages.len();
     let text = format!(in alloc; "failed {epoch}.{counter} {len}")?;
     Ok((Device::Disk(disk), Answer::of(text)))
+}
+
+fn kept(alloc: Global, paged: PagedDisk, page: u32) -> Result<(Device, Answer), Fault> {
+    let answer = Answer::text(alloc, if paged.pages.kept(page) { "yes" } else { "no" })?;
+    Ok((Device::Pages(paged), answer))
 }
 
 fn put(alloc: Global, paged: PagedDisk, at: u32, bytes: &[u8]) -> Result<(Device, Answer), Fault> {

@@ -1,5 +1,6 @@
 -- How a committed log comes to its end, and what a crash leaves meanwhile.
 use Rattle.std.proofs.Common.{◌≡◌, ◌≤◌, inl, inr, ℕ, ◌+◌, ◌-◌, List, [], ◌∷◌, ◌++◌, length, take, drop, get_or, replicate, Option, Some, None, IfSome, refl, sym, ap, subst, ◌∙◌, arith, length-take, length-drop, length-append}
+use Rattle.std.specs.List.{All}
 use Rattle.std.specs.Option.{option_map}
 use Rattle.std.proofs.lemmas.Grind.{common_steps}
 use Rattle.std.proofs.lemmas.Bool.{cases_lt}
@@ -16,6 +17,7 @@ use Rattle.disk_base.specs.Crash.{Narrows, LeavesOnly, LeavesOthers, OnlyIn, IsS
 use Rattle.disk_base.proofs.Runs.{widened, joined}
 use Rattle.page_file.specs.declared.label.TheConstants.{MAX_DATABASE_LEN}
 use Rattle.page_file.specs.Label.{label, version_by, version_of_database}
+use Rattle.page_file.specs.Kept.{IsPageIn}
 use Rattle.page_file.specs.Pages.{Known, image_of, LabelledAs, Agrees, AgreesIn}
 use Rattle.page_file.proofs.Labels.{version_by_again, version_of_filled}
 use Rattle.ubik_log.specs.Gate.{IsOpen}
@@ -56,6 +58,7 @@ headed_agrees pages file agrees = elim (cases_lt (length file) 64) [
       record {
         len = agrees.len ∙ ap length (sym (image_headed file));
         version = let P : List ℕ → Type 0 = λ xs. IfSome pages.version (LabelledAs xs) in subst P (sym is) (no_label pages.version);
+        kept = let P : List ℕ → Type 0 = λ image. All (IsPageIn image) pages.cache.pages in subst P (sym (image_headed file)) agrees.kept;
       }
   | inr long ↦ let P : List ℕ → Type 0 = λ xs. Agrees pages xs in subst P (sym (long_head file long)) agrees
 ]

@@ -13,6 +13,7 @@ pub mod Heads
 pub mod Kept
 pub mod Opened
 pub mod Plain
+pub mod ReadSound
 pub mod Redoing
 pub mod Redone
 pub mod Resting

@@ -87,7 +87,7 @@ fn plan_redo<D: Disk>(
     ensures refused { IfErr result (λ fault. IfSome (D.files disk.old) (λ fs. RefusesFiles fs fault)) }
     ensures reads { OnlyReads D.Disk disk.old disk.new (IsErrOf result StoreFault.DiskFault) }
 {
-    let mut pages = Pages::over(disk)?;
+    let mut pages = Pages::over(alloc, disk)?;
     let changes = as_made(alloc, pages.len(), told)?;
     pages.reserve(disk, reach(changes.as_slice()))?;
     reserve_gate(disk)?;
@@ -99,13 +99,13 @@ fn plan_redo<D: Disk>(
 }
 
 /// Reads length and label of a database file over which a discarded log stands, and whether that log has an open gate.
-fn plan_empty<D: Disk>(disk: &mut D) -> Result<Plan, StoreFault>
+fn plan_empty<D: Disk>(alloc: Global, disk: &mut D) -> Result<Plan, StoreFault>
     requires discarded { IfSome (D.files disk.old) (λ fs. IsDiscarded fs.log) }
     ensures plans { IfOk result (Plans D.Disk disk.new) }
     ensures refused { IfErr result (λ fault. IfSome (D.files disk.old) (λ fs. RefusesFiles fs fault)) }
     ensures reads { OnlyReads D.Disk disk.old disk.new (IsErrOf result StoreFault.DiskFault) }
 {
-    let pages = Pages::open(disk)?;
+    let pages = Pages::open(alloc, disk)?;
     let begun = is_begun(disk)?;
     if begun {
         reserve_gate(disk)?;
@@ -122,7 +122,7 @@ fn plan_opening<D: Disk>(alloc: Global, disk: &mut D) -> Result<Plan, StoreFault
 {
     match read_log(alloc, disk)? {
         LogState::Committed { changes, version } => plan_redo(alloc, disk, changes, version),
-        LogState::Discarded => plan_empty(disk),
+        LogState::Discarded => plan_empty(alloc, disk),
     }
 }
 

@@ -1,11 +1,12 @@
 //! The store of a server.
-ghost use Rattle.std.specs.Prelude.{◌≡◌, ◌≢◌, ◌+◌, ◌<◌, ◌≤◌, ◌⊎◌, ◌^◌, ◌↔◌, ℕ, List, [], ◌∷◌, ◌++◌, length, take, drop, true, false, IsTrue, Some, None, IsSome, IfOk, IfErr, IfSome, IsErrOf, OnOk, OnErr, MatchResult};
+ghost use Rattle.std.specs.Prelude.{◌≡◌, ◌≢◌, ◌+◌, ◌<◌, ◌≤◌, ◌⊎◌, ◌^◌, ◌↔◌, ℕ, List, [], ◌∷◌, ◌++◌, length, take, drop, true, false, IsTrue, Some, None, IsSome, IfOk, IfErr, IfSome, IsErrOf, IsOk, OnOk, OnErr, MatchResult};
 ghost use Rattle.ubik_types.specs.Version.{IsVersion, version_lt};
 ghost use Rattle.ubik_types.specs.declared.images.Change.TheVariants as change;
 ghost use Rattle.disk_base.specs.Crash.{IsSettled, LeavesSame, Only};
 ghost use Rattle.disk_base.specs.Runs.{OnlyReads};
 ghost use Rattle.disk_base.specs.Stops.{IsStopped, armed};
 ghost use Rattle.disk_base.specs.Stops.DiskStop.{Unarmed};
+ghost use Rattle.page_file.specs.Kept.{AreKept};
 ghost use Rattle.ubik_store.specs.DurableCall.{Commits, EndsAs, HasFailed, IsDurable, IsNeverLong, whole_image};
 ghost use Rattle.ubik_store.specs.Files.{StandsFor};
 ghost use Rattle.ubik_store.specs.Opening.{OpensIn, RefusesFiles, IsOpening};
@@ -86,7 +87,7 @@ impl<D: Disk> Store<D> {
         self.failed
     }
 
-    /// Reads bytes of the committed image from a position on, which lie within it.
+    /// Reads bytes of the committed image from a position on, which lie within it. Pages that are kept are read without the disk.
     pub fn read(&mut self, at: u32, buf: &mut [u8]) -> Result<(), StoreFault>
         requires sound { IsSound D.Disk self.old }
         requires within { at + length buf.old ≤ self.old.len }
@@ -97,6 +98,8 @@ impl<D: Disk> Store<D> {
         ensures fault { IfErr result (λ fault. (fault ≡ StoreFault.DiskFault) × HasFailed self.old self.new) }
         ensures rests { self.old.failed ≡ true → (self.new ≡ self.old) × IsErrOf result StoreFault.DiskFault }
         ensures disk { self.old.failed ≡ false → OnlyReads D.Disk self.old.disk self.new.disk (IsErrOf result StoreFault.DiskFault) }
+        ensures from_memory { self.old.failed ≡ false → AreKept self.old.pages.cache at (length buf.old)
+            → IsOk result × (self.new.disk ≡ self.old.disk) }
     {
         if self.failed {
             return Err(StoreFault::DiskFault);
