@@ -1,0 +1,7 @@
+pub mod Becoming
+pub mod Empty
+pub mod Fields
+pub mod HeadSet
+pub mod HeadTold
+pub mod Held
+pub mod Lookups

@@ -1,0 +1,96 @@
+//! Changes of the location database over a draft. The first one of an empty draft writes the head before it.
+ghost use Rattle.std.specs.Prelude.{◌≡◌, ◌+◌, ◌<◌, ◌≤◌, ◌^◌, IfErr, IsErrOf, OnOk, OnErr, length, max};
+ghost use Rattle.ubik_types.specs.Image.{changed};
+ghost use Rattle.ubik_types.specs.declared.images.Change.TheVariants.{Put};
+ghost use Rattle.db_image.specs.Draft.{StaysAsItWas};
+ghost use Rattle.db_image.specs.Images.{IsOfImage};
+ghost use Rattle.db_blocks.specs.Ends.{Becomes, OnlyDrafts};
+ghost use Rattle.vldb_records.specs.Ends.{HoldsTheSame};
+ghost use Rattle.vldb_records.specs.Location.{MayBePlaces, with_next_volume, with_places};
+ghost use Rattle.vldb_records.specs.Records.{after_set_next, after_set_places, whole};
+ghost use Rattle.chained_records.specs.Ends.{HasItsCause, Makes};
+ghost use Rattle.chained_records.specs.declared.layout.TheConstants.{HEAD_LEN};
+
+use crate::forms::{address_words, first_head};
+use crate::heads::next_volume;
+use crate::layout::{ADDRESSES_AT, NEXT_AT};
+use db_image::{Draft, ImageRead, RecordFault};
+use std::alloc::Global;
+use vldb_records::PLACES;
+
+/// Writes the first head where the draft is empty.
+#[tactic(auto, unfolding(vldb_records::specs::Records::whole))]
+fn make_whole<I: ImageRead>(alloc: Global, d: &mut Draft<I>) -> Result<(), RecordFault>
+    ensures bytes { OnOk result (Becomes whole d.old d.new) }
+    ensures empty { OnOk result (d.old.len ≡ 0 → d.new.len ≡ HEAD_LEN) }
+    ensures stays { OnOk result (0 < d.old.len → d.new.len ≡ d.old.len) }
+    ensures longer { d.old.len ≤ d.new.len }
+    ensures same { OnErr result (StaysAsItWas d.old d.new) }
+    ensures fault { IfErr result IsOfImage }
+    ensures frame { OnlyDrafts I.ImageRead d.old d.new (IsErrOf result RecordFault.DiskFault) }
+{
+    if d.len() > 0 {
+        return Ok(());
+    }
+    d.put(0, &first_head(alloc)?)
+}
+
+/// Lays bytes at a position, behind the first head where the draft is empty.
+fn put_whole<I: ImageRead>(
+    alloc: Global,
+    d: &mut Draft<I>,
+    at: u32,
+    bytes: &[u8],
+) -> Result<(), RecordFault>
+    requires len { d.old.len < 2 ^ 31 }
+    requires within { at + length bytes.now ≤ max d.old.len HEAD_LEN }
+    ensures bytes { OnOk result (Becomes (λ image. changed (whole image) (Put at bytes.now)) d.old d.new) }
+    ensures len { OnOk result (d.new.len ≤ max d.old.len HEAD_LEN) }
+    ensures longer { d.old.len ≤ d.new.len }
+    ensures left { OnErr result (HoldsTheSame d.old d.new) }
+    ensures fault { IfErr result IsOfImage }
+    ensures frame { OnlyDrafts I.ImageRead d.old d.new (IsErrOf result RecordFault.DiskFault) }
+{
+    make_whole(alloc, d)?;
+    d.put(at, bytes)
+}
+
+/// Sets the next volume id. No byte is changed where it is the one that stands there.
+pub fn set_next_volume<I: ImageRead>(
+    alloc: Global,
+    d: &mut Draft<I>,
+    id: u32,
+) -> Result<(), RecordFault>
+    requires { d.old.len < 2 ^ 31 }
+    ensures holds { OnOk result (Makes (λ s. Unit {0}) (with_next_volume id) d.old d.new) }
+    ensures bytes { OnOk result (Becomes (after_set_next id) d.old d.new) }
+    ensures len { OnOk result (d.new.len ≤ max d.old.len HEAD_LEN) }
+    ensures longer { d.old.len ≤ d.new.len }
+    ensures left { OnErr result (HoldsTheSame d.old d.new) }
+    ensures fault { IfErr result (HasItsCause d.old.bytes) }
+    ensures frame { OnlyDrafts I.ImageRead d.old d.new (IsErrOf result RecordFault.DiskFault) }
+{
+    if next_volume(d)? == id {
+        return Ok(());
+    }
+    put_whole(alloc, d, NEXT_AT as u32, &id.to_be_bytes())
+}
+
+/// Gives the places of the servers these addresses. Each site of the database is at the address of its place from then on.
+pub fn set_addresses<I: ImageRead>(
+    alloc: Global,
+    d: &mut Draft<I>,
+    addresses: &[u32; PLACES],
+) -> Result<(), RecordFault>
+    requires { d.old.len < 2 ^ 31 }
+    ensures holds { OnOk result (Makes (MayBePlaces addresses.now) (with_places addresses.now) d.old d.new) }
+    ensures bytes { OnOk result (Becomes (after_set_places addresses.now) d.old d.new) }
+    ensures len { OnOk result (d.new.len ≤ max d.old.len HEAD_LEN) }
+    ensures longer { d.old.len ≤ d.new.len }
+    ensures left { OnErr result (HoldsTheSame d.old d.new) }
+    ensures fault { IfErr result IsOfImage }
+    ensures frame { OnlyDrafts I.ImageRead d.old d.new (IsErrOf result RecordFault.DiskFault) }
+{
+    let words = address_words(alloc, addresses)?;
+    put_whole(alloc, d, ADDRESSES_AT as u32, &words)
+}

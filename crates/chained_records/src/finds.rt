@@ -1,0 +1,120 @@
+//! Entries, found by the one chain of a name or an id.
+ghost use Rattle.std.specs.Prelude.{◌≡◌, ◌+◌, ◌*◌, ◌<◌, ◌≤◌, ◌^◌, ℕ, List, IfSome, IfOk, IfErr, IsErrOf, length};
+ghost use Rattle.db_blocks.specs.Ends.{HasCause, OnlyLooks};
+ghost use Rattle.db_blocks.specs.declared.blocks.TheConstants.{BLOCK_LEN};
+ghost use Rattle.db_chains.specs.Chains.{HasChain};
+ghost use Rattle.db_chains.specs.Ends.{CostsAtMost, HasSome, IsBadWhere};
+ghost use Rattle.db_chains.specs.Links.{AreLinks};
+ghost use Rattle.db_chains.specs.Walks.{IsBad};
+ghost use Rattle.db_chains.specs.declared.links.Links.{Links};
+ghost use Rattle.vldb_chains.specs.Keys.{id_chain, name_chain};
+ghost use Rattle.vldb_chains.specs.Places.{id_links, name_links};
+ghost use Rattle.vldb_records.specs.Location.{IsNamed, IsOfId, IsSmall, Location};
+ghost use Rattle.vldb_records.specs.Records.{has_id_in, has_name, whole};
+ghost use Rattle.chained_records.specs.Chained.{Holds};
+ghost use Rattle.chained_records.specs.Ends.{HasItsCause};
+ghost use Rattle.chained_records.specs.Sought.{IsInChain, IsRead, is_sought};
+ghost use Rattle.chained_records.specs.declared.layout.TheConstants.{HEAD_LEN};
+
+use crate::blocks::{Sought, entry_in};
+use crate::heads::places;
+use db_blocks::block_count;
+use db_chains::{Link, Links, find};
+use db_image::{Draft, ImageRead, RecordFault};
+use std::alloc::Global;
+use ubik_types::WORD_LEN;
+use vldb_chains::{id_chain, id_links, name_chain, name_links};
+use vldb_records::VlEntry;
+
+/// The first block of a chain that is what is looked for; an empty draft has none.
+fn find_link<I: ImageRead>(
+    d: &mut Draft<I>,
+    links: Links,
+    at: u32,
+    sought: Sought<'_>,
+) -> Result<Option<Link>, RecordFault>
+    requires links { AreLinks links }
+    requires head { links.head ≡ HEAD_LEN }
+    requires at { at + WORD_LEN ≤ HEAD_LEN }
+    requires len { d.old.len < 2 ^ 31 }
+    ensures found { IfOk result (λ link. IfSome d.old.bytes (λ image. IsInChain links (is_sought sought.entry) at (whole image) link)) }
+    ensures told { IfSome d.old.bytes (λ image. length image ≡ d.old.len) }
+    ensures within { IfOk result (λ link. IfSome link (λ f. HEAD_LEN ≤ d.old.len)) }
+    ensures bad { IfErr result (IsBadWhere d.old.bytes (λ image. IsBad links (is_sought sought.entry) at (whole image))) }
+    ensures fault { IfErr result (HasCause d.old.bytes (λ image. HasSome links at (whole image))) }
+    ensures frame { OnlyLooks I.ImageRead d.old d.new (IsErrOf result RecordFault.DiskFault) }
+    ensures cost { IfSome d.old.bytes (λ image. (ws : List ℕ) → HasChain links (whole image) at ws
+        → CostsAtMost I.ImageRead (WORD_LEN + BLOCK_LEN * length ws) d.old d.new) }
+{
+    if d.len() == 0 {
+        return Ok(None);
+    }
+    block_count(links.head, d.len())?;
+    find(d, links, at, &sought)
+}
+
+/// The entry of the first block of a chain that is what is looked for.
+fn find_entry<I: ImageRead>(
+    alloc: Global,
+    d: &mut Draft<I>,
+    links: Links,
+    at: u32,
+    sought: Sought<'_>,
+) -> Result<Option<VlEntry>, RecordFault>
+    requires links { AreLinks links }
+    requires head { links.head ≡ HEAD_LEN }
+    requires at { at + WORD_LEN ≤ HEAD_LEN }
+    requires len { d.old.len < 2 ^ 31 }
+    ensures found { IfOk result (λ found. IfSome d.old.bytes (λ image. IsRead links (is_sought sought.entry) at (whole image) found)) }
+    ensures small { IfOk result (λ found. IfSome found IsSmall) }
+    ensures bad { IfErr result (IsBadWhere d.old.bytes (λ image. IsBad links (is_sought sought.entry) at (whole image))) }
+    ensures fault { IfErr result (HasCause d.old.bytes (λ image. HasSome links at (whole image))) }
+    ensures frame { OnlyLooks I.ImageRead d.old d.new (IsErrOf result RecordFault.DiskFault) }
+    ensures cost { IfSome d.old.bytes (λ image. (ws : List ℕ) → HasChain links (whole image) at ws
+        → CostsAtMost I.ImageRead (HEAD_LEN + BLOCK_LEN * length ws) d.old d.new) }
+{
+    let Some(link) = find_link(d, links, at, sought)? else {
+        return Ok(None);
+    };
+    let addresses = places(d)?;
+    Ok(Some(entry_in(alloc, &addresses, &link.block)?))
+}
+
+/// The entry of a name. It asks for no more than the head's length and each block of the one chain of the name.
+pub fn find_name<I: ImageRead>(
+    alloc: Global,
+    d: &mut Draft<I>,
+    name: &[u8],
+) -> Result<Option<VlEntry>, RecordFault>
+    requires { d.old.len < 2 ^ 31 }
+    ensures found { IfOk result (λ found. IfSome d.old.bytes (λ image. (s : Location) → Holds image s → IsNamed s name.now found)) }
+    ensures small { IfOk result (λ found. IfSome found IsSmall) }
+    ensures bad { IfErr result (IsBadWhere d.old.bytes (λ image.
+        IsBad name_links (λ w block. has_name name.now block) (name_chain name.now) (whole image))) }
+    ensures fault { IfErr result (HasItsCause d.old.bytes) }
+    ensures frame { OnlyLooks I.ImageRead d.old d.new (IsErrOf result RecordFault.DiskFault) }
+    ensures cost { IfSome d.old.bytes (λ image. (ws : List ℕ) → HasChain name_links (whole image) (name_chain name.now) ws
+        → CostsAtMost I.ImageRead (HEAD_LEN + BLOCK_LEN * length ws) d.old d.new) }
+{
+    find_entry(alloc, d, name_links(), name_chain(name), Sought::Name(name))
+}
+
+/// The entry of which one of the three ids is this one; 0 is no entry's. It asks for no more than the head's length and each block of the
+/// one chain of the id, once for each of its ids in it.
+pub fn find_id<I: ImageRead>(
+    alloc: Global,
+    d: &mut Draft<I>,
+    id: u32,
+) -> Result<Option<VlEntry>, RecordFault>
+    requires { d.old.len < 2 ^ 31 }
+    ensures found { IfOk result (λ found. IfSome d.old.bytes (λ image. (s : Location) → Holds image s → IsOfId s id found)) }
+    ensures small { IfOk result (λ found. IfSome found IsSmall) }
+    ensures bad { IfErr result (IsBadWhere d.old.bytes (λ image.
+        IsBad id_links (λ w block. has_id_in id block) (id_chain id) (whole image))) }
+    ensures fault { IfErr result (HasItsCause d.old.bytes) }
+    ensures frame { OnlyLooks I.ImageRead d.old d.new (IsErrOf result RecordFault.DiskFault) }
+    ensures cost { IfSome d.old.bytes (λ image. (ws : List ℕ) → HasChain id_links (whole image) (id_chain id) ws
+        → CostsAtMost I.ImageRead (HEAD_LEN + BLOCK_LEN * length ws) d.old d.new) }
+{
+    find_entry(alloc, d, id_links(), id_chain(id), Sought::Id(id))
+}

@@ -1,0 +1,16 @@
+//! The location database's records over a draft: its entries, found by chains of their names and ids, the addresses of the servers, and
+//! the next volume id.
+#![tactic(auto)]
+
+mod blocks;
+mod changes;
+mod finds;
+mod forms;
+mod heads;
+mod laws;
+mod layout;
+
+pub use changes::{set_addresses, set_next_volume};
+pub use finds::{find_id, find_name};
+pub use heads::{addresses, next_volume};
+pub use laws::law_empty_image_holds_the_first;
