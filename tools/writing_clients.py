@@ -11,6 +11,8 @@ KIND = "ptserver"
 NOBODY = 32766
 # (a server looks at all its entries for each name)
 NAMES_AT_ONCE, TRIES = 50, 10
+# Seconds until a client that was refused asks the next server.
+TURN = 0.1
 
 
 class Client(threading.Thread):
@@ -42,7 +44,7 @@ class Client(threading.Thread):
         """Turns to the next server."""
         self.leave()
         self.at += 1
-        time.sleep(0.02)
+        time.sleep(TURN)
 
     def make(self, name):
         """Asks one server after the other, until the user is made or may be."""
