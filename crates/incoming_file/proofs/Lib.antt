@@ -1,0 +1,5 @@
+pub mod Keeping
+pub mod Opens
+pub mod Reading
+pub mod Shutting
+pub mod Telling
