@@ -1,5 +1,5 @@
 -- Steps but for the bytes of images.
-use Rattle.std.proofs.Common.{◌≡◌, ◌≤◌, ◌<◌, ◌-◌, ◌+◌, ◌++◌, ◌==◌, ℕ, zero, suc, Bool, true, false, cond, ltb, Option, Some, None, List, [], ◌∷◌, length, map, min, take, drop, replicate, Result, Ok, Err, OnOk, IfErr, IsErrOf, ⊎_elim, inl, inr, ◌≢◌, refl, sym, ap, subst, ◌∙◌, append_assoc, arith, length-take, length-drop}
+use Rattle.std.proofs.Common.{◌≡◌, ◌≤◌, ◌<◌, ◌-◌, ◌+◌, ◌++◌, ◌==◌, ℕ, zero, suc, Bool, true, false, cond, ltb, Option, Some, None, List, [], ◌∷◌, length, map, min, take, drop, replicate, Result, Ok, Err, OnOk, IfErr, IfOk, IsErrOf, ⊎_elim, inl, inr, ◌≢◌, refl, sym, ap, subst, ◌∙◌, append_assoc, arith, length-take, length-drop}
 use Rattle.std.proofs.lemmas.Bool.{cond_both}
 use Rattle.std.proofs.lemmas.Bool.Decides.{nat_tests}
 use Rattle.std.proofs.lemmas.List.{append-nil, map-append}
@@ -11,11 +11,15 @@ use Rattle.ubik_types.specs.Version.{version_eq}
 use Rattle.ubik_calls.specs.declared.packets.Body.{Body}
 use Rattle.ubik_calls.specs.declared.packets.Body.TheVariants as body
 use Rattle.disk_base.specs.declared.disks.Disk.{Ghosts}
-use Rattle.db_image.specs.Database.{Database}
+use Rattle.db_image.specs.declared.services.CallReply.{CallReply}
+use Rattle.db_image.specs.declared.services.CallReply.TheVariants as call_reply
+use Rattle.db_image.specs.Database.{Database, Outcome}
+use Rattle.db_image.specs.Ends.{IsShort, KeepsGrammar, end_of}
 use Rattle.db_image.specs.Standing.{Standing}
 use Rattle.cell_model.specs.declared.events.Output.{Output}
 use Rattle.cell_model.specs.declared.events.Output.TheVariants as output
-use Rattle.cell_model.specs.Evaluating.{Databases, outcome_told, told_at}
+use Rattle.cell_model.specs.Asks.{read_reply}
+use Rattle.cell_model.specs.Evaluating.{Databases, Evaluated, MayAllCome, Told}
 use Rattle.cell_model.specs.Node.{Flight, Server, Waiting}
 use Rattle.cell_model.specs.Pieces.{piece_from}
 use Rattle.cell_model.specs.Polls.{entry_at}
@@ -24,8 +28,9 @@ use Rattle.cell_model.specs.Step.{Evaluation, Member, Shown, Stepped, announcing
 use Rattle.cell_model.specs.Writes.{ended_write, flight_settled, next_turns, settled, settled_in, settled_with_turns}
 use Rattle.server_state.specs.Spreading.{given_bodies}
 use Rattle.server_state.specs.State.{ShowsBehind}
-use Rattle.ubik_node.specs.Alike.{ActNeedsTurn, AlikeSo, Frees, IsAlike, NeedsHolder, NobodyOr, ReadsAlike, StepsAlike, blank, blank_body, blank_output, blank_outputs, blanked, free_dbs}
+use Rattle.ubik_node.specs.Alike.{ActNeedsTurn, AlikeSo, Frees, IsAlike, MayAllBe, NeedsHolder, NobodyOr, ReadsAlike, StepsAlike, blank, blank_body, blank_output, blank_outputs, blanked, free_dbs}
 use Rattle.ubik_node.specs.Choices.{Choices}
+use Rattle.ubik_node.specs.Evaluation.{IsShortReply}
 use Rattle.ubik_node.specs.Node.{Closes, Ends, Held, IsMade}
 use Rattle.ubik_node.specs.Serving.{IsReadReply}
 use Rattle.ubik_node.specs.declared.evaluations.Evaluation as code
@@ -43,19 +48,25 @@ use Rattle.cell_model.specs.Node as model
 use Rattle.cell_model.specs.NodeRule.{refusals, step_by}
 use Rattle.ubik_node.proofs.Closing.{node_at}
 use Rattle.ubik_node.proofs.Endings.{disk_or, fault_is, ok_not}
+use Rattle.ubik_node.proofs.Evaluated.{told_itself}
 use Rattle.ubik_node.proofs.Rested.{short_behind}
 use Rattle.ubik_node.proofs.Stepping.{halted_if, up_if}
 use Rattle.ubik_node.proofs.Relabelled.{alone_sends, given_as, relabel_outputs}
 
 -- ---- choices
 
+pub told_may : (d : Standing) (told : Told) → MayAllCome d told → MayAllBe d.database told
+told_may d [] all = tt
+told_may d (None ∷ told) all = (tt, told_may d told all.1)
+told_may d (Some e ∷ told) all = (record { grammar = all.0.grammar; rests = all.0.rests; short = all.0.short; longer = all.0.longer }, told_may d told all.1)
+
 -- what a step chose is a free choice
-abbrev pub frees_of : {d : Standing} → Choices d → Frees
-frees_of {d} o = record { short = o.short; outcomes = λ k. outcome_told (told_at o.told k) d.database }
+abbrev pub frees_of : {d : Standing} → Choices d → Frees d.database
+frees_of {d} o = record { short = o.short; told = o.told; may = told_may d o.told o.may }
 
 -- nothing was chosen
-abbrev pub none_free : Database → Frees
-none_free db = record { short = []; outcomes = λ k. db.call }
+abbrev pub none_free : (db : Database) → Frees db
+none_free db = record { short = []; told = []; may = tt }
 
 -- ---- steps that are known
 
@@ -208,12 +219,12 @@ piece_alike s poll at true bytes same = ap (λ (xs : List ℕ). body.Piece poll 
 piece_alike s poll at false bytes same = ap (λ (xs : List ℕ). body.SendPiece poll s.version (length s.image) at xs) (blanked_same bytes (piece_from s.image at) same)
 
 -- a rule without an evaluation
-pub free_alike : (db : Database) {t : Stepped} {after : Server} {before out : List Output} → IsAlike t after before out → AlikeSo (λ _. t) after before out
+pub free_alike : (db : Database) {t : Stepped} {after : Server} {before out : List Output} → IsAlike t after before out → AlikeSo db (λ _. t) after before out
 free_alike db alike = (none_free db, alike)
 
 -- a rule that was made, with what was chosen in it
-pub made_so : {D : Type 0} (g : Ghosts D) {d : Standing} (t : Frees → Stepped) {knows : Type 0} {before out : List Output} {n m : Held D} (r : Result (Unit {0}) StoreFault) (o : Choices d) → Ends g knows (t (frees_of o)) before out n m r → knows
-    → OnOk r (AlikeSo t m.server before out)
+pub made_so : {D : Type 0} (g : Ghosts D) {d : Standing} (t : Frees d.database → Stepped) {knows : Type 0} {before out : List Output} {n m : Held D} (r : Result (Unit {0}) StoreFault) (o : Choices d) → Ends g knows (t (frees_of o)) before out n m r → knows
+    → OnOk r (AlikeSo d.database t m.server before out)
 made_so g t (Ok x) o ends known = (frees_of o, alike_made g (ends.made known))
 made_so g t (Err e) o ends known = tt
 
@@ -289,26 +300,37 @@ no_turn (act.Relabel next new) line tells few = tt
 
 -- ---- calls
 
+short_end : (r : CallReply) → IsShortReply r → IsShort (end_of r)
+short_end (call_reply.Done answer) short = short
+short_end other short = tt
+
 -- a call that reads was answered, or found no memory
-pub read_alike : (db : Database) (s : Server) (now id : ℕ) (call : List ℕ) (before out : List Output) (made : Result code.Evaluation StoreFault) (r : Result (Unit {0}) StoreFault)
-    → OnOk r ((told : Reply) × (out ≡ before ++ output.Reply id told ∷ []) × IsReadReply made told) → OnOk r (ReadsAlike db s now id call s before out)
-read_alike db s now id call before out made (Err e) replied = tt
-read_alike db s now id call before out (Ok e) (Ok x) replied = (
-  record { short = []; outcomes = λ k image moment bytes. record { reply = e.reply; image = image } },
-  λ image basis.
-      let on : Evaluation = record { call = call; moment = now; basis = basis } in
-      record { server = refl; outputs = ap blank_outputs (replied.1 ∙ ap (λ (o : Output). before ++ o ∷ []) (sym (replied.2 id on))) },
-)
-read_alike db s now id call before out (Err e) (Ok x) replied = (
-  record { short = true ∷ []; outcomes = λ k. db.call },
-  λ image basis. record { server = refl; outputs = ap blank_outputs (replied.1 ∙ ap (λ (r : Reply). before ++ output.Reply id r ∷ []) replied.2) },
+pub read_alike : (db : Database) (s : Server) (now id : ℕ) (call image : List ℕ) (before out : List Output) (made : Result code.Evaluation StoreFault) (r : Result (Unit {0}) StoreFault)
+    → IfOk made (λ e. KeepsGrammar (db.writes call) (end_of e.reply)) → IfOk made (λ e. IsShortReply e.reply)
+    → OnOk r ((told : Reply) × (out ≡ before ++ output.Reply id told ∷ []) × IsReadReply made told) → OnOk r (ReadsAlike db s now id call image s before out)
+read_alike db s now id call image before out made (Err e) grammar short replied = tt
+read_alike db s now id call image before out (Ok e) (Ok x) grammar short replied =
+    let one : Evaluated = record { image = image; moment = now; call = call; outcome = record { reply = e.reply; image = image } } in (
+      record { short = []; told = Some one ∷ []; may = (record { grammar = grammar; rests = λ _. refl; short = short_end e.reply short; longer = omega arith }, tt) },
+      λ basis.
+          let on : Evaluation = record { call = call; moment = now; basis = basis } in
+          record {
+            server = refl;
+            outputs =
+                ap blank_outputs (replied.1 ∙ ap (λ (o : Output). before ++ o ∷ []) (sym (replied.2 id on))
+                ∙ ap (λ (o : Outcome). before ++ (read_reply id on o.reply).output ∷ []) (sym (told_itself db one)));
+          },
+    )
+read_alike db s now id call image before out (Err e) (Ok x) grammar short replied = (
+  record { short = true ∷ []; told = []; may = tt },
+  λ basis. record { server = refl; outputs = ap blank_outputs (replied.1 ∙ ap (λ (r : Reply). before ++ output.Reply id r ∷ []) replied.2) },
 )
 
 -- ---- a step, from the end of its rule
 
-module _ {D : Type 0} (g : Ghosts D) (db : Database) (m : Member) (s : Server) (e : NodeEvent) (now : ℕ) (shown : List Shown) (t : Frees → Stepped)
+module _ {D : Type 0} (g : Ghosts D) (db : Database) (m : Member) (s : Server) (e : NodeEvent) (now : ℕ) (shown : List Shown) (t : Frees db → Stepped)
     (first mid last : Held D) (before after : List Output) (back : Server) (end : StepEnd)
-    (step : (free : Frees) → step_by (free_dbs db free) m s now e (short_behind shown free.short) ≡ t free) where
+    (step : (free : Frees db) → step_by (free_dbs db free) m s now e (short_behind shown free.short) ≡ t free) where
   abbrev Alikes : StepEnd → Held D → List Output → Type 0
   Alikes x h out = StepsAlike db m x e now (model.Up s) (node_at h) out
 
@@ -316,7 +338,7 @@ module _ {D : Type 0} (g : Ghosts D) (db : Database) (m : Member) (s : Server) (
   alikes_so x h out ended same shows steps =
       subst (λ (y : StepEnd). Alikes y last after) (sym ended) (subst (λ (k : Held D). Alikes x k after) (sym same) (subst (λ (o : List Output). Alikes x h o) (sym shows) steps))
 
-  pub closed_alike : {knows : Type 0} {u : Stepped} (r : Result (Unit {0}) StoreFault) → Ends g knows u [] before first mid r → OnOk r (AlikeSo t mid.server [] before)
+  pub closed_alike : {knows : Type 0} {u : Stepped} (r : Result (Unit {0}) StoreFault) → Ends g knows u [] before first mid r → OnOk r (AlikeSo db t mid.server [] before)
       → IfErr r (λ why. why ≢ fault.DiskFault → back ≡ s) → (IsErrOf r fault.DiskFault → model.halted_from back ≡ model.halted_from s)
       → Closes r e back mid last before after end → Alikes end last after
   closed_alike (Ok x) ends alike returns keeps closed =

@@ -16,7 +16,7 @@ both_true : (x y : Bool) → x ≡ true → y ≡ true → (x && y) ≡ true
 both_true x y first second = ap (λ (b : Bool). b && y) first ∙ second
 
 -- the outcome that is told of an evaluation is told of itself
-told_itself : (db : Database) (e : Evaluated) → outcome_told (Some e) db e.image e.moment e.call ≡ e.outcome
+pub told_itself : (db : Database) (e : Evaluated) → outcome_told (Some e) db e.image e.moment e.call ≡ e.outcome
 told_itself db e =
     let same : (bytes_eq e.image e.image && e.moment == e.moment && bytes_eq e.call e.call) ≡ true =
     both_true (bytes_eq e.image e.image && e.moment == e.moment) _

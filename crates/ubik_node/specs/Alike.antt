@@ -1,14 +1,15 @@
 -- Steps as they are over any disk, also one that tells nothing: of images only the lengths count, and what comes of an evaluation is free (own).
-use Rattle.std.specs.Prelude.{◌≡◌, ◌⊎◌, ◌++◌, ℕ, Bool, true, IsSome, Option, Some, None, List, [], ◌∷◌, length, map, replicate}
+use Rattle.std.specs.Prelude.{◌≡◌, ◌≢◌, ◌≤◌, ◌⊎◌, ◌++◌, ℕ, Bool, true, IfSome, IsSome, Option, Some, None, List, [], ◌∷◌, length, map, replicate}
 use Rattle.disk_base.specs.Files.{Files}
-use Rattle.db_image.specs.Database.{Database, Outcome}
+use Rattle.db_image.specs.Database.{Database}
+use Rattle.db_image.specs.Ends.{IsShort, KeepsGrammar, end_of}
 use Rattle.ubik_calls.specs.declared.packets.Body.{Body}
 use Rattle.ubik_calls.specs.declared.packets.Body.TheVariants as body
 use Rattle.cell_model.specs.declared.events.NodeEvent.{NodeEvent}
 use Rattle.cell_model.specs.declared.events.NodeEvent.TheVariants as events
 use Rattle.cell_model.specs.declared.events.Output.{Output}
 use Rattle.cell_model.specs.declared.events.Output.TheVariants as output
-use Rattle.cell_model.specs.Evaluating.{Databases}
+use Rattle.cell_model.specs.Evaluating.{Databases, Evaluated, Told, told_by}
 use Rattle.cell_model.specs.Lapse.{lapsed}
 use Rattle.cell_model.specs.Node as model
 use Rattle.cell_model.specs.Node.{Flight, Server, Waiting}
@@ -56,30 +57,44 @@ pub record IsAlike (t : Stepped) (after : Server) (before out : List Output) : T
 
 -- ---- what comes of evaluations
 
--- which of its replies are for want of memory, and what comes of each evaluation
-pub record Frees : Type 0 where
+-- What may come of a call, whatever the image holds: anything within the sizes that keeps the grammar. Only a writing call changes the image,
+-- and none makes it shorter.
+pub record MayBe (db : Database) (e : Evaluated) : Type 0 where
+  pub grammar : KeepsGrammar (db.writes e.call) (end_of e.outcome.reply)
+  pub rests : db.writes e.call ≢ Some true → e.outcome.image ≡ e.image
+  pub short : IsShort (end_of e.outcome.reply)
+  pub longer : length e.image ≤ length e.outcome.image
+
+-- each outcome that is told may be
+abbrev pub MayAllBe : Database → Told → Type 0
+MayAllBe db [] = Unit {0}
+MayAllBe db (one ∷ told) = IfSome one (MayBe db) × MayAllBe db told
+
+-- which of its replies are for want of memory, and what comes of its evaluations
+pub record Frees (db : Database) : Type 0 where
   pub short : List Bool
-  pub outcomes : ℕ → List ℕ → ℕ → List ℕ → Outcome
+  pub told : Told
+  pub may : MayAllBe db told
 
 -- the databases by which the calls of a step are evaluated so, in their order
-abbrev pub free_dbs : Database → Frees → Databases
-free_dbs db free k = record db { call = free.outcomes k }
+abbrev pub free_dbs : (db : Database) → Frees db → Databases
+free_dbs db free = told_by db free.told
 
 -- a rule was made, whatever came of its evaluations
-abbrev pub AlikeSo : (Frees → Stepped) → (after : Server) → (before out : List Output) → Type 0
-AlikeSo t after before out = (free : Frees) × IsAlike (t free) after before out
+abbrev pub AlikeSo : (db : Database) → (Frees db → Stepped) → (after : Server) → (before out : List Output) → Type 0
+AlikeSo db t after before out = (free : Frees db) × IsAlike (t free) after before out
 
--- a call that reads an image, whatever that is, was answered so
-abbrev pub ReadsAlike : Database → Server → (now id : ℕ) → List ℕ → (after : Server) → (before out : List Output) → Type 0
-ReadsAlike db s now id call after before out =
-    (free : Frees)
-    × ((image : List ℕ) (basis : Basis) → IsAlike (read (free_dbs db free 0) s now id call image basis (is_short free.short)) after before out)
+-- a call that reads an image was answered so, whatever came of it
+abbrev pub ReadsAlike : Database → Server → (now id : ℕ) → (call image : List ℕ) → (after : Server) → (before out : List Output) → Type 0
+ReadsAlike db s now id call image after before out =
+    (free : Frees db)
+    × ((basis : Basis) → IsAlike (read (free_dbs db free 0) s now id call image basis (is_short free.short)) after before out)
 
 -- A step that ended so: where it was made, it is one of the rules but for the bytes of images. One that was not made left the server as it was,
 -- or halted it.
 abbrev pub StepsAlike : Database → Member → StepEnd → NodeEvent → ℕ → (before after : model.Node) → List Output → Type 0
 StepsAlike db m Done event now (model.Up s) after outputs =
-    (new : Server) × (after ≡ model.Up new) × AlikeSo (λ free. step_by (free_dbs db free) m s now event free.short) new [] outputs
+    (new : Server) × (after ≡ model.Up new) × AlikeSo db (λ free. step_by (free_dbs db free) m s now event free.short) new [] outputs
 StepsAlike db m Done event now _ after outputs = ⊥
 StepsAlike db m Halted event now (model.Up s) after outputs =
     (after ≡ model.Halted (model.halted_from s)) × (outputs ≡ outputs_of (refusals event))

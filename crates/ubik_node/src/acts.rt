@@ -41,7 +41,7 @@ impl<D: Disk, V: DraftService> Node<D, V> {
         ensures ends { EndsSo D.Disk V.standing (NeedsFiles packet.now (IsSome (D.files self.old.store.disk)))
             (λ o. received_from (dbs_of o) (own_member self.old) (up_server self.old) now host from packet.now o.short)
             out.old out.new (held self.old) (held self.new) result }
-        ensures alike { NeedsHolder packet.now (up_server self.old).waiting (IsSome (D.files self.old.store.disk)) → OnOk result (AlikeSo
+        ensures alike { NeedsHolder packet.now (up_server self.old).waiting (IsSome (D.files self.old.store.disk)) → OnOk result (AlikeSo V.standing.database
             (λ free. received_from (free_dbs V.standing.database free) (own_member self.old) (up_server self.old) now host from packet.now free.short)
             (up_server self.new) out.old out.new) }
         ensures memory { BodyTakesNoMemory packet.now → IsErrOf result StoreFault.DiskFault ⊎ IsOk result }
@@ -77,7 +77,7 @@ impl<D: Disk, V: DraftService> Node<D, V> {
         ensures ends { EndsSo D.Disk V.standing (ActNeeds act.entry (Knows D.Disk self.old) (IsSome (D.files self.old.store.disk)))
             (λ o. stepped_by (dbs_of o) (own_member self.old) now o.short (up_server self.old) act.entry)
             out.old out.new (held self.old) (held self.new) result }
-        ensures alike { ActNeedsTurn act.entry (up_server self.old).waiting (IsSome (D.files self.old.store.disk)) → OnOk result (AlikeSo
+        ensures alike { ActNeedsTurn act.entry (up_server self.old).waiting (IsSome (D.files self.old.store.disk)) → OnOk result (AlikeSo V.standing.database
             (λ free. stepped_by (free_dbs V.standing.database free) (own_member self.old) now free.short (up_server self.old) act.entry)
             (up_server self.new) out.old out.new) }
         ensures memory { ¬ MayEndShort act.entry → IsErrOf result StoreFault.DiskFault ⊎ IsOk result }

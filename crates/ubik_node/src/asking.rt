@@ -49,7 +49,7 @@ impl<D: Disk, V: DraftService> Node<D, V> {
             out.old out.new (held self.old) (held self.new) result }
         ensures alike { (V.standing.database.writes call.now ≡ Some true
             → is_evaluated (own_member self.old) (up_server self.old) now (V.standing.database.writes call.now) ≡ true
-            → IsSome (D.files self.old.store.disk)) → OnOk result (AlikeSo
+            → IsSome (D.files self.old.store.disk)) → OnOk result (AlikeSo V.standing.database
             (λ free. asked (free_dbs V.standing.database free 0) (own_member self.old) (up_server self.old) now id call.now (is_short free.short))
             (up_server self.new) out.old out.new) }
         ensures memory { IsErrOf result StoreFault.DiskFault ⊎ IsOk result }
@@ -78,7 +78,7 @@ impl<D: Disk, V: DraftService> Node<D, V> {
         requires not_halted { self.old.store.failed ≡ false }
         requires few { length out.old ≤ 100 }
         ensures ends { ReadsFrom D.Disk V.standing (held self.old) (held self.new) (announced_image (up_server self.old)) now id call.now out.old out.new result }
-        ensures alike { OnOk result (ReadsAlike V.standing.database (up_server self.old) now id call.now (up_server self.new) out.old out.new) }
+        ensures alike { OnOk result (ReadsAlike V.standing.database (up_server self.old) now id call.now (announced_image (up_server self.old)) (up_server self.new) out.old out.new) }
         ensures memory { IsErrOf result StoreFault.DiskFault ⊎ IsOk result }
     {
         let Some(write) = self.state.in_flight() else {
@@ -99,7 +99,7 @@ impl<D: Disk, V: DraftService> Node<D, V> {
         requires not_halted { self.old.store.failed ≡ false }
         requires few { length out.old ≤ 100 }
         ensures ends { ReadsFrom D.Disk V.standing (held self.old) (held self.new) self.old.state.image now id call.now out.old out.new result }
-        ensures alike { OnOk result (ReadsAlike V.standing.database (up_server self.old) now id call.now (up_server self.new) out.old out.new) }
+        ensures alike { OnOk result (ReadsAlike V.standing.database (up_server self.old) now id call.now self.old.state.image (up_server self.new) out.old out.new) }
         ensures memory { IsErrOf result StoreFault.DiskFault ⊎ IsOk result }
     {
         let made = evaluate::<D, V>(self.alloc, &mut self.store, now, call);

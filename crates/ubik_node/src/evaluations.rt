@@ -3,6 +3,7 @@ ghost use Rattle.std.specs.Prelude.{◌≡◌, ◌<◌, ◌≤◌, ◌⊎◌, fa
 ghost use Rattle.std.specs.Option.{option_map};
 ghost use Rattle.disk_base.specs.Runs.{OnlyReads};
 ghost use Rattle.db_image.specs.Blocks.{PutSome};
+ghost use Rattle.db_image.specs.Ends.{KeepsGrammar, end_of};
 ghost use Rattle.db_image.specs.Images as images;
 ghost use Rattle.ubik_write.specs.Undo.{image_before};
 ghost use Rattle.ubik_store.specs.DurableCall.{HasFailed};
@@ -37,6 +38,7 @@ fn evaluate_over<I: ImageRead, V: DraftService>(
     requires { I.size image ≤ 16777216 }
     ensures made { IfOk result.1 (IsMadeOf V.standing (I.held image) now call.now) }
     ensures len { IfOk result.1 (λ made. made.len ≡ I.size image) }
+    ensures grammar { IfOk result.1 (λ made. KeepsGrammar (V.standing.database.writes call.now) (end_of made.reply)) }
     ensures short { IfOk result.1 (λ made. IsShortReply made.reply) }
     ensures puts { IfOk result.1 (λ made. PutSome made.changes) }
     ensures block { 0 < V.standing.database.block }
@@ -77,6 +79,7 @@ pub fn evaluate<D: Disk, V: DraftService>(
     ensures made { IfOk result (IsMadeOf V.standing (image_in (D.files store.old.disk)) now call.now) }
     ensures len { IfOk result (λ made. made.len ≡ store.old.len) }
     ensures block { 0 < V.standing.database.block }
+    ensures grammar { IfOk result (λ made. KeepsGrammar (V.standing.database.writes call.now) (end_of made.reply)) }
     ensures short { IfOk result (λ made. IsShortReply made.reply) }
     ensures puts { IfOk result (λ made. PutSome made.changes) }
     ensures sound { IsSound D.Disk store.new }
@@ -116,6 +119,7 @@ pub fn evaluate_before<D: Disk, V: DraftService>(
     requires fresh { store.old.failed ≡ false }
     requires fits { flight.now.old_len ≤ 16777216 }
     ensures made { IfOk result (IsMadeOf V.standing (option_map (image_before flight.now.undo flight.now.old_len) (image_in (D.files store.old.disk))) now call.now) }
+    ensures grammar { IfOk result (λ made. KeepsGrammar (V.standing.database.writes call.now) (end_of made.reply)) }
     ensures short { IfOk result (λ made. IsShortReply made.reply) }
     ensures puts { IfOk result (λ made. PutSome made.changes) }
     ensures sound { IsSound D.Disk store.new }

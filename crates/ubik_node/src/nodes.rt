@@ -317,7 +317,7 @@ impl<D: Disk, V: DraftService> Node<D, V> {
         ensures ends { EndsSo D.Disk V.standing (NeedsThen V.standing.database (own_member self.old) (up_server self.old) event.now now (D.files self.old.store.disk))
             (λ o. handled (dbs_of o) (own_member self.old) (up_server self.old) now event.now o.short) out.old out.new (held self.old) (held self.new) result }
         ensures alike { NeedsTurnThen V.standing.database (own_member self.old) (up_server self.old) event.now now (D.files self.old.store.disk)
-            → OnOk result (AlikeSo
+            → OnOk result (AlikeSo V.standing.database
             (λ free. handled (free_dbs V.standing.database free) (own_member self.old) (up_server self.old) now event.now free.short)
             (up_server self.new) out.old out.new) }
         ensures memory { TakesNoMemory event.now → IsErrOf result StoreFault.DiskFault ⊎ IsOk result }
@@ -371,7 +371,7 @@ impl<D: Disk, V: DraftService> Node<D, V> {
         ensures ends { EndsSo D.Disk V.standing (NeedsFiles packet.now.body (IsSome (D.files self.old.store.disk)))
             (λ o. received_packet (dbs_of o) (own_member self.old) (up_server self.old) now packet.now o.short (place_of self.old.state.cell packet.now.from))
             out.old out.new (held self.old) (held self.new) result }
-        ensures alike { NeedsHolder packet.now.body (up_server self.old).waiting (IsSome (D.files self.old.store.disk)) → OnOk result (AlikeSo
+        ensures alike { NeedsHolder packet.now.body (up_server self.old).waiting (IsSome (D.files self.old.store.disk)) → OnOk result (AlikeSo V.standing.database
             (λ free. received_packet (free_dbs V.standing.database free) (own_member self.old) (up_server self.old) now packet.now free.short
             (place_of self.old.state.cell packet.now.from))
             (up_server self.new) out.old out.new) }

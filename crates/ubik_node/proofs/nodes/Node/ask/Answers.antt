@@ -1,11 +1,13 @@
 use Rattle.db_image.specs.Database.{Database}
 use Rattle.cell_model.specs.Writes.{announced_image}
-use Rattle.ubik_node.specs.Alike.{Frees, ReadsAlike, free_dbs}
+use Rattle.ubik_node.specs.Alike.{AlikeSo, Frees, ReadsAlike, free_dbs}
 use Rattle.ubik_node.proofs.Alike.{alike_same, alike_shows, frees_of, made_so, none_free, on_made}
-use Rattle.std.proofs.Common.{◌∙◌, Bool, Option, Some, None, [], ◌∷◌, false, refl, ap, sym, ℕ, List}
-use Rattle.cell_model.specs.Asks.{asked_as, put_into_line, asked}
+use Rattle.std.proofs.Common.{◌≡◌, ◌∙◌, Bool, OnOk, Option, Some, None, Result, [], ◌∷◌, false, refl, ap, sym, ℕ, List}
+use Rattle.cell_model.specs.declared.events.Output.{Output}
+use Rattle.cell_model.specs.Asks.{asked_as, put_into_line, asked, read}
 use Rattle.cell_model.specs.Node.{Flight, Server}
-use Rattle.cell_model.specs.Step.{is_short, Member, Stepped}
+use Rattle.cell_model.specs.Step.{Basis, is_short, Member, Stepped}
+use Rattle.ubik_store.specs.declared.faults.StoreFault.{StoreFault}
 use Rattle.ubik_node.specs.Choices.{dbs_of, none_chosen}
 use Rattle.ubik_node.specs.Evaluation.{is_evaluated}
 use Rattle.ubik_node.specs.Node.{held}
@@ -81,7 +83,7 @@ returns-in-Write-clause-ends g c =
     (made.0, same_ends g.D.Disk (ap kind (sym c.in-Some.ensures) ∙ c.in-Write.ensures.turn db c.args.id c.args.call.now (is_short made.0.short)) (known_ends g.D.Disk (λ needs. needs evaluated) made.1))
 
 -- what becomes of a call, by whether it writes
-abbrev by_kind : (db : Database) (free : Frees) → Member → Server → ℕ → ℕ → List ℕ → Option Bool → Stepped
+abbrev by_kind : (db : Database) (free : Frees db) → Member → Server → ℕ → ℕ → List ℕ → Option Bool → Stepped
 by_kind db free m s now id call w = asked_as (free_dbs db free 0) m s now id call (is_short free.short) w
 
 pub returns-in_default-clause-alike : goal.returns-in_default-clause-alike
@@ -101,25 +103,34 @@ returns-in-Refuse-clause-alike g c = λ needs.
           (alike_shows (record { server = refl; calls = refl; outputs = c.put_reply-in-Refuse.ensures })),
     )
 
+-- a call that reads an image at its turn was answered
+turn_alike : (db : Database) (m : Member) (s : Server) (now id : ℕ) (call image : List ℕ) (w : Option Bool) (after : Server) (before out : List Output) (r : Result (Unit {0}) StoreFault)
+    → ((free : Frees db) → (basis : Basis) × (by_kind db free m s now id call w ≡ read (free_dbs db free 0) s now id call image basis (is_short free.short)))
+    → OnOk r (ReadsAlike db s now id call image after before out) → OnOk r (AlikeSo db (λ free. by_kind db free m s now id call w) after before out)
+turn_alike db m s now id call image w after before out r turn alike =
+    on_made r alike (λ (so : ReadsAlike db s now id call image after before out). let at = turn so.0 in (so.0, alike_same at.1 (so.1 at.0)))
+
 pub returns-in-Read-clause-alike : goal.returns-in-Read-clause-alike
 returns-in-Read-clause-alike g c = λ needs.
     let st = c.args.self.now.state in
+    let s = server_of st in
+    let m = member_of st in
     let db = g.V.DraftService.standing.database in
-    on_made c.read.result c.read.ensures.alike
-    (λ (so : ReadsAlike db (server_of st) c.args.now c.args.id c.args.call.now (server_of c.read.new.self.state) c.args.out.now c.read.new.out).
-    let kind = by_kind db so.0 (member_of st) (server_of st) c.args.now c.args.id c.args.call.now in
-    let turn = c.in-Read.ensures.turn (free_dbs db so.0 0) c.args.id c.args.call.now (is_short so.0.short) in
-    (so.0, alike_same (ap kind (sym c.in-Some.ensures) ∙ turn.1) (so.1 (announced_image (server_of st)) turn.0)))
+    turn_alike db m s c.args.now c.args.id c.args.call.now (announced_image s) (db.writes c.args.call.now) (server_of c.read.new.self.state) c.args.out.now c.read.new.out c.read.result
+    (λ free.
+    let turn = c.in-Read.ensures.turn (free_dbs db free 0) c.args.id c.args.call.now (is_short free.short) in
+    (turn.0, ap (by_kind db free m s c.args.now c.args.id c.args.call.now) (sym c.in-Some.ensures) ∙ turn.1)) c.read.ensures.alike
 
 pub returns-in-ReadOwn-clause-alike : goal.returns-in-ReadOwn-clause-alike
 returns-in-ReadOwn-clause-alike g c = λ needs.
     let st = c.args.self.now.state in
+    let s = server_of st in
+    let m = member_of st in
     let db = g.V.DraftService.standing.database in
-    on_made c.read_own.result c.read_own.ensures.alike
-    (λ (so : ReadsAlike db (server_of st) c.args.now c.args.id c.args.call.now (server_of c.read_own.new.self.state) c.args.out.now c.read_own.new.out).
-    let kind = by_kind db so.0 (member_of st) (server_of st) c.args.now c.args.id c.args.call.now in
-    let turn = c.in-ReadOwn.ensures.turn (free_dbs db so.0 0) c.args.id c.args.call.now (is_short so.0.short) in
-    (so.0, alike_same (ap kind (sym c.in-Some.ensures) ∙ turn.1) (so.1 st.image turn.0)))
+    turn_alike db m s c.args.now c.args.id c.args.call.now st.image (db.writes c.args.call.now) (server_of c.read_own.new.self.state) c.args.out.now c.read_own.new.out c.read_own.result
+    (λ free.
+    let turn = c.in-ReadOwn.ensures.turn (free_dbs db free 0) c.args.id c.args.call.now (is_short free.short) in
+    (turn.0, ap (by_kind db free m s c.args.now c.args.id c.args.call.now) (sym c.in-Some.ensures) ∙ turn.1)) c.read_own.ensures.alike
 
 pub returns-in-Wait-clause-alike : goal.returns-in-Wait-clause-alike
 returns-in-Wait-clause-alike g c = λ needs.
@@ -144,5 +155,5 @@ returns-in-Write-clause-alike g c = λ needs.
     let evaluated = ap (λ (w : Option Bool). is_evaluated (member_of st) (server_of st) c.args.now w) (sym c.in-Some.ensures) ∙ c.in-Write.ensures.evaluates tt in
     let writes = sym c.in-Some.ensures ∙ ap Some (c.in-Write.ensures.writing_call tt) in
     let kind = by_kind db (frees_of made.0) (member_of st) (server_of st) c.args.now c.args.id c.args.call.now in
-    made_so g.D.Disk (λ (free : Frees). asked (free_dbs db free 0) (member_of st) (server_of st) c.args.now c.args.id c.args.call.now (is_short free.short)) c.write_turn.result made.0
+    made_so g.D.Disk (λ (free : Frees db). asked (free_dbs db free 0) (member_of st) (server_of st) c.args.now c.args.id c.args.call.now (is_short free.short)) c.write_turn.result made.0
     (same_ends g.D.Disk (ap kind (sym c.in-Some.ensures) ∙ c.in-Write.ensures.turn (dbs_of made.0 0) c.args.id c.args.call.now (is_short made.0.short)) made.1) (needs writes evaluated)

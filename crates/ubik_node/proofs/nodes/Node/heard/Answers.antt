@@ -53,5 +53,5 @@ returns-clause-alike g c = λ needs.
     let mid = c.packet_heard.new.state in
     let made = c.perform.ensures.alike (holder_needs c.args.packet.now act (server_of c.args.self.now.state).waiting (server_of mid).waiting (IsSome (g.D.Disk.files c.args.self.now.store.disk)) says.need says.line needs) in
     on_made c.perform.result made
-    (λ (so : AlikeSo (λ (free : Frees). stepped_by (free_dbs db free) (member_of mid) c.args.now free.short (server_of mid) act) (server_of c.perform.new.self.state) c.args.out.now c.perform.new.out).
+    (λ (so : AlikeSo db (λ (free : Frees db). stepped_by (free_dbs db free) (member_of mid) c.args.now free.short (server_of mid) act) (server_of c.perform.new.self.state) c.args.out.now c.perform.new.out).
     (so.0, alike_same (says.step (free_dbs db so.0) so.0.short) so.1))

@@ -65,7 +65,7 @@ returns-in-Settle-clause-alike g c =
     let n = c.args.self.now in
     let db = g.V.DraftService.standing.database in
     let ends = c.settle_with_turns.ensures.ends in
-    let t = λ (free : Frees). settled_with_turns (free_dbs db free) (member_of n.state) (server_of n.state) c.args.now free.short in
+    let t = λ (free : Frees db). settled_with_turns (free_dbs db free) (member_of n.state) (server_of n.state) c.args.now free.short in
     rw c.in-Settle.is (λ needs. ⊎_elim
     (λ none. on_made c.settle_with_turns.result (c.settle_with_turns.ensures.alike none)
     (λ (so : (dbs : Databases) (short : List Bool) → IsAlike (settled_with_turns dbs (member_of n.state) (server_of n.state) c.args.now short) (server_of c.settle_with_turns.new.self.state) c.args.out.now c.settle_with_turns.new.out).

@@ -1,5 +1,5 @@
 use Rattle.ubik_node.proofs.Alike.{read_alike}
-use Rattle.std.proofs.Common.{◌≡◌, ◌∙◌, ℕ, List, Option, Some, None, sym, ap, subst, arith}
+use Rattle.std.proofs.Common.{◌≡◌, ◌∙◌, ℕ, List, OnOk, Option, Some, None, sym, ap, subst, arith}
 use Rattle.std.specs.Option.{option_map}
 use Rattle.std.specs.Prelude.{option_copied}
 use Rattle.cell_model.specs.Writes.{announced_image, image_before}
@@ -7,6 +7,7 @@ use Rattle.site_writes.specs.OwnWrite.{OwnRecord}
 use Rattle.ubik_store.specs.Store.{image_in}
 use Rattle.ubik_write.specs.Flight.{FlightRecord}
 use Rattle.ubik_write.specs.Undo as undo
+use Rattle.ubik_node.specs.Alike.{ReadsAlike}
 use Rattle.ubik_node.specs.Node.{held, up_server}
 use Rattle.ubik_node.specs.Serving.{ReadsFrom}
 use Rattle.server_state.specs.Writing.{own_of}
@@ -52,8 +53,15 @@ evaluate_before-made-requires-clause-fits g c =
     omega (arith, undone.fits, ap (λ (f : FlightRecord). f.old_len) c.flight.ensures.flight)
 
 pub returns-in_default-clause-alike : goal.returns-in_default-clause-alike
-returns-in_default-clause-alike g c = c.read_own.ensures.alike
+returns-in_default-clause-alike g c =
+    let n = c.args.self.now in
+    let none : own_of n.state.writes ≡ None = sym c.in_flight.ensures ∙ ap option_copied c.in_default.is in
+    let s = up_server n in
+    subst (λ (image : List ℕ). OnOk c.read_own.result (ReadsAlike g.V.DraftService.standing.database s c.args.now c.args.id c.args.call.now image (up_server c.read_own.new.self) c.args.out.now c.read_own.new.out))
+    (sym (ap (announced n.state.image) none)) c.read_own.ensures.alike
 
 pub returns-clause-alike : goal.returns-clause-alike
 returns-clause-alike g c =
-    read_alike g.V.DraftService.standing.database (up_server c.args.self.now) c.args.now c.args.id c.args.call.now c.args.out.now c.answer_read.new.out c.evaluate_before-made.result c.answer_read.result c.answer_read.ensures.replied
+    let s = up_server c.args.self.now in
+    read_alike g.V.DraftService.standing.database s c.args.now c.args.id c.args.call.now (announced_image s) c.args.out.now c.answer_read.new.out c.evaluate_before-made.result c.answer_read.result
+    c.evaluate_before-made.ensures.grammar c.evaluate_before-made.ensures.short c.answer_read.ensures.replied

@@ -22,4 +22,6 @@ returns-clause-ends g c =
 
 pub returns-clause-alike : goal.returns-clause-alike
 returns-clause-alike g c =
-    read_alike g.V.DraftService.standing.database (server_of c.args.self.now.state) c.args.now c.args.id c.args.call.now c.args.out.now c.answer_read.new.out c.evaluate-made.result c.answer_read.result c.answer_read.ensures.replied
+    let st = c.args.self.now.state in
+    read_alike g.V.DraftService.standing.database (server_of st) c.args.now c.args.id c.args.call.now st.image c.args.out.now c.answer_read.new.out c.evaluate-made.result c.answer_read.result
+    c.evaluate-made.ensures.grammar c.evaluate-made.ensures.short c.answer_read.ensures.replied

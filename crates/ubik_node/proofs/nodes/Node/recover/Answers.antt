@@ -50,6 +50,6 @@ returns-clause-alike g c =
     let act = c.in_ok-act.act in
     let mid = c.recovery_turn.new.state in
     on_made c.perform.result (c.perform.ensures.alike (no_turn act (server_of mid).waiting (IsSome (g.D.Disk.files c.args.self.now.store.disk)) says.need))
-    (λ (so : AlikeSo (λ (free : Frees). stepped_by (free_dbs db free) (member_of mid) c.args.now free.short (server_of mid) act) (server_of c.perform.new.self.state) c.recovery_turn.new.out c.perform.new.out).
+    (λ (so : AlikeSo db (λ (free : Frees db). stepped_by (free_dbs db free) (member_of mid) c.args.now free.short (server_of mid) act) (server_of c.perform.new.self.state) c.recovery_turn.new.out c.perform.new.out).
     let goes = says.step (free_dbs db so.0) so.0.short in
     alike_same goes.step (alike_behind goes.shown goes.outputs so.1))

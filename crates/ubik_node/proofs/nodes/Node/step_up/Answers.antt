@@ -61,12 +61,12 @@ returns g c =
       keeps = λ needs brings holds. steps_keep g.D.Disk d keeps (member_of st) c.end.result e now (node_of n) (node_of c.end.new.self) c.end.new.out n.store.disk c.end.new.self.store.disk holds brings (meant needs holds);
       alike = λ needs.
           subst (λ (x : model.Node). StepsAlike d.database (member_of st) c.end.result e now x (node_of c.end.new.self) c.end.new.out) (sym up)
-          (closed_alike g.D.Disk d.database (member_of st) (server_of st) e now shown (λ (free : Frees). let u = handled (free_dbs d.database free) (member_of mid) (server_of mid) now e free.short in record { server = u.server; calls = u.calls; shown = shown ++ u.shown })
+          (closed_alike g.D.Disk d.database (member_of st) (server_of st) e now shown (λ (free : Frees d.database). let u = handled (free_dbs d.database free) (member_of mid) (server_of mid) now e free.short in record { server = u.server; calls = u.calls; shown = shown ++ u.shown })
           first (held later) (held c.end.new.self) c.handle-end.new.out c.end.new.out back c.end.result
           (λ free. step_comes (free_dbs d.database free) (member_of st) (server_of st) (server_of mid) now e free.short shows.server shows.calls ∙ ap (λ (k : Member). let u = handled (free_dbs d.database free) k (server_of mid) now e free.short in record { server = u.server; calls = u.calls; shown = shown ++ u.shown }) (sym kept.member))
           c.handle-end.result ends
           (on_made c.handle-end.result (c.handle-end.ensures.alike (turn_lapsed d.database (member_of st) (member_of mid) (server_of st) (server_of mid) e now (g.D.Disk.files n.store.disk) shows.server kept.member (subst (λ (x : model.Node). NeedsTurn d.database (member_of st) x e now (g.D.Disk.files n.store.disk)) up needs)))
-          (λ (made : AlikeSo (λ (free : Frees). handled (free_dbs d.database free) (member_of mid) (server_of mid) now e free.short) (server_of later.state) c.lapse-given.new.out c.handle-end.new.out). (made.0, alike_behind {before = []} shown empty made.1)))
+          (λ (made : AlikeSo d.database (λ (free : Frees d.database). handled (free_dbs d.database free) (member_of mid) (server_of mid) now e free.short) (server_of later.state) c.lapse-given.new.out c.handle-end.new.out). (made.0, alike_behind {before = []} shown empty made.1)))
           returns (λ failed. back_keeps c.lapse-given.result later.state mid (ends.keeps failed) ∙ sym (ap model.halted_from c.lapse-given.ensures.back)) c.end.ensures);
       member = so.member ∙ kept.member;
       memory = λ none. closed_memory e (held later) (held c.end.new.self) c.handle-end.new.out c.end.new.out back c.end.result c.handle-end.result (c.handle-end.ensures.memory none) c.end.ensures;
