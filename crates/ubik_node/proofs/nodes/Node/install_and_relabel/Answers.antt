@@ -68,8 +68,8 @@ returns-in_err-relabel-clause-ends g c =
     (c.install.ensures.durable c.requires.not_halted) (λ failed. false≢true (ap is_err (sym c.in_ok-install.was ∙ failed))) c.relabel.new.self v refl refl (ap (λ (calls : List Made). installs ∷ own_relabelling v ∷ calls) (settled_calls m (relabelled_to m s (polled_of c.args.next) v).server)) c.in_err-relabel.field-0.0 c.in_err-relabel.ensures.ended
     (λ is. c.in_err-relabel.ensures.no_memory done.room (ap Err is)) (ap (λ (w : Version). version_lt w v) done.version ∙ c.requires.newer) (c.in_err-relabel.ensures.durable done.failed))
 
-pub returns-clause-ends : goal.returns-clause-ends
-returns-clause-ends g c =
+pub returns : goal.returns
+returns g c =
     let n = c.args.self.now in
     let st = n.state in
     let m = member_of st in
@@ -78,6 +78,7 @@ returns-clause-ends g c =
     let poll = polled_of c.args.next in
     let v = c.args.new in
     let installs : Made = record { call = durable.Install best text; reason = Received } in
+    let bytes = c.of.result in
     let done = c.in_ok-install.ensures.ended in
     let also = c.in_ok-relabel.ensures.ended in
     let later = c.relabel.new.self in
@@ -87,21 +88,34 @@ returns-clause-ends g c =
     let s = with_database (server_of st) best text in
     let after : Server = (relabelled_to m s poll v).server in
     let sent : Server → Member → Server = λ x k. with_phase (with_database x v x.image) (Send poll (record { old = x.version; holders = only_holder k })) in
-    both_made g.D.Disk (held n) c.args.self.now.stored c.requires.not_halted c.install.new.self c.install.ensures.sound (whole_image text) best text installs (own_relabelling v) (effect_whole st.image text) refl (λ _. (tt, tt)) refl
-    done (c.install.ensures.durable c.requires.not_halted) (λ failed. false≢true (ap is_err (sym c.in_ok-install.was ∙ failed))) later v refl refl (ap (λ (calls : List Made). installs ∷ own_relabelling v ∷ calls) (settled_calls m after))
-    (server_of last) (member_of last) (c.settle.ensures.kept.member ∙ c.begin_sending.ensures.place ∙ c.take_over.ensures.place) also (c.relabel.ensures.durable done.failed) (λ failed. false≢true (ap is_err (sym c.in_ok-relabel.was ∙ failed)))
-    (λ told.
-    let bytes = held_twice (g.D.Disk.files n.store.disk) (g.D.Disk.files c.install.new.self.disk) (g.D.Disk.files later.disk) later.len text c.of.result told c.in_ok-install.ensures.image also.image c.of.ensures in
-    let sends : server_of sending ≡ after =
-    c.begin_sending.ensures.after ∙ ap (λ (x : Server). sent x (member_of took)) (c.take_over.ensures.after ∙ ap (λ (xs : List ℕ). with_database (server_of st) best xs) bytes) ∙ ap (sent s) c.take_over.ensures.place in
+    let sends : server_of sending ≡ record after { image = bytes } =
+    c.begin_sending.ensures.after ∙ ap (λ (x : Server). sent x (member_of took)) c.take_over.ensures.after ∙ ap (sent (with_database (server_of st) best bytes)) c.take_over.ensures.place in
     let place : member_of sending ≡ m = c.begin_sending.ensures.place ∙ c.take_over.ensures.place in
-    let shows : ShowsBehind (settled m after) (server_of last) c.give.new.out c.settle.new.out =
+    let shows : ShowsBehind (settled m (record after { image = bytes })) (server_of last) c.give.new.out c.settle.new.out =
     subst (λ (x : Server). ShowsBehind (settled m x) (server_of last) c.give.new.out c.settle.new.out) sends
-    (subst (λ (x : Member). ShowsBehind (settled x (server_of sending)) (server_of last) c.give.new.out c.settle.new.out) place c.settle.ensures.shows) in (
-      shows.server,
-      relabel_outputs m poll best after c.poll.result (length text) c.in_ok-bytes_of.field-0 c.args.out.now c.give.new.out c.settle.new.out (settled m after).shown st.place c.poll.ensures refl
-          (λ more. first_of text c.in_ok-bytes_of.field-0 c.min.result (omega (arith, c.min.ensures)) c.in_ok-bytes_of.ensures) c.in_ok-give.ensures.given shows.outputs,
-    ))
+    (subst (λ (x : Member). ShowsBehind (settled x (server_of sending)) (server_of last) c.give.new.out c.settle.new.out) place c.settle.ensures.shows) in
+    -- what it puts out, once it is known what the settling shows
+    let puts = λ (out : c.settle.new.out ≡ c.give.new.out ++ outputs_of (settled m after).shown).
+    relabel_outputs m poll best after c.poll.result (length text) c.in_ok-bytes_of.field-0 c.args.out.now c.give.new.out c.settle.new.out (settled m after).shown st.place c.poll.ensures refl
+    (λ more. first_of text c.in_ok-bytes_of.field-0 c.min.result (omega (arith, c.min.ensures)) c.in_ok-bytes_of.ensures) c.in_ok-give.ensures.given out in
+    let long : length bytes ≡ length text =
+    ap length c.of.ensures ∙ held_length g.D.Disk later (c.relabel.ensures.sound.ready also.failed) ∙ also.len ∙ done.len
+    ∙ ap (λ (k : ℕ). len_after k (whole_image text)) (c.args.self.now.stored.len c.requires.not_halted) ∙ sym (length-effect st.image (whole_image text)) ∙ ap length (effect_whole st.image text) in
+    let alike = settled_alike m after bytes text long in
+    record {
+      ends =
+          both_made g.D.Disk (held n) c.args.self.now.stored c.requires.not_halted c.install.new.self c.install.ensures.sound (whole_image text) best text installs (own_relabelling v) (effect_whole st.image text) refl (λ _. (tt, tt)) refl
+          done (c.install.ensures.durable c.requires.not_halted) (λ failed. false≢true (ap is_err (sym c.in_ok-install.was ∙ failed))) later v refl refl (ap (λ (calls : List Made). installs ∷ own_relabelling v ∷ calls) (settled_calls m after))
+          (server_of last) (member_of last) (c.settle.ensures.kept.member ∙ place) also (c.relabel.ensures.durable done.failed) (λ failed. false≢true (ap is_err (sym c.in_ok-relabel.was ∙ failed)))
+          (λ told.
+          let whole = held_twice (g.D.Disk.files n.store.disk) (g.D.Disk.files c.install.new.self.disk) (g.D.Disk.files later.disk) later.len text bytes told c.in_ok-install.ensures.image also.image c.of.ensures in
+          let known = subst (λ (xs : List ℕ). ShowsBehind (settled m (record after { image = xs })) (server_of last) c.give.new.out c.settle.new.out) whole shows in
+          (known.server, puts known.outputs));
+      alike = record {
+        server = sym alike.0 ∙ ap blank shows.server;
+        outputs = ap blank_outputs (puts (shows.outputs ∙ ap (λ (shown : List Shown). c.give.new.out ++ outputs_of shown) alike.1));
+      };
+    }
 
 pub give-requires-clause-few : goal.give-requires-clause-few
 give-requires-clause-few g c = omega (arith, c.requires.few)
@@ -114,39 +128,3 @@ slice_bounds-first-end g c = omega (arith, length-take c.min.result c.args.text.
 
 pub give-requires-clause-plain : goal.give-requires-clause-plain
 give-requires-clause-plain g c = record { old = c.requires.may.version; new = c.requires.new; piece = omega (arith, ap length c.in_ok-bytes_of.ensures, length-take c.min.result c.args.text.now, c.min.ensures) }
-
-pub returns-clause-alike : goal.returns-clause-alike
-returns-clause-alike g c =
-    let n = c.args.self.now in
-    let st = n.state in
-    let m = member_of st in
-    let text = c.args.text.now in
-    let best = c.args.best in
-    let poll = polled_of c.args.next in
-    let v = c.args.new in
-    let bytes = c.of.result in
-    let done = c.in_ok-install.ensures.ended in
-    let also = c.in_ok-relabel.ensures.ended in
-    let later = c.relabel.new.self in
-    let took = c.take_over.new.self in
-    let sending = c.begin_sending.new.self in
-    let last = c.settle.new.self in
-    let after : Server = (relabelled_to m (with_database (server_of st) best text) poll v).server in
-    let sent : Server → Member → Server = λ x k. with_phase (with_database x v x.image) (Send poll (record { old = x.version; holders = only_holder k })) in
-    let long : length bytes ≡ length text =
-    ap length c.of.ensures ∙ held_length g.D.Disk later (c.relabel.ensures.sound.ready also.failed) ∙ also.len ∙ done.len
-    ∙ ap (λ (k : ℕ). len_after k (whole_image text)) (c.args.self.now.stored.len c.requires.not_halted) ∙ sym (length-effect st.image (whole_image text)) ∙ ap length (effect_whole st.image text) in
-    let sends : server_of sending ≡ record after { image = bytes } =
-    c.begin_sending.ensures.after ∙ ap (λ (x : Server). sent x (member_of took)) c.take_over.ensures.after ∙ ap (sent (with_database (server_of st) best bytes)) c.take_over.ensures.place in
-    let place : member_of sending ≡ m = c.begin_sending.ensures.place ∙ c.take_over.ensures.place in
-    let shows : ShowsBehind (settled m (record after { image = bytes })) (server_of last) c.give.new.out c.settle.new.out =
-    subst (λ (x : Server). ShowsBehind (settled m x) (server_of last) c.give.new.out c.settle.new.out) sends
-    (subst (λ (x : Member). ShowsBehind (settled x (server_of sending)) (server_of last) c.give.new.out c.settle.new.out) place c.settle.ensures.shows) in
-    let alike = settled_alike m after bytes text long in
-    record {
-      server = sym alike.0 ∙ ap blank shows.server;
-      outputs =
-          ap blank_outputs (relabel_outputs m poll best after c.poll.result (length text) c.in_ok-bytes_of.field-0 c.args.out.now c.give.new.out c.settle.new.out (settled m after).shown st.place c.poll.ensures refl
-          (λ more. first_of text c.in_ok-bytes_of.field-0 c.min.result (omega (arith, c.min.ensures)) c.in_ok-bytes_of.ensures) c.in_ok-give.ensures.given
-          (shows.outputs ∙ ap (λ (shown : List Shown). c.give.new.out ++ outputs_of shown) alike.1));
-    }

@@ -48,8 +48,8 @@ returns-in_err-relabel-clause-ends g c =
     (subst (λ (w : Version). version_lt w v ≡ true) (sym (stays.version ∙ c.args.self.now.stored.version c.requires.not_halted)) c.requires.may.newer) (λ bytes long. absurd long)
     (c.in_err-relabel.ensures.durable (stays.failed ∙ c.requires.not_halted)))
 
-pub returns-clause-ends : goal.returns-clause-ends
-returns-clause-ends g c =
+pub returns : goal.returns
+returns g c =
     let n = c.args.self.now in
     let st = n.state in
     let m = member_of st in
@@ -67,39 +67,28 @@ returns-clause-ends g c =
     let shows : ShowsBehind (settled m after) (server_of last) c.give.new.out c.settle.new.out =
     subst (λ (x : Server). ShowsBehind (settled m x) (server_of last) c.give.new.out c.settle.new.out) sends
     (subst (λ (x : Member). ShowsBehind (settled x (server_of before)) (server_of last) c.give.new.out c.settle.new.out) c.begin_sending.ensures.place c.settle.ensures.shows) in
-    call_made g.D.Disk (held n) c.args.self.now.stored c.requires.not_halted c.first_piece.new.store c.in_ok-piece.ensures.disk went still (stays.failed ∙ c.requires.not_halted) later [] v st.image (own_relabelling v)
-    refl refl (λ _. tt) refl (ap (λ (calls : List Made). own_relabelling v ∷ calls) (settled_calls m after)) (server_of last) (member_of last) (c.settle.ensures.kept.member ∙ c.begin_sending.ensures.place) done
-    (c.relabel.ensures.durable (stays.failed ∙ c.requires.not_halted)) (λ failed. ok_not c.in_ok-relabel.field-0 (sym c.in_ok-relabel.was ∙ failed))
-    (λ knows. (
-      shows.server,
-      relabel_outputs m poll st.version after c.poll.result c.len-2.result c.in_ok-piece.piece c.args.out.now c.give.new.out c.settle.new.out (settled m after).shown st.place c.poll.ensures c.len-2.ensures
-          (λ more. piece_known (g.D.Disk.files n.store.disk) c.in_ok-piece.piece st.image 0 (knows more) (c.in_ok-piece.ensures.piece (subst (λ (k : ℕ). 1 < k) (sym c.len.ensures.len) more)) (c.args.self.now.stored.image c.requires.not_halted))
-          c.in_ok-give.ensures.given shows.outputs,
-    ))
+    record {
+      ends =
+          call_made g.D.Disk (held n) c.args.self.now.stored c.requires.not_halted c.first_piece.new.store c.in_ok-piece.ensures.disk went still (stays.failed ∙ c.requires.not_halted) later [] v st.image (own_relabelling v)
+          refl refl (λ _. tt) refl (ap (λ (calls : List Made). own_relabelling v ∷ calls) (settled_calls m after)) (server_of last) (member_of last) (c.settle.ensures.kept.member ∙ c.begin_sending.ensures.place) done
+          (c.relabel.ensures.durable (stays.failed ∙ c.requires.not_halted)) (λ failed. ok_not c.in_ok-relabel.field-0 (sym c.in_ok-relabel.was ∙ failed))
+          (λ knows. (
+            shows.server,
+            relabel_outputs m poll st.version after c.poll.result c.len-2.result c.in_ok-piece.piece c.args.out.now c.give.new.out c.settle.new.out (settled m after).shown st.place c.poll.ensures c.len-2.ensures
+                (λ more. piece_known (g.D.Disk.files n.store.disk) c.in_ok-piece.piece st.image 0 (knows more) (c.in_ok-piece.ensures.piece (subst (λ (k : ℕ). 1 < k) (sym c.len.ensures.len) more)) (c.args.self.now.stored.image c.requires.not_halted))
+                c.in_ok-give.ensures.given shows.outputs,
+          ));
+      alike = record {
+        server = ap blank shows.server;
+        outputs =
+            relabel_alike m poll st.version after c.poll.result c.len-2.result c.in_ok-piece.piece c.args.out.now c.give.new.out c.settle.new.out (settled m after).shown st.place c.poll.ensures c.len-2.ensures
+            (λ more. c.in_ok-piece.ensures.len (subst (λ (k : ℕ). 1 < k) (sym c.len.ensures.len) more) ∙ ap (λ (k : ℕ). min 8192 (k - 0)) (c.args.self.now.stored.len c.requires.not_halted) ∙ sym (piece_long st.image 0))
+            c.in_ok-give.ensures.given shows.outputs;
+      };
+    }
 
 pub give-requires-clause-few : goal.give-requires-clause-few
 give-requires-clause-few g c = c.requires.few
 
 pub give-requires-clause-plain : goal.give-requires-clause-plain
 give-requires-clause-plain g c = record { old = own_version c.args.self.now.state; new = c.requires.may.version; piece = c.in_ok-piece.ensures.short }
-
-pub returns-clause-alike : goal.returns-clause-alike
-returns-clause-alike g c =
-    let n = c.args.self.now in
-    let st = n.state in
-    let m = member_of st in
-    let poll = polled_of c.args.next in
-    let before = c.begin_sending.new.self in
-    let last = c.settle.new.self in
-    let after : Server = (relabelled_to m (server_of st) poll c.args.new).server in
-    let sends : server_of before ≡ after = c.begin_sending.ensures.after in
-    let shows : ShowsBehind (settled m after) (server_of last) c.give.new.out c.settle.new.out =
-    subst (λ (x : Server). ShowsBehind (settled m x) (server_of last) c.give.new.out c.settle.new.out) sends
-    (subst (λ (x : Member). ShowsBehind (settled x (server_of before)) (server_of last) c.give.new.out c.settle.new.out) c.begin_sending.ensures.place c.settle.ensures.shows) in
-    record {
-      server = ap blank shows.server;
-      outputs =
-          relabel_alike m poll st.version after c.poll.result c.len-2.result c.in_ok-piece.piece c.args.out.now c.give.new.out c.settle.new.out (settled m after).shown st.place c.poll.ensures c.len-2.ensures
-          (λ more. c.in_ok-piece.ensures.len (subst (λ (k : ℕ). 1 < k) (sym c.len.ensures.len) more) ∙ ap (λ (k : ℕ). min 8192 (k - 0)) (c.args.self.now.stored.len c.requires.not_halted) ∙ sym (piece_long st.image 0))
-          c.in_ok-give.ensures.given shows.outputs;
-    }

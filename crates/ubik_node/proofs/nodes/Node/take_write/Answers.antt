@@ -40,8 +40,8 @@ returns-in_err-commit_all-clause-ends g c =
     newer (λ bytes long. absurd long)
     (subst (λ (cs : List Change). IsDurable g.D.Disk cs v n.store later (IsErrOf (ended e) DiskFault)) same c.in_err-commit_all.ensures.durable))
 
-pub returns-clause-ends : goal.returns-clause-ends
-returns-clause-ends g c =
+pub returns : goal.returns
+returns g c =
     let n = c.args.self.now in
     let st = n.state in
     let v = c.args.new in
@@ -50,28 +50,22 @@ returns-clause-ends g c =
     let kept = logged (length st.image) c.args.changes.now in
     let same : logged n.store.len c.as_slice.result.now ≡ kept = ap (λ (cs : List Change). logged n.store.len cs) c.as_slice.ensures ∙ ap (λ (k : ℕ). logged k c.args.changes.now) (c.args.self.now.stored.len c.requires.not_halted) in
     let done : Commits g.D.Disk kept v n.store later = subst (λ (cs : List Change). Commits g.D.Disk cs v n.store later) same c.in_ok-commit_all.ensures.done in
-    call_made g.D.Disk (held n) c.args.self.now.stored c.requires.not_halted n.store (reads_none g.D.Disk n.store.disk) (λ none. none) c.args.self.now.stored c.requires.not_halted later
-    kept v (effect st.image kept) (record { call = durable.Commit v kept (effect st.image kept); reason = Received }) refl refl (λ cuts. cuts) refl refl (server_of last) (member_of last) c.take_over.ensures.place done
-    (subst (λ (cs : List Change). IsDurable g.D.Disk cs v n.store later (IsErrOf c.commit_all.result DiskFault)) same c.commit_all.ensures.durable) (λ failed. ok_not c.in_ok-commit_all.field-0 (sym c.in_ok-commit_all.was ∙ failed))
-    (λ told. (
-      sym (c.take_over.ensures.after
-          ∙ ap (λ (bytes : List ℕ). with_database (server_of st) v bytes) (c.of.ensures ∙ held_after (g.D.Disk.files n.store.disk) (g.D.Disk.files later.disk) later.len kept st.image (effect st.image kept) told (c.args.self.now.stored.image c.requires.not_halted) done.image refl)),
-      c.send.ensures.sent ∙ ap (λ (m : Member). c.args.out.now ++ outputs_of (sends_to m c.args.to (body.VersionKept v))) c.take_over.ensures.place,
-    ))
-
-pub returns-clause-alike : goal.returns-clause-alike
-returns-clause-alike g c =
-    let n = c.args.self.now in
-    let st = n.state in
-    let v = c.args.new in
-    let later = c.commit_all.new.store in
-    let kept = logged (length st.image) c.args.changes.now in
-    let same : logged n.store.len c.as_slice.result.now ≡ kept = ap (λ (cs : List Change). logged n.store.len cs) c.as_slice.ensures ∙ ap (λ (k : ℕ). logged k c.args.changes.now) (c.args.self.now.stored.len c.requires.not_halted) in
-    let done : Commits g.D.Disk kept v n.store later = subst (λ (cs : List Change). Commits g.D.Disk cs v n.store later) same c.in_ok-commit_all.ensures.done in
+    let told_so = c.send.ensures.sent ∙ ap (λ (m : Member). c.args.out.now ++ outputs_of (sends_to m c.args.to (body.VersionKept v))) c.take_over.ensures.place in
     let long : length (effect st.image kept) ≡ length c.of.result =
     length-effect st.image kept ∙ ap (λ (k : ℕ). len_after k kept) (sym (c.args.self.now.stored.len c.requires.not_halted)) ∙ sym done.len
     ∙ sym (ap length c.of.ensures ∙ held_length g.D.Disk later (c.commit_all.ensures.sound.ready done.failed)) in
     record {
-      server = blank_database (server_of st) v (effect st.image kept) c.of.result long ∙ ap blank (sym c.take_over.ensures.after);
-      outputs = ap blank_outputs (c.send.ensures.sent ∙ ap (λ (m : Member). c.args.out.now ++ outputs_of (sends_to m c.args.to (body.VersionKept v))) c.take_over.ensures.place);
+      ends =
+          call_made g.D.Disk (held n) c.args.self.now.stored c.requires.not_halted n.store (reads_none g.D.Disk n.store.disk) (λ none. none) c.args.self.now.stored c.requires.not_halted later
+          kept v (effect st.image kept) (record { call = durable.Commit v kept (effect st.image kept); reason = Received }) refl refl (λ cuts. cuts) refl refl (server_of last) (member_of last) c.take_over.ensures.place done
+          (subst (λ (cs : List Change). IsDurable g.D.Disk cs v n.store later (IsErrOf c.commit_all.result DiskFault)) same c.commit_all.ensures.durable) (λ failed. ok_not c.in_ok-commit_all.field-0 (sym c.in_ok-commit_all.was ∙ failed))
+          (λ told. (
+            sym (c.take_over.ensures.after
+                ∙ ap (λ (bytes : List ℕ). with_database (server_of st) v bytes) (c.of.ensures ∙ held_after (g.D.Disk.files n.store.disk) (g.D.Disk.files later.disk) later.len kept st.image (effect st.image kept) told (c.args.self.now.stored.image c.requires.not_halted) done.image refl)),
+            told_so,
+          ));
+      alike = record {
+        server = blank_database (server_of st) v (effect st.image kept) c.of.result long ∙ ap blank (sym c.take_over.ensures.after);
+        outputs = ap blank_outputs told_so;
+      };
     }
