@@ -24,6 +24,7 @@ pub mod Made
 pub mod MadeOver
 pub mod Places
 pub mod Putting
+pub mod ReadImages
 pub mod Reading
 pub mod Received
 pub mod Relabelled
