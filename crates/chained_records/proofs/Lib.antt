@@ -1,5 +1,6 @@
 pub mod Becoming
 pub mod Empty
+pub mod Entered
 pub mod Fields
 pub mod HeadSet
 pub mod HeadTold

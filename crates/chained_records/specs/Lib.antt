@@ -1,3 +1,4 @@
 pub mod Chained
+pub mod Changes
 pub mod Ends
 pub mod Sought

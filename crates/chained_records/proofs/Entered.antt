@@ -1,0 +1,112 @@
+-- A word that comes in front of one chain, and the chains beside it.
+use Rattle.std.proofs.Common.{◌≡◌, ◌≢◌, ℕ, zero, suc, ◌+◌, ◌-◌, ◌*◌, ◌/◌, ◌%◌, ◌^◌, ◌<◌, ◌≤◌, ◌⊎◌, inl, inr, ⊎_elim, true, List, [], ◌∷◌, ◌++◌, length, get_or, refl, sym, ap, subst, ◌∙◌, arith}
+use Rattle.std.specs.List.{AllByRecursion, Contains}
+use Rattle.std.proofs.lemmas.Bool.{cases_eq, cases_order}
+use Rattle.std.proofs.Math.Nat.{mul-le-mul_right}
+use Rattle.db_blocks.specs.Blocks.{block_count, word_at}
+use Rattle.db_chains.specs.declared.links.Links.{Links}
+use Rattle.db_chains.specs.Chains.{HasChain}
+use Rattle.db_chains.specs.Changes.{IsHeadPlace, MayEnter, put_in}
+use Rattle.db_chains.specs.Free.{free_links}
+use Rattle.db_chains.specs.Links.{AreLinks, is_right}
+use Rattle.db_chains.specs.Others.{AreApart, AreOtherSorts}
+use Rattle.db_chains.proofs.Changed.{chain_put_in}
+use Rattle.db_chains.proofs.Others.{put_chains, put_sorts}
+use Rattle.db_chains.proofs.Words.{right_names}
+use Rattle.chained_records.specs.Chained.{Visits}
+
+-- ---- lists
+
+not_among : (P : ℕ → Type 0) (n : ℕ) (ws : List ℕ) → ((w : ℕ) → Contains ws w → P w) → (P n → ⊥) → AllByRecursion (λ v. v ≢ n) ws
+not_among P n [] all never = tt
+not_among P n (w ∷ ws) all never = (
+  λ same. never (subst P same (all w (0, omega arith, refl))),
+  not_among P n ws (λ v has. all v (suc has.0, omega (arith, has.1), has.2)) never,
+)
+
+first_or_rest : (n w : ℕ) (ws : List ℕ) (i : ℕ) → i < length (n ∷ ws) → get_or (n ∷ ws) i w ≡ w → Contains ws w ⊎ (w ≡ n)
+first_or_rest n w ws zero below at = inr (sym at)
+first_or_rest n w ws (suc i) below at = inl (i, omega arith, at)
+
+-- ---- words of a chain are small
+
+small_by : (w step len count : ℕ) → 0 < step → step ≤ 4 → w / step ≤ count → 192 * count ≤ len → len < 2 ^ 31 → w < 2 ^ 32
+small_by w step len count some few within fits short =
+    let all : step * (w / step) + w % step ≡ w = omega (arith, some) in
+    let rest : w % step < step = omega (arith, some) in
+    let more : step * (w / step) ≤ 4 * (w / step) = mul-le-mul_right (w / step) few in
+    omega (arith, all, rest, more)
+
+right_small : (l : Links) (image : List ℕ) (w : ℕ) → AreLinks l → l.step ≤ 4 → length image < 2 ^ 31 → w / l.step ≤ block_count l.head image
+    → w < 2 ^ 32
+right_small l image w links few short within =
+    small_by w l.step (length image) (block_count l.head image) links.step few within (omega arith) short
+
+-- a place in which a right word or 0 stands
+small_word : (l : Links) (image : List ℕ) (at : ℕ) (ws : List ℕ) → AreLinks l → l.step ≤ 4 → length image < 2 ^ 31 → HasChain l image at ws
+    → word_at image at < 2 ^ 32
+small_word l image at [] links few short chain = omega (arith, chain)
+small_word l image at (w ∷ ws) links few short chain =
+    let n = right_names l image w chain.1 in
+    omega (arith, chain.0, right_small l image w links few short n.block)
+
+-- ---- the chain that a word comes into, and others of its sort
+
+put_own : (l : Links) (image : List ℕ) (at n : ℕ) (P : ℕ → Type 0) → AreLinks l → l.step ≤ 4 → at + 4 ≤ l.head → l.head ≤ length image
+    → length image < 2 ^ 31 → is_right l image n ≡ true → (P n → ⊥) → Visits l image at P → Visits l (put_in l at n image) at (λ w. P w ⊎ (w ≡ n))
+put_own l image at n P links few in_head long short is never v =
+    let may : MayEnter l image n v.words = record { right = is; new = not_among P n v.words v.only never } in
+    let names = right_names l image n is in record {
+      words = n ∷ v.words;
+      chain = chain_put_in l image at n [] v.words links (inl in_head) (omega arith) v.chain may (right_small l image n links few short names.block)
+          (small_word l image at v.words links few short v.chain);
+      only = λ w has. ⊎_elim (λ (among : Contains v.words w). inl (v.only w among)) (λ (same : w ≡ n). inr same)
+          (first_or_rest n w v.words has.0 has.1 has.2);
+      each = λ w belongs. ⊎_elim
+          (λ (old : P w). let has = v.each w old in (suc has.0, omega (arith, has.1), has.2))
+          (λ (same : w ≡ n). (0, omega arith, sym same)) belongs;
+    }
+
+put_same_sort : (l : Links) (image : List ℕ) (at bt n : ℕ) (ws : List ℕ) (P : ℕ → Type 0) → AreLinks l → AreApart at bt → at + 4 ≤ l.head
+    → bt + 4 ≤ l.head → l.head ≤ length image → is_right l image n ≡ true → (P n → ⊥) → HasChain l image at ws → Visits l image bt P
+    → Visits l (put_in l at n image) bt P
+put_same_sort l image at bt n ws P links apart in_a in_b long is never chain v = record {
+  words = v.words;
+  chain = put_chains l image at bt n [] ws v.words links apart (inl in_a) (inl in_b) (omega arith) (omega arith) chain is v.chain
+      (not_among P n v.words v.only never, tt);
+  only = v.only;
+  each = v.each;
+}
+
+pub put_other_sort : (l m : Links) (image : List ℕ) (at bt n : ℕ) (ws vs : List ℕ) → AreLinks l → AreLinks m → AreOtherSorts l m at bt
+    → at + 4 ≤ l.head → bt + 4 ≤ l.head → l.head ≤ length image → is_right l image n ≡ true → HasChain l image at ws → HasChain m image bt vs
+    → HasChain m (put_in l at n image) bt vs
+put_other_sort l m image at bt n ws vs links_l links_m others in_a in_b long is chain there =
+    put_sorts l m image at bt n [] ws vs links_l links_m others (inl in_a) (omega arith) (omega arith) chain is there
+
+-- the chains of one sort after a word came in front of that of a key
+pub put_keyed : (l : Links) (image : List ℕ) (place : ℕ → ℕ) (key n : ℕ) (M : ℕ → ℕ → Type 0) → AreLinks l → l.step ≤ 4
+    → ((k : ℕ) → k < 256 → place k + 4 ≤ l.head) → ((a b : ℕ) → a ≢ b → AreApart (place a) (place b)) → l.head ≤ length image
+    → length image < 2 ^ 31 → is_right l image n ≡ true → ((k : ℕ) → M k n → ⊥) → key < 256
+    → ((k : ℕ) → k < 256 → Visits l image (place k) (M k))
+    → (k : ℕ) → k < 256 → Visits l (put_in l (place key) n image) (place k) (λ w. M k w ⊎ ((k ≡ key) × (w ≡ n)))
+put_keyed l image place key n M links few in_head apart long short is never low all k below =
+    ⊎_elim
+    (λ (same : k ≡ key).
+    let v = put_own l image (place key) n (M key) links few (in_head key low) long short is (never key) (all key low) in
+    subst (λ (j : ℕ). Visits l (put_in l (place key) n image) (place j) (λ w. M j w ⊎ ((j ≡ key) × (w ≡ n)))) (sym same) record {
+      words = v.words;
+      chain = v.chain;
+      only = λ w has. ⊎_elim (λ (old : M key w). inl old) (λ (new : w ≡ n). inr (refl, new)) (v.only w has);
+      each = λ w belongs. v.each w (⊎_elim (λ (old : M key w). inl old) (λ (new : (key ≡ key) × (w ≡ n)). inr new.1) belongs);
+    })
+    (λ (other : k ≢ key).
+    let own = all key low in
+    let v = put_same_sort l image (place key) (place k) n own.words (M k) links (apart key k (λ same. other (sym same))) (in_head key low)
+    (in_head k below) long is (never k) own.chain (all k below) in record {
+      words = v.words;
+      chain = v.chain;
+      only = λ w has. inl (v.only w has);
+      each = λ w belongs. v.each w (⊎_elim (λ (old : M k w). old) (λ (new : (k ≡ key) × (w ≡ n)). absurd (other new.0)) belongs);
+    })
+    (cases_eq k key)
