@@ -2,16 +2,16 @@
 ghost use Rattle.std.specs.Prelude.{IfOk};
 ghost use Rattle.disk_base.specs.Crash.{IsSettled, Only};
 ghost use Rattle.disk_base.specs.Mirrored.{mirrored_files, mirrored_may_leave};
+ghost use Rattle.ubik_node.specs.Built.{IsBuilt};
 
-use crate::servers::{ALONE, ask, is_announcement, is_answer, led, opened, version};
 use disk_base::{Disk, FileDisk, Mirrored, MostBytes, Refused};
 use pt_protection::PtService;
 use std::alloc::Global;
 use std::process::Abort;
 use std::test::Fail;
 use std::{env, fs, process};
-use ubik_node::StepEnd;
-use ubik_types::Version;
+use ubik_node::{Node, NodeEvent, Output, Outputs, Reply, StepEnd};
+use ubik_types::{Cell, Host, MAX_MOMENT, Phase, bytes_of};
 
 /// The calls `newentry smith 0 0`, `newentry jones 0 0` and `nametoid 2 smith jones`.
 const SMITH: &[u8] = b"\0\0\0\x01\0\0\0\x05smith\0\0\0\0\0\0\0\0\0\0\0";
@@ -48,56 +48,121 @@ fn mirrored(rt: &HostRuntime, folder: &str) -> Result<Mirrored<FileDisk>, Fail>
     }
 }
 
-/// The server of a disk answers a call so; whether it announced a change before.
-fn answers<D: Disk + Drop>(
-    rt: &impl Abort,
-    alloc: Global,
-    disk: D,
-    asked: (u32, &[u8], &[u8], bool),
-) -> Result<(), Fail>
-    requires settled { IsSettled (D.files disk) (D.may_leave disk) }
-{
-    let (now, call, answer, changes) = asked;
-    let mut node = led::<D, PtService>(rt, alloc, disk, now)?;
-    let mut out = ask(rt, alloc, &mut node, (now, 1, call), StepEnd::Done)?;
-    if changes {
-        assert!(rt; is_announcement(&out.take(), version(now, 2)));
-    }
-    assert!(rt; is_answer(&out.take(), 1, answer));
-    Ok(())
+/// A call that is asked at a moment, its answer, and the counter of the version that stands on the disk then.
+struct Row {
+    now: u32,
+    call: &'static [u8],
+    answer: &'static [u8],
+    counter: u32,
 }
 
-/// The version of the database of a disk.
-fn version_on<D: Disk + Drop>(
+/// Two users are made, and the last call reads their ids back.
+const ROWS: [Row; 3] = [
+    Row {
+        now: 1076,
+        call: SMITH,
+        answer: b"\0\0\0\x01",
+        counter: 2,
+    },
+    Row {
+        now: 1176,
+        call: JONES,
+        answer: b"\0\0\0\x02",
+        counter: 2,
+    },
+    Row {
+        now: 1276,
+        call: BOTH,
+        answer: b"\0\0\0\x02\0\0\0\x01\0\0\0\x02",
+        counter: 1,
+    },
+];
+
+/// The only server of its cell, opened over a disk.
+fn opened<D: Disk + Drop>(
     rt: &impl Abort,
     alloc: Global,
     disk: D,
     now: u32,
-) -> Result<Version, Fail>
+) -> Result<Node<D, PtService>, Fail>
     requires settled { IsSettled (D.files disk) (D.may_leave disk) }
 {
-    let node = opened::<D, PtService>(rt, alloc, (&ALONE, 0), disk, now)?;
-    Ok(node.version())
+    let cell = Cell::new(alloc, &[Host(1)])?;
+    assert!(rt; 0 < cell.len() && 0 < now && now <= MAX_MOMENT);
+    match Node::open(alloc, cell, 0, disk, now) {
+        Ok(node) => Ok(node),
+        Err(Refused { why, .. }) => Err(why)?,
+    }
 }
 
-/// Two users are made, and the last call reads their ids back.
+/// What a turn, or an ask, puts out.
+fn step<D: Disk>(
+    rt: &impl Abort,
+    alloc: Global,
+    node: &mut Node<D, PtService>,
+    now: u32,
+    event: NodeEvent,
+) -> Result<Outputs, Fail>
+    requires built { IsBuilt event }
+{
+    let mut out = Outputs::make(alloc)?;
+    assert!(rt; node.last() <= now && 0 < now && now <= MAX_MOMENT);
+    assert_eq!(rt; node.step(now, event, &mut out), StepEnd::Done);
+    Ok(out)
+}
+
+fn is_announcement(output: &Option<Output>, wanted: (u32, u32)) -> bool {
+    match output {
+        Some(Output::Announce { version }) => (version.epoch, version.counter) == wanted,
+        _ => false,
+    }
+}
+
+fn is_answer(output: &Option<Output>, answer: &[u8]) -> bool {
+    match output {
+        Some(
+            Output::Reply {
+                id: 1,
+                reply: Reply::Ok(bytes),
+            },
+        ) => bytes.as_slice() == answer,
+        _ => false,
+    }
+}
+
+/// The server of a disk answers a call so, once it leads its cell. It announces a change before.
+fn answers<D: Disk + Drop>(rt: &impl Abort, alloc: Global, disk: D, row: &Row) -> Result<(), Fail>
+    requires settled { IsSettled (D.files disk) (D.may_leave disk) }
+{
+    let now = row.now;
+    assert!(rt; 76 < now);
+    let mut node = opened(rt, alloc, disk, now - 76)?;
+    let mut out = step(rt, alloc, &mut node, now, NodeEvent::BeaconTurn)?;
+    assert!(rt; out.take().is_none());
+    let mut out = step(rt, alloc, &mut node, now, NodeEvent::RecoverTurn)?;
+    assert!(rt; is_announcement(&out.take(), (now, 1)));
+    assert_eq!(rt; node.phase(), Phase::Ready);
+    let call = bytes_of(alloc, row.call)?;
+    let mut out = step(rt, alloc, &mut node, now, NodeEvent::Ask { id: 1, call })?;
+    if row.counter == 2 {
+        assert!(rt; is_announcement(&out.take(), (now, 2)));
+    }
+    assert!(rt; is_answer(&out.take(), row.answer));
+    Ok(())
+}
+
 #[test]
 fn what_a_server_in_a_folder_answered_is_there_when_it_is_opened_anew(
     rt: HostRuntime,
 ) -> Result<(), Fail> {
     let folder = empty_folder(&rt)?;
-    let name = folder.as_str();
-    for (now, call, answer, changes) in [
-        (1076, SMITH, b"\0\0\0\x01".as_slice(), true),
-        (1176, JONES, b"\0\0\0\x02", true),
-        (1276, BOTH, b"\0\0\0\x02\0\0\0\x01\0\0\0\x02", false),
-    ] {
-        let disk = mirrored(&rt, name)?;
-        answers(&rt, rt.alloc(), disk, (now, call, answer, changes))?;
-        let disk = mirrored(&rt, name)?;
-        let found = version_on(&rt, rt.alloc(), disk, now)?;
-        assert_eq!(rt; found, version(now, if changes { 2 } else { 1 }));
+    for row in &ROWS {
+        let disk = mirrored(&rt, folder.as_str())?;
+        answers(&rt, rt.alloc(), disk, row)?;
+        let disk = mirrored(&rt, folder.as_str())?;
+        let found = opened(&rt, rt.alloc(), disk, row.now)?.version();
+        assert_eq!(rt; (found.epoch, found.counter), (row.now, row.counter));
     }
-    fs::remove_dir_all(&rt, name)?;
+    fs::remove_dir_all(&rt, folder.as_str())?;
     Ok(())
 }

@@ -14,7 +14,7 @@ use Rattle.db_image.specs.declared.faults.RecordFault.TheVariants as fault
 use Rattle.db_image.specs.declared.images.ReadEnd.{ReadEnd}
 use Rattle.db_image.specs.declared.images.ReadEnd.TheVariants as ends
 use Rattle.db_image.specs.Ends.{EndsBy}
-use Rattle.node_tests.specs.Appending.{appended, appending}
+use Rattle.node_sessions.specs.Appending.{appended, appending}
 
 -- bytes that are put at the end of an image
 pub put_at_end : (image call : List ℕ) → changed image (Put (length image) call) ≡ image ++ call

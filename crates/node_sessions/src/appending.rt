@@ -3,7 +3,7 @@ ghost use Rattle.std.specs.Prelude.{◌≡◌, ◌≤◌, IfOk, IfErr, IfSome, I
 ghost use Rattle.db_image.specs.Draft.{StaysAsItWas};
 ghost use Rattle.db_image.specs.Ends.{EndsBy, IsDecided};
 ghost use Rattle.db_image.specs.Images.{IsOfImage, OnlyReads};
-ghost use Rattle.node_tests.specs.Appending.{appended, appending};
+ghost use Rattle.node_sessions.specs.Appending.{appended, appending};
 
 use db_image::{CallEnd, Draft, DraftService, ImageRead, RecordFault};
 use std::alloc::Global;
@@ -46,7 +46,7 @@ fn append<I: ImageRead>(
 
 impl DraftService for Appending {
     ghost use Rattle.std.specs.Prelude.{refl};
-    ghost use Rattle.node_tests.specs.Appending.{appending, appending_grows, appending_is_meant, appending_keeps_grammar, only_appending_changes};
+    ghost use Rattle.node_sessions.specs.Appending.{appending, appending_grows, appending_is_meant, appending_keeps_grammar, only_appending_changes};
 
     ghost standing = { appending };
 

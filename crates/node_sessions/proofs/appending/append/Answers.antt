@@ -1,7 +1,7 @@
 use Rattle.std.proofs.Common.{◌≡◌, ◌∙◌, ap, take, ◌++◌, drop, length, ℕ, sym, rules, arith}
 use Rattle.std.proofs.Math.Seq.{take-append_seam}
-use Rattle.node_tests.proofs.Appended.{appends, put_nothing, read_done}
-use Rattle.node_tests.proofs.appending.append.Goals as goal
+use Rattle.node_sessions.proofs.Appended.{appends, put_nothing, read_done}
+use Rattle.node_sessions.proofs.appending.append.Goals as goal
 
 pub returns-clause-meant : goal.returns-clause-meant
 returns-clause-meant g c =

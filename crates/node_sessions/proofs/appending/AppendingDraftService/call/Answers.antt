@@ -1,8 +1,8 @@
 use Rattle.std.proofs.Common.{ap, ◌∙◌, arith}
 use Rattle.std.specs.Prelude.{is_some}
 use Rattle.db_image.proofs.Decided.{decided_grammar, decided_reads, decided_short, fault_grammar}
-use Rattle.node_tests.proofs.Appended.{is_call, no_bytes}
-use Rattle.node_tests.proofs.appending.AppendingDraftService.call.Goals as goal
+use Rattle.node_sessions.proofs.Appended.{is_call, no_bytes}
+use Rattle.node_sessions.proofs.appending.AppendingDraftService.call.Goals as goal
 
 pub returns-in-Ok-clause-grammar : goal.returns-in-Ok-clause-grammar
 returns-in-Ok-clause-grammar g c =
