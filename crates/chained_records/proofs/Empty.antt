@@ -98,6 +98,7 @@ none_laid image is =
           (ap (λ (b : List ℕ). word_at b (id_place key)) is
           ∙ ap (word_at (head_of first_location 0)) (omega arith) ∙ first_word (1024 + 4 * key) (omega arith))
           (λ w belongs. omega (arith, belongs.number.some, belongs.number.within, count));
+      unused = λ k e below at kind low gone. absurd (omega (arith, below, count));
       free = record {
         words = [];
         chain = ap (λ (b : List ℕ). word_at b 16) is ∙ first_free;

@@ -185,6 +185,10 @@ head_laid old new s t f reads lies set =
           (set.firsts (id_place key) (omega arith) (omega arith)) set.same
           (λ w is. id_there s t f old new head key w reads set is) (λ w is. id_back s t f old new head key w reads set is)
           (lies.ids key low);
+      unused = λ k y below is kind low gone.
+          let b = block_back s t f (block_at old k) (block_at new k) y reads (set.same k (less k below)) is in
+          ap (λ (x : List ℕ). word_at x (40 + 4 * kind)) (set.same k (less k below))
+          ∙ lies.unused k b.0 (less k below) b.2 kind low (sym (reads.ids kind b.0) ∙ ap (λ (x : VlEntry). id_of kind x) (sym b.1) ∙ gone);
       free = free_same old new set.size set.free set.same lies.free;
     }
 

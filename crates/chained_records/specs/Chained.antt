@@ -3,7 +3,7 @@ use Rattle.std.specs.Prelude.{ℕ, ◌≡◌, ◌≢◌, ◌+◌, ◌-◌, ◌*�
 use Rattle.std.specs.List.{Contains}
 use Rattle.ubik_types.specs.Image.{changed}
 use Rattle.ubik_types.specs.declared.images.Change.TheVariants.{Put}
-use Rattle.db_blocks.specs.Blocks.{IsWhole}
+use Rattle.db_blocks.specs.Blocks.{IsWhole, word_at}
 use Rattle.db_blocks.specs.Bytes.{zeros}
 use Rattle.db_blocks.specs.declared.blocks.TheConstants.{BLOCK_LEN}
 use Rattle.db_chains.specs.Chains.{HasChain}
@@ -91,7 +91,8 @@ pub record HasFree (image : List ℕ) : Type 0 where
 -- ---- an image
 
 -- An image that is not empty holds the database: behind the head stand whole blocks, each free or an entry's, and each entry has one. The
--- chains of each key visit the entries whose names have it, and those of which one of the ids has it, and one more the free blocks.
+-- chains of each key visit the entries whose names have it, and those of which one of the ids has it, and one more the free blocks. Of an id
+-- that an entry has not, the next word is 0.
 pub record IsLaidOut (image : List ℕ) (s : Location) : Type 0 where
   pub size : IsWhole HEAD_LEN image
   pub head : unlinked_head (take HEAD_LEN image) ≡ head_of s (blocks_in image)
@@ -101,6 +102,8 @@ pub record IsLaidOut (image : List ℕ) (s : Location) : Type 0 where
       → IsBlockOf s e (block_at image k) → j ≡ k
   pub names : (key : ℕ) → key < 256 → Visits name_links image (name_place key) (IsNameWord s image key)
   pub ids : (key : ℕ) → key < 256 → Visits id_links image (id_place key) (IsIdWord s image key)
+  pub unused : (k : ℕ) (e : VlEntry) → k < blocks_in image → IsBlockOf s e (block_at image k) → (kind : ℕ) → kind < 3 → id_of kind e ≡ 0
+      → word_at (block_at image k) (40 + 4 * kind) ≡ 0
   pub free : HasFree image
 
 -- an image holds a valid state; the empty image holds the first one
