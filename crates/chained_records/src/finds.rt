@@ -14,7 +14,7 @@ ghost use Rattle.vldb_records.specs.Records.{has_id_in, has_name, whole};
 ghost use Rattle.chained_records.specs.Chained.{Holds};
 ghost use Rattle.chained_records.specs.Ends.{HasItsCause};
 ghost use Rattle.chained_records.specs.Sought.{IsInChain, IsRead, is_sought};
-ghost use Rattle.chained_records.specs.declared.layout.TheConstants.{HEAD_LEN};
+ghost use Rattle.chained_records.specs.declared.layout.TheConstants.{ADDRESSES_LEN, HEAD_LEN};
 
 use crate::blocks::{Sought, entry_in};
 use crate::heads::places;
@@ -71,7 +71,7 @@ fn find_entry<I: ImageRead>(
     ensures fault { IfErr result (HasCause d.old.bytes (λ image. HasSome links at (whole image))) }
     ensures frame { OnlyLooks I.ImageRead d.old d.new (IsErrOf result RecordFault.DiskFault) }
     ensures cost { IfSome d.old.bytes (λ image. (ws : List ℕ) → HasChain links (whole image) at ws
-        → CostsAtMost I.ImageRead (HEAD_LEN + BLOCK_LEN * length ws) d.old d.new) }
+        → CostsAtMost I.ImageRead (WORD_LEN + ADDRESSES_LEN + BLOCK_LEN * length ws) d.old d.new) }
 {
     let Some(link) = find_link(d, links, at, sought)? else {
         return Ok(None);
@@ -80,7 +80,7 @@ fn find_entry<I: ImageRead>(
     Ok(Some(entry_in(alloc, &addresses, &link.block)?))
 }
 
-/// The entry of a name. It asks for no more than the head's length and each block of the one chain of the name.
+/// The entry of a name. Where the image has the one chain of the name, it asks for a word, the addresses and each block of that chain at most.
 pub fn find_name<I: ImageRead>(
     alloc: Global,
     d: &mut Draft<I>,
@@ -94,13 +94,13 @@ pub fn find_name<I: ImageRead>(
     ensures fault { IfErr result (HasItsCause d.old.bytes) }
     ensures frame { OnlyLooks I.ImageRead d.old d.new (IsErrOf result RecordFault.DiskFault) }
     ensures cost { IfSome d.old.bytes (λ image. (ws : List ℕ) → HasChain name_links (whole image) (name_chain name.now) ws
-        → CostsAtMost I.ImageRead (HEAD_LEN + BLOCK_LEN * length ws) d.old d.new) }
+        → CostsAtMost I.ImageRead (WORD_LEN + ADDRESSES_LEN + BLOCK_LEN * length ws) d.old d.new) }
 {
     find_entry(alloc, d, name_links(), name_chain(name), Sought::Name(name))
 }
 
-/// The entry of which one of the three ids is this one; 0 is no entry's. It asks for no more than the head's length and each block of the
-/// one chain of the id, once for each of its ids in it.
+/// The entry of which one of the three ids is this one; 0 is no entry's. Where the image has the one chain of the id, it asks for a word,
+/// the addresses and a block for each word of that chain at most.
 pub fn find_id<I: ImageRead>(
     alloc: Global,
     d: &mut Draft<I>,
@@ -114,7 +114,7 @@ pub fn find_id<I: ImageRead>(
     ensures fault { IfErr result (HasItsCause d.old.bytes) }
     ensures frame { OnlyLooks I.ImageRead d.old d.new (IsErrOf result RecordFault.DiskFault) }
     ensures cost { IfSome d.old.bytes (λ image. (ws : List ℕ) → HasChain id_links (whole image) (id_chain id) ws
-        → CostsAtMost I.ImageRead (HEAD_LEN + BLOCK_LEN * length ws) d.old d.new) }
+        → CostsAtMost I.ImageRead (WORD_LEN + ADDRESSES_LEN + BLOCK_LEN * length ws) d.old d.new) }
 {
     find_entry(alloc, d, id_links(), id_chain(id), Sought::Id(id))
 }

@@ -10,7 +10,7 @@ returns-in_default-clause-found g c = let first = c.in_ok-link.ensures.found in 
 
 pub returns-in_default-clause-cost : goal.returns-in_default-clause-cost
 returns-in_default-clause-cost g c =
-    costs_on g.I.ImageRead c.args.d.now.bytes c.args.links c.args.at 4 0 3132 c.args.d.now c.find_link.new.d c.find_link.new.d (omega arith)
+    costs_on g.I.ImageRead c.args.d.now.bytes c.args.links c.args.at 4 0 1024 c.args.d.now c.find_link.new.d c.find_link.new.d (omega arith)
     c.find_link.ensures.cost (asks_none 0 (g.I.ImageRead.asked c.find_link.new.d.image))
 
 pub returns-clause-found : goal.returns-clause-found
@@ -25,5 +25,5 @@ returns-clause-small g c = entry_small c.in_ok-addresses.addresses c.in-Some.lin
 
 pub returns-clause-cost : goal.returns-clause-cost
 returns-clause-cost g c =
-    costs_on g.I.ImageRead c.args.d.now.bytes c.args.links c.args.at 4 1020 3132 c.args.d.now c.find_link.new.d c.places.new.d (omega arith)
+    costs_on g.I.ImageRead c.args.d.now.bytes c.args.links c.args.at 4 1020 1024 c.args.d.now c.find_link.new.d c.places.new.d (omega arith)
     c.find_link.ensures.cost c.places.ensures.frame.cost
