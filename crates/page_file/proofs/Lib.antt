@@ -5,4 +5,5 @@ pub mod Keeping
 pub mod Labels
 pub mod Opening
 pub mod Reading
+pub mod Replacing
 pub mod Writing

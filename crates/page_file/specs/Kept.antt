@@ -61,6 +61,10 @@ BringsPages first (suc n) old new = (mid : Cached) × BringsPages first n old mi
 abbrev pub pages_between : (at n : ℕ) → ℕ
 pages_between at n = if n == 0 then 0 else (at + n - 1) / PAGE_LEN - at / PAGE_LEN + 1
 
+-- no page is kept any more
+abbrev pub without_pages : Cached → Cached
+without_pages cached = record cached { pages = [] }
+
 -- no byte of a page stands from one position on before another
 abbrev pub lies_apart : (from to page : ℕ) → Bool
 lies_apart from to page = nat_le to from || nat_le to (page * PAGE_LEN) || nat_le (page * PAGE_LEN + PAGE_LEN) from

@@ -1,5 +1,5 @@
 -- What pages know of a database file, and when that is so.
-use Rattle.std.specs.Prelude.{◌≡◌, ℕ, List, Option, IfSome, length, take, drop}
+use Rattle.std.specs.Prelude.{◌≡◌, ◌≤◌, ℕ, max, List, Option, IfSome, length, take, drop}
 use Rattle.std.specs.List.{All}
 use Rattle.ubik_types.specs.declared.versions.Version.{Version}
 use Rattle.disk_base.specs.Files.{Files}
@@ -36,3 +36,7 @@ AgreesIn pages files = IfSome files (λ fs. Agrees pages fs.database)
 pub record SameButCache (old new : Known) : Type 0 where
   pub version : new.version ≡ old.version
   pub len : new.len ≡ old.len
+
+-- a file is no longer than it was, or no longer than this
+abbrev pub IsNoLonger : ℕ → List ℕ → List ℕ → Type 0
+IsNoLonger most before after = length after ≤ max (length before) most

@@ -1,5 +1,5 @@
 //! The pages of an image that are kept in memory.
-ghost use Rattle.std.specs.Prelude.{◌≡◌, ◌+◌, ◌-◌, ◌∷◌, ◌≤◌, ◌<◌, ◌||◌, true, false, None, IfSome, OnOk, OnErr, nat_eq, nat_lt, nat_le, is_some, length, take, drop};
+ghost use Rattle.std.specs.Prelude.{◌≡◌, ◌+◌, ◌-◌, [], ◌∷◌, ◌≤◌, ◌<◌, ◌||◌, true, false, None, IfSome, OnOk, OnErr, nat_eq, nat_lt, nat_le, is_some, length, take, drop};
 ghost use Rattle.std.specs.List.{filter};
 ghost use Rattle.std.specs.Map.{lookup};
 ghost use Rattle.lru.specs.LruCache.{lru_cache};
@@ -122,6 +122,13 @@ impl Cache {
                 }
             }
         }
+    }
+
+    /// Drops all pages.
+    pub(crate) fn clear(&mut self)
+        ensures { self.new ≡ record self.old { pages = [] } }
+    {
+        self.pages = None;
     }
 
     /// Drops the pages that have a byte from one position of the image on before another.

@@ -1,13 +1,16 @@
 //! Pages over the database file of a disk.
 ghost use Rattle.std.specs.Prelude.{◌≡◌, ◌+◌, ◌-◌, ◌*◌, ◌/◌, ◌<◌, ◌≤◌, ◌^◌, Some, None, IsSome, IfSome, OnOk, OnErr, IfOk, IfErr, IsErr, IsErrOf, IsOk, length, take, drop, max, min, nat_eq, is_some, unwrap_or};
 ghost use Rattle.std.specs.Map.{lookup};
+ghost use Rattle.std.specs.Option.{option_map};
 ghost use Rattle.ubik_types.specs.Version.{IsVersion, zero_version};
 ghost use Rattle.disk_base.specs.Stops.{IsStopped};
-ghost use Rattle.disk_base.specs.Runs.{OnlyReads, OnlyReserves, Writes, Cuts, Syncs};
+ghost use Rattle.disk_base.specs.Crash.{After, InFile, LeavesOnly};
+ghost use Rattle.disk_base.specs.Files.{with_file};
+ghost use Rattle.disk_base.specs.Runs.{OnlyReads, OnlyReserves, Writes, Cuts, Syncs, ChangesAtMost};
 ghost use Rattle.page_file.specs.Label.{label, version_of_database};
 ghost use Rattle.page_file.specs.Fault.{Refuses, IsUnlabelled, IsTooLong};
-ghost use Rattle.page_file.specs.Kept.{no_pages, IsKept, AreKept, BringsPage, BringsPages, pages_between, apart_from};
-ghost use Rattle.page_file.specs.Pages.{AgreesIn, SameButCache, image_of};
+ghost use Rattle.page_file.specs.Kept.{no_pages, IsKept, AreKept, BringsPage, BringsPages, pages_between, apart_from, without_pages};
+ghost use Rattle.page_file.specs.Pages.{AgreesIn, SameButCache, IsNoLonger, image_of};
 
 use crate::cache::Cache;
 use crate::faults::PageFault;
@@ -267,6 +270,46 @@ impl Pages {
             DiskEnd::Done => {
                 self.cache.forget(len, self.len);
                 self.len = len;
+                Ok(())
+            }
+            DiskEnd::Failed => Err(PageFault::DiskFault),
+        }
+    }
+
+    /// Puts another file in place of the one that is there, with the label of a version and an image behind it: all is cut, and then
+    /// written in one call. It takes no memory: the room was reserved.
+    pub fn replace<D: Disk>(
+        &mut self,
+        disk: &mut D,
+        text: &[u8],
+        v: Version,
+    ) -> Result<(), PageFault>
+        requires version { IsVersion v }
+        requires labelled { take LABEL_LEN text.now ≡ label v }
+        requires long { LABEL_LEN ≤ length text.now }
+        requires fits { length text.now ≤ D.room disk.old FileNo.Database }
+        ensures version { OnOk result (self.new.version ≡ Some v) }
+        ensures len { OnOk result (LABEL_LEN + self.new.len ≡ length text.now) }
+        ensures cache { OnOk result (self.new.cache ≡ without_pages self.old.cache) }
+        ensures same { OnErr result (self.new ≡ self.old) }
+        ensures agrees { OnOk result (AgreesIn self.new (D.files disk.new)) }
+        ensures files { OnOk result (D.files disk.new ≡ option_map (λ fs. with_file fs FileNo.Database text.now) (D.files disk.old)) }
+        ensures steps { OnOk result (D.steps disk.new ≡ D.steps disk.old + 2) }
+        // A crash at any moment of the call leaves a file that is no longer than the one before it and the new one.
+        ensures moments { LeavesOnly D.steps D.left_since disk.old disk.new
+            (After (InFile FileNo.Database (IsNoLonger (length text.now))) (D.may_leave disk.old)) }
+        ensures fault { IfErr result (λ fault. fault ≡ PageFault.DiskFault) }
+        ensures changes { ChangesAtMost D.Disk FileNo.Database 2 disk.old disk.new (IsErr result) }
+    {
+        match disk.cut(FileNo::Database, 0) {
+            DiskEnd::Done => {}
+            DiskEnd::Failed => return Err(PageFault::DiskFault),
+        }
+        match disk.write_at(FileNo::Database, 0, text) {
+            DiskEnd::Done => {
+                self.version = Some(v);
+                self.len = (text.len() - LABEL_LEN) as u64;
+                self.cache.clear();
                 Ok(())
             }
             DiskEnd::Failed => Err(PageFault::DiskFault),
