@@ -10,8 +10,9 @@ use Rattle.disk_base.specs.Files.{Files}
 use Rattle.ubik_log.specs.LogFile.{with_log}
 use Rattle.ubik_log.specs.LogGrammar.{IsCommitted}
 use Rattle.ubik_log.proofs.OneReading.{log_has_one_reading}
+use Rattle.incoming_file.proofs.Opens.{empty_ignored}
 use Rattle.ubik_store.specs.Files.{StandsFor}
-use Rattle.ubik_store.specs.Files.StandsFor.{by_log, by_label}
+use Rattle.ubik_store.specs.Files.StandsFor.{by_incoming, by_log, by_label}
 use Rattle.ubik_store.specs.Rest.{RestsAs}
 use Rattle.ubik_store.proofs.Telling.{of_told}
 use Rattle.base_bench.specs.Blocks.{IsLabelled}
@@ -45,16 +46,19 @@ pub of_begun : (begun : Option (List Change)) (changes : List Change) (P : List 
 of_begun begun changes P is says = subst (λ (o : Option (List Change)). IfSome o P) is says
 
 -- files with a committed log stand for its version
-committed_version : {fs : Files} {v : Version} {image : List ℕ} → StandsFor fs v image → (changes : List Change) (w : Version) → IsCommitted fs.log changes w → v ≡ w
-committed_version (by_log fs told version committed fits) changes w is = (log_has_one_reading fs.log told changes version w committed is).1
-committed_version (by_label fs version discarded label) changes w is = absurd (discarded changes w is)
+committed_version : {fs : Files} {v : Version} {image : List ℕ} → StandsFor fs v image → fs.incoming ≡ [] → (changes : List Change) (w : Version)
+    → IsCommitted fs.log changes w → v ≡ w
+committed_version (by_incoming fs version image opens fits) empty changes w is = absurd (empty_ignored fs.incoming empty version image opens)
+committed_version (by_log fs told version logged fits) empty changes w is = (log_has_one_reading fs.log told changes version w logged.committed is).1
+committed_version (by_label fs version ignored discarded label) empty changes w is = absurd (discarded changes w is)
 
 -- the label that an opening of a committed log leaves
-pub reopened_label : (log : List ℕ) (changes : List Change) (v w : Version) (fs : Files) (len : ℕ) (old new : Option Files) → IsCommitted log changes w → old ≡ Some (with_log log fs)
+pub reopened_label : (log : List ℕ) (changes : List Change) (v w : Version) (fs : Files) (len : ℕ) (old new : Option Files) → fs.incoming ≡ []
+    → IsCommitted log changes w → old ≡ Some (with_log log fs)
     → IfSome old (λ fs. (image : List ℕ) × StandsFor fs v image × RestsAs v image new × (len ≡ length image)) → IsLabelled w new
-reopened_label log changes v w fs len old new committed is stands =
+reopened_label log changes v w fs len old new empty committed is stands =
     let at = of_told old (with_log log fs) (λ fs. (image : List ℕ) × StandsFor fs v image × RestsAs v image new × (len ≡ length image)) is stands in
-    (at.2.0, at.2.1, at.2.2.label ∙ ap (λ (x : Version). Some x) (committed_version at.1 changes w committed))
+    (at.2.0, at.2.1, at.2.2.label ∙ ap (λ (x : Version). Some x) (committed_version at.1 empty changes w committed))
 
 -- over files that were told since an opening before
 pub labelled_since : (first old new : Option Files) (v : Version) → IfSome first (λ _. (fs : Files) × (old ≡ Some fs)) → IfSome old (λ _. IsLabelled v new) → IfSome first (λ _. IsLabelled v new)

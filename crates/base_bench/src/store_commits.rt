@@ -3,6 +3,7 @@ ghost use Rattle.std.specs.Prelude.{◌≡◌, ◌+◌, ◌*◌, ◌<◌, ◌≤
 ghost use Rattle.std.specs.Option.{option_map};
 ghost use Rattle.disk_base.specs.Crash.{IsSettled};
 ghost use Rattle.ubik_log.specs.LogGrammar.{IsCommitted};
+ghost use Rattle.ubik_store.specs.Rest.{AreEmpty};
 ghost use Rattle.ubik_store.specs.Store.{IsSound, image_in};
 ghost use Rattle.ubik_types.specs.Image.{changed};
 ghost use Rattle.ubik_types.specs.declared.images.Change.{Change};
@@ -156,9 +157,9 @@ fn long_log(alloc: Global, count: u32) -> Result<Bytes, NoMemory>
 /// Keeps a log on a disk and opens its gate, as a commit that a crash ended there, and opens the files.
 fn reopened<D: Disk + Drop>(alloc: Global, disk: D, log: &[u8]) -> Result<D, StoreFault>
     requires committed { (changes : List Change) × IsCommitted log.now changes VERSION }
-    requires empty { IfSome (D.files disk) (λ fs. fs.log ≡ []) }
+    requires empty { IfSome (D.files disk) AreEmpty }
     requires settled { IsSettled (D.files disk) (D.may_leave disk) }
-    ensures empty { IfOk result (λ new. IfSome (D.files new) (λ fs. fs.log ≡ [])) }
+    ensures empty { IfOk result (λ new. IfSome (D.files new) AreEmpty) }
     ensures settled { IfOk result (λ new. IsSettled (D.files new) (D.may_leave new)) }
     ensures label { IfOk result (λ new. IfSome (D.files disk) (λ _. IsLabelled VERSION (D.files new))) }
 {
@@ -179,7 +180,7 @@ fn opened_often<D: Disk + Drop>(
     times: u16,
 ) -> Result<D, StoreFault>
     requires committed { (changes : List Change) × IsCommitted log.now changes VERSION }
-    requires empty { IfSome (D.files disk) (λ fs. fs.log ≡ []) }
+    requires empty { IfSome (D.files disk) AreEmpty }
     requires settled { IsSettled (D.files disk) (D.may_leave disk) }
     ensures { IfOk result (λ new. 0 < times → IfSome (D.files disk) (λ _. IsLabelled VERSION (D.files new))) }
 {

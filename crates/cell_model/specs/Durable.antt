@@ -53,13 +53,13 @@ version_after (Commit version changes image) = version
 version_after (Relabel version) = version
 version_after (Install version image) = version
 
--- How many changes of its files a durable call asks of a disk, beside those that keep and end its log: an install cuts the
--- image to nothing, and puts it anew.
-abbrev pub change_count : DurableCall → ℕ
-change_count (Commit version changes image) = length changes
-change_count (Relabel version) = 0
-change_count (Install version image) = 2
+-- zero bytes take the place of a label that is not there yet, in one changing call
+abbrev pub label_calls : (has_label : Bool) → ℕ
+label_calls has_label = if has_label then 0 else 1
 
--- How many changing calls of the disk a durable call makes: one more where the database file has no label yet.
+-- How many changing calls of the disk a durable call makes: 13 that keep a log and end it, one for each change, and one where the database
+-- file has no label yet; 15 for an image that comes as a whole, by way of the incoming file.
 abbrev pub disk_calls : (has_label : Bool) → DurableCall → ℕ
-disk_calls has_label call = 13 + change_count call + (if has_label then 0 else 1)
+disk_calls has_label (Commit version changes image) = 13 + length changes + label_calls has_label
+disk_calls has_label (Relabel version) = 13 + label_calls has_label
+disk_calls has_label (Install version image) = 15

@@ -15,10 +15,9 @@ use Rattle.disk_base.specs.Stops.DiskStop.{Unarmed}
 use Rattle.ubik_types.specs.declared.hosts.Host.{Host}
 use Rattle.ubik_types.specs.Moment.{IsMoment}
 use Rattle.ubik_types.specs.Version.{IsVersion}
-use Rattle.ubik_log.proofs.Gates.{short_log_is_discarded}
 use Rattle.ubik_store.specs.Gaps.{IsPlain}
 use Rattle.ubik_store.specs.Opening.{OpensIn}
-use Rattle.ubik_store.proofs.Gaps.{discarded_is_plain}
+use Rattle.ubik_store.proofs.Plain.{empty_is_plain}
 use Rattle.cell_model.specs.Durable.{no_database}
 use Rattle.cell_model.specs.Node as model
 use Rattle.write_laws.specs.Keeping.{IsCellPacket}
@@ -65,7 +64,7 @@ opened_length sites n clock failed are =
 -- ---- an empty disk
 
 fresh_plain : IsPlain no_files
-fresh_plain = discarded_is_plain no_files (short_log_is_discarded [] (omega arith)) (λ _. refl)
+fresh_plain = empty_is_plain no_files (refl, refl) (λ _. refl)
 
 -- a server can be opened over it
 pub fresh_sound : {D : Type 0} (g : Ghosts D) (disk : D) → g.files disk ≡ Some no_files → IsSettled (g.files disk) (g.may_leave disk)

@@ -15,15 +15,17 @@ use Rattle.ubik_log.specs.LogGrammar.{IsDiscarded, new_record}
 use Rattle.ubik_store.specs.declared.faults.StoreFault.{StoreFault}
 use Rattle.ubik_store.specs.declared.faults.StoreFault.TheVariants.{DiskFault, BadLabel, TooLarge, NotNewer, NoMemory}
 use Rattle.ubik_store.specs.Files.{StandsFor}
-use Rattle.ubik_store.specs.Files.StandsFor.{by_log, by_label}
+use Rattle.ubik_store.specs.Files.StandsFor.{by_incoming, by_log, by_label}
 use Rattle.ubik_store.specs.Rest.{IsAtRest}
 use Rattle.ubik_store.specs.Store.{image_in}
 use Rattle.page_file.specs.Pages.{image_of}
-use Rattle.ubik_log.proofs.Gates.{short_log_is_discarded}
 use Rattle.ubik_store.specs.Gaps.{IsGapless, IsPlain}
-use Rattle.ubik_store.specs.Opening.{IsOpening, OpensIn, RefusesFiles}
-use Rattle.ubik_store.specs.Opening.OpensIn.{redoes, closes, cuts}
+use Rattle.ubik_store.specs.Opening.{EndsLogIn, IsOpening, OpensIn, RefusesFiles}
+use Rattle.ubik_store.specs.Opening.EndsLogIn.{redoes, closes, cuts}
+use Rattle.ubik_store.specs.Opening.OpensIn.{takes, treats}
+use Rattle.ubik_store.proofs.Once.{stands_once}
 use Rattle.ubik_store.proofs.Redoing.{narrowed}
+use Rattle.ubik_store.proofs.Rests.{at_rest_stands}
 use Rattle.ubik_store.proofs.Telling.{of_told, told}
 use Rattle.cell_model.specs.Durable.{Durable, durable}
 use Rattle.cell_model.specs.Node as model
@@ -38,12 +40,11 @@ use Rattle.cell_sites.specs.declared.openings.OpenEnd.{OpenEnd}
 use Rattle.cell_sites.specs.declared.openings.OpenEnd.TheVariants as opened
 use Rattle.cell_sites.specs.declared.sites.Server.TheVariants as server
 use Rattle.cell_sites.specs.Sound.{IsSoundDisk}
-use Rattle.cell_sites.proofs.Standing.{stands_once}
 
 -- files at rest stand for their version and their image
 rested : (fs : Files) (v : Version) (image : List ℕ) → IsAtRest v (image_of fs.database) fs → image_of fs.database ≡ image → StandsAs (durable v image) fs
 rested fs v image rests same =
-    subst (λ (xs : List ℕ). StandsFor fs v xs) same (by_label fs v (short_log_is_discarded fs.log (omega (arith, ap length rests.log))) rests.label)
+    subst (λ (xs : List ℕ). StandsFor fs v xs) same (at_rest_stands fs v (image_of fs.database) rests)
 
 rested_all : (files : Option Files) (v w : Version) (image : List ℕ) → v ≡ w → IsSome files → IfSome files (λ fs. IsAtRest v (image_of fs.database) fs)
     → IfSome (image_in files) (λ xs. xs ≡ image)
@@ -52,14 +53,16 @@ rested_all None v w image same some rests is = absurd (false≢true some)
 rested_all (Some fs) v w image same some rests is = rested fs w image (subst (λ (x : Version). IsAtRest x (image_of fs.database) fs) same rests) is
 
 -- files that stand for something are opened in some number of calls
-opens_by_label : (fs : Files) → IsDiscarded fs.log → (begun : Bool) → bytes_eq (take 4 fs.log) new_record ≡ begun → (calls : ℕ) × OpensIn fs calls
-opens_by_label fs discarded true is = (4, closes fs discarded ((bytes_eq-Decides (take 4 fs.log) new_record).0 is))
-opens_by_label fs discarded false is =
+ends_by_label : (fs : Files) → IsDiscarded fs.log → (begun : Bool) → bytes_eq (take 4 fs.log) new_record ≡ begun → (calls : ℕ) × EndsLogIn fs calls
+ends_by_label fs discarded true is = (4, closes fs discarded ((bytes_eq-Decides (take 4 fs.log) new_record).0 is))
+ends_by_label fs discarded false is =
     (2, cuts fs discarded (λ same. false≢true (sym is ∙ (bytes_eq-Decides (take 4 fs.log) new_record).1 same)))
 
 pub opens_in : {fs : Files} {v : Version} {image : List ℕ} → StandsFor fs v image → (calls : ℕ) × OpensIn fs calls
-opens_in (by_log fs changes version committed fits) = (_, redoes fs changes version committed)
-opens_in (by_label fs version discarded label) = opens_by_label fs discarded (bytes_eq (take 4 fs.log) new_record) refl
+opens_in (by_incoming fs version image opens fits) = (9, takes fs version image opens)
+opens_in (by_log fs changes version logged fits) = (_, treats fs _ logged.ignored (redoes fs changes version logged.committed))
+opens_in (by_label fs version ignored discarded label) =
+    let ends = ends_by_label fs discarded (bytes_eq (take 4 fs.log) new_record) refl in (_, treats fs ends.0 ignored ends.1)
 
 -- ---- files that are told
 

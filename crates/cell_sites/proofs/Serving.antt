@@ -14,12 +14,13 @@ use Rattle.page_file.specs.Pages.{image_of}
 use Rattle.ubik_types.specs.declared.limits.TheConstants.{MAX_IMAGE}
 use Rattle.ubik_types.specs.declared.versions.Version.{Version}
 use Rattle.ubik_types.specs.Version.{version_eq, zero_version}
-use Rattle.ubik_log.proofs.Gates.{short_log_is_discarded}
-use Rattle.ubik_store.specs.Files.StandsFor.{by_label}
 use Rattle.ubik_store.specs.Files.{StandsFor}
 use Rattle.ubik_store.specs.Gaps.{IsPlain}
 use Rattle.ubik_store.specs.Rest.{IsAtRest}
 use Rattle.ubik_store.specs.Store.{image_in}
+use Rattle.ubik_store.proofs.Once.{stands_once}
+use Rattle.ubik_store.proofs.Plain.{first_over}
+use Rattle.ubik_store.proofs.Rests.{at_rest_stands}
 use Rattle.cell_model.specs.Durable.{Durable, Made, durable, durable_after_all, version_after}
 use Rattle.cell_model.specs.Node as model
 use Rattle.cell_model.specs.Step.{Member}
@@ -35,7 +36,6 @@ use Rattle.cell_sites.proofs.Counting.{each_on, sum_cons}
 use Rattle.cell_sites.proofs.Later.{AllLater, made_on, take_later}
 use Rattle.cell_sites.proofs.Nodes.{is_up}
 use Rattle.cell_sites.proofs.Plainly.{if_more, make_some, of_some, some_of}
-use Rattle.cell_sites.proofs.Standing.{stands_once}
 
 -- files stand for one durable state at most
 pub one_durable : (fs : Files) (d e : Durable) → StandsAs d fs → StandsAs e fs → d ≡ e
@@ -72,7 +72,7 @@ label_says fs v rests plain = by (version_eq v zero_version) refl
   where
     by : (b : Bool) → version_eq v zero_version ≡ b → has_label fs.database ≡ not b
     by true is =
-        let none : fs.database ≡ [] = plain.unlabelled (short_log_is_discarded fs.log (omega (arith, ap length rests.log)))
+        let none : fs.database ≡ [] = first_over fs plain (rests.log, rests.incoming)
         (rests.label ∙ ap Some (same_zero v is)) in
         ap has_label none
     by false is = long (nat_lt (length fs.database) LABEL_LEN) refl
@@ -119,7 +119,7 @@ files_at {D} {V} g m clock node s sound disk up =
       files = there.0;
       is = there.1;
       stands = subst (λ (i : List ℕ). StandsFor there.0 s.version i) image
-          (by_label there.0 s.version (short_log_is_discarded there.0.log (omega (arith, ap length rests.log))) rests.label);
+          (at_rest_stands there.0 s.version (image_of there.0.database) rests);
       plain = plain;
       label = label_says there.0 s.version rests plain;
       runs = ready.runs;

@@ -7,12 +7,11 @@ use Rattle.disk_base.specs.declared.disks.Disk.{Ghosts}
 use Rattle.disk_base.specs.Files.{Files}
 use Rattle.disk_base.specs.Runs.{OnlyReads}
 use Rattle.page_file.specs.Pages.{image_of}
-use Rattle.ubik_log.proofs.Gates.{short_log_is_discarded}
 use Rattle.ubik_store.specs.declared.faults.StoreFault.{StoreFault}
 use Rattle.ubik_store.specs.declared.faults.StoreFault.TheVariants as fault
 use Rattle.ubik_store.specs.declared.stores.Store.{Store}
 use Rattle.ubik_store.specs.Calls.{CallsAtMost}
-use Rattle.ubik_store.specs.Files.{by_label}
+use Rattle.ubik_store.proofs.Rests.{at_rest_stands}
 use Rattle.ubik_store.specs.Opening.{IsOpening, RefusesFiles}
 use Rattle.ubik_store.specs.Rest.{IsAtRest}
 use Rattle.ubik_store.specs.Store.{IsReady}
@@ -230,7 +229,7 @@ served g items_of limits_of limits may_close may_refuse old before now d ended r
 stands_at_rest : (files : Option Files) (version : Version) → IfSome files (λ fs. IsAtRest version (image_of fs.database) fs) → IfSome files StandsForSome
 stands_at_rest None version rests = tt
 stands_at_rest (Some fs) version rests =
-    (version, image_of fs.database, by_label fs version (short_log_is_discarded fs.log (omega (arith, ap length rests.log))) rests.label)
+    (version, image_of fs.database, at_rest_stands fs version (image_of fs.database) rests)
 
 quiet : {D : Type 0} (g : Ghosts D) (s : Store D) → IsReady g s → IsQuiet g s.disk
 quiet g s ready = (ready.settled, stands_at_rest (g.files s.disk) s.version ready.rests)

@@ -9,10 +9,10 @@ use Rattle.disk_base.specs.declared.disks.Disk.{Ghosts}
 use Rattle.ubik_types.specs.declared.versions.Version.{Version}
 use Rattle.disk_base.specs.Files.{Files}
 use Rattle.page_file.specs.Pages.{image_of}
-use Rattle.ubik_log.proofs.Gates.{short_log_is_discarded}
-use Rattle.ubik_store.specs.Files.{StandsFor, by_label}
+use Rattle.ubik_store.specs.Files.{StandsFor}
 use Rattle.ubik_store.specs.Rest.{IsAtRest}
 use Rattle.ubik_store.specs.Store.{image_in}
+use Rattle.ubik_store.proofs.Rests.{at_rest_stands}
 use Rattle.db_image.specs.Database.{Database}
 use Rattle.db_image.specs.Standing.{Standing}
 use Rattle.ubik_calls.specs.declared.packets.Body.{Body}
@@ -241,7 +241,7 @@ stands : (files : Option Files) (version own : Version) (bytes : List ℕ) → I
     → version ≡ own → IfSome (image_in files) (λ there. there ≡ bytes) → IsSomeAnd files (StandsAs (record { version = own; image = bytes }))
 stands None version own bytes is rests same image = absurd cc
 stands (Some fs) version own bytes is rests same image =
-    let there : StandsFor fs version (image_of fs.database) = by_label fs version (short_log_is_discarded fs.log (omega (arith, ap length rests.log))) rests.label in
+    let there = at_rest_stands fs version (image_of fs.database) rests in
     let P : Version → Type 0 = λ v. StandsFor fs v bytes in
     let Q : List ℕ → Type 0 = λ b. StandsFor fs version b in subst P same (subst Q image there)
 

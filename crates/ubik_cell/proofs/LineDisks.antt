@@ -6,9 +6,11 @@ use Rattle.std.specs.Prelude.{Bool, true, false, Option, Some, None, IsSomeAnd, 
 use Rattle.disk_base.specs.declared.disks.Disk.{Ghosts}
 use Rattle.disk_base.specs.Files.{Files, no_files}
 use Rattle.db_image.specs.Database.{Database}
+use Rattle.incoming_file.proofs.Opens.{empty_ignored}
 use Rattle.ubik_log.proofs.Gates.{short_log_is_discarded}
 use Rattle.ubik_store.specs.Opening.{OpensIn}
-use Rattle.ubik_store.specs.Opening.OpensIn.{cuts}
+use Rattle.ubik_store.specs.Opening.OpensIn.{treats}
+use Rattle.ubik_store.specs.Opening.EndsLogIn.{cuts}
 use Rattle.cell_model.specs.Durable.{no_database}
 use Rattle.cell_model.specs.World.{Site}
 use Rattle.cell_runs.specs.Trace.{TraceItem, Tells, Shows, fault_count, is_fault_of}
@@ -48,7 +50,7 @@ same_causes k items before after causes rises =
 
 -- an opening over empty files cuts the log to nothing, and syncs it
 opens_none : OpensIn no_files 2
-opens_none = cuts no_files (short_log_is_discarded [] (omega arith)) (λ same. cc)
+opens_none = treats no_files 2 (empty_ignored [] refl) (cuts no_files (short_log_is_discarded [] (omega arith)) (λ same. cc))
 
 -- an empty disk
 pub empty_unwritten : {D : Type 0} (g : Ghosts D) (disk : D) → g.files disk ≡ Some no_files → IsUnwritten (g.steps disk) (held g disk)

@@ -15,20 +15,21 @@ use Rattle.disk_base.proofs.Runs.{reads_change_none, reads_joined}
 use Rattle.ubik_store.specs.declared.faults.StoreFault.{StoreFault}
 use Rattle.ubik_store.specs.declared.faults.StoreFault.TheVariants.{DiskFault, BadLabel, TooLarge, NotNewer, NoMemory}
 use Rattle.ubik_store.specs.declared.stores.Store.{Store}
-use Rattle.ubik_store.specs.DurableCall.{Commits, EndsAs, HasFailed, IsDurable, Refuses}
+use Rattle.ubik_store.specs.DurableCall.{EndsAs, HasFailed, IsDurableIn, Refuses, Rewrites}
+use Rattle.ubik_store.specs.Rewrite.{Rewrite, rewritten, most_calls, KeepsPuts}
 use Rattle.ubik_store.specs.Gaps.{CutsNoPut}
 use Rattle.ubik_store.specs.Store.{StaysAsItWas, image_in}
 use Rattle.ubik_store.proofs.Applied.{calls_as, calls_joined, calls_of}
 use Rattle.ubik_store.proofs.Telling.{ok_map}
 use Rattle.cell_model.specs.declared.events.Output.{Output}
 use Rattle.cell_model.specs.Node.{Server}
-use Rattle.cell_model.specs.Durable.{Made, change_count, durable, durable_after}
+use Rattle.cell_model.specs.Durable.{Made, durable, durable_after}
 use Rattle.cell_model.specs.Step.{Member, Stepped, outputs_of}
 use Rattle.ubik_node.specs.Disk.{FailsIn, Serves, TakenCutsNoPut}
 use Rattle.ubik_node.specs.Node.{CallsSo, Ends, Held, IsKept, IsMade, LeavesStore, durable_in}
 use Rattle.ubik_node.specs.Stored.{IsStoredAs}
 use Rattle.ubik_node.proofs.AfterReads.{fails_after, serves_after}
-use Rattle.ubik_node.proofs.Durables.{fails_one, serves_one}
+use Rattle.ubik_node.proofs.Durables.{CallsAs, fails_one, serves_one}
 use Rattle.ubik_node.proofs.Endings.{ends_as, failed_ends, made_ends, not_short, told_still}
 
 -- a rule that ended with an error
@@ -41,11 +42,11 @@ told_by change (Some fs) None is told = absurd cc
 told_by change (Some fs) (Some gs) is told = refl
 
 -- what one durable call makes of a server, and that a step makes just that one
-pub record IsOneCall (old : Server) (changes : List Change) (v : Version) (image : List ℕ) (made : Made) (t : Stepped) : Type 0 where
-  pub leads : effect old.image changes ≡ image
+pub record IsOneCall (old : Server) (rewrite : Rewrite) (v : Version) (image : List ℕ) (made : Made) (t : Stepped) : Type 0 where
+  pub leads : rewritten rewrite old.image ≡ image
   pub same : durable_after (durable_in old) made.call ≡ durable v image
-  pub cuts : TakenCutsNoPut made.reason made.call → CutsNoPut changes
-  pub count : change_count made.call ≡ length changes
+  pub cuts : TakenCutsNoPut made.reason made.call → KeepsPuts rewrite
+  pub count : CallsAs made rewrite
   pub calls : t.calls ≡ made ∷ []
 
 module _ {D : Type 0} (g : Ghosts D) where
@@ -80,14 +81,14 @@ module _ {D : Type 0} (g : Ghosts D) where
   refused long v s later NoMemory ends other newer fits = (refl, ends.1)
 
   module _ {knows : Type 0} {t : Stepped} {before after : List Output} (n : Held D) (was : IsKept g n) (up : n.store.failed ≡ false) (s : Store D) {F : Type 0} (reads : OnlyReads g n.store.disk s.disk F) (went : ¬ F)
-      (still : IsStoredAs g s n.server.version n.server.image) (runs : s.failed ≡ false) (later : Store D) (changes : List Change) (v : Version) (image : List ℕ) (made : Made) (one : knows → IsOneCall n.server changes v image made t) where
-    pub known_call_made : {G : Type 0} (server : Server) (place : Member) → place ≡ n.member → Commits g changes v s later → IsDurable g changes v s later G → ¬ G → (knows → (t.server ≡ server) × (after ≡ before ++ outputs_of t.shown))
+      (still : IsStoredAs g s n.server.version n.server.image) (runs : s.failed ≡ false) (later : Store D) (rewrite : Rewrite) (v : Version) (image : List ℕ) (made : Made) (one : knows → IsOneCall n.server rewrite v image made t) where
+    pub known_call_made : {G : Type 0} (server : Server) (place : Member) → place ≡ n.member → Rewrites g rewrite v s later → IsDurableIn g rewrite v s later G → ¬ G → (knows → (t.server ≡ server) × (after ≡ before ++ outputs_of t.shown))
         → Ends g knows t before after n (record n { store = later; server = server; member = place }) (Ok tt)
     known_call_made server place member done durably fine shows =
         made_ends g n (record n { store = later; server = server; member = place }) refl member
-        (0 + (14 + length changes), calls_as (omega arith) (λ failed. fine failed) (λ none. absurd none) (calls_joined (calls_of (reads_change_none {f = Database} reads)) went durably.calls))
+        (0 + most_calls rewrite, calls_as (omega arith) (λ failed. fine failed) (λ none. absurd none) (calls_joined (calls_of (reads_change_none {f = Database} reads)) went durably.calls))
         done.failed
-        (λ told. told_by (λ bytes. effect bytes changes) (g.files s.disk) (g.files later.disk) done.image (told_still g reads went told))
+        (λ told. told_by (rewritten rewrite) (g.files s.disk) (g.files later.disk) done.image (told_still g reads went told))
         (λ known.
         let shown = shows known in
         let is = one known in
@@ -97,10 +98,10 @@ module _ {D : Type 0} (g : Ghosts D) where
           disk =
               subst (λ (made : List Made). Serves g (durable_in n.server) n.store.disk later.disk made) (sym is.calls)
               (serves_after g n.store.disk s.disk later.disk reads went (durable_in n.server) (made ∷ [])
-              (serves_one g s later (durable_in n.server) changes v image made (still.image runs) (still.version runs) is.leads is.same is.cuts is.count done.steps durably));
+              (serves_one g s later (durable_in n.server) rewrite v image made (still.image runs) (still.version runs) is.leads is.same is.cuts is.count done.steps durably));
         })
 
-    pub known_call_failed : (long : ℕ → Type 0) (e : StoreFault) → EndsAs g long v s later e → version_lt s.version v ≡ true → ((bytes : ℕ) → long bytes → ⊥) → IsDurable g changes v s later (IsErrOf (ended e) DiskFault)
+    pub known_call_failed : (long : ℕ → Type 0) (e : StoreFault) → EndsAs g long v s later e → version_lt s.version v ≡ true → ((bytes : ℕ) → long bytes → ⊥) → IsDurableIn g rewrite v s later (IsErrOf (ended e) DiskFault)
         → Ends g knows t before after n (record n { store = later }) (Err e)
     known_call_failed long e ends newer fits durably = by e ends durably
       where
@@ -110,15 +111,15 @@ module _ {D : Type 0} (g : Ghosts D) where
             let all = reads_joined reads went no.1.disk in
             failed_ends g n (record n { store = later }) refl refl e (inr no.0) was up all (λ none. absurd none) (λ is. other is) (λ _. no.1.store.failed ∙ runs) (λ is. absurd (other is)) refl
 
-        by : (e : StoreFault) → EndsAs g long v s later e → IsDurable g changes v s later (IsErrOf (ended e) DiskFault) → Ends g knows t before after n (record n { store = later }) (Err e)
+        by : (e : StoreFault) → EndsAs g long v s later e → IsDurableIn g rewrite v s later (IsErrOf (ended e) DiskFault) → Ends g knows t before after n (record n { store = later }) (Err e)
         by DiskFault ends durably = record {
           made = λ _. tt;
           failed = λ known _.
               let is = one known in
               subst (λ (made : List Made). FailsIn g (durable_in n.server) n.store.disk later.disk made) (sym is.calls)
               (fails_after g n.store.disk s.disk later.disk reads went (durable_in n.server) (made ∷ [])
-              (fails_one g s later (durable_in n.server) changes v image made (still.sound.ready runs) (still.image runs) (still.version runs) is.leads is.same is.cuts is.count durably));
-          leaves = failed_leaves later ends.failed (0 + (14 + length changes), calls_as (omega arith) (λ failed. failed) (λ failed. failed) (calls_joined (calls_of (reads_change_none {f = Database} reads)) went durably.calls));
+              (fails_one g s later (durable_in n.server) rewrite v image made (still.sound.ready runs) (still.image runs) (still.version runs) is.leads is.same is.cuts is.count durably));
+          leaves = failed_leaves later ends.failed (0 + most_calls rewrite, calls_as (omega arith) (λ failed. failed) (λ failed. failed) (calls_joined (calls_of (reads_change_none {f = Database} reads)) went durably.calls));
           state = λ other. refl;
           keeps = λ failed. refl;
           last = refl;
@@ -128,15 +129,15 @@ module _ {D : Type 0} (g : Ghosts D) where
 
   -- the same where that is so whatever the disk tells
   module _ {knows : Type 0} {t : Stepped} {before after : List Output} (n : Held D) (was : IsKept g n) (up : n.store.failed ≡ false) (s : Store D) {F : Type 0} (reads : OnlyReads g n.store.disk s.disk F) (went : ¬ F)
-      (still : IsStoredAs g s n.server.version n.server.image) (runs : s.failed ≡ false) (later : Store D) (changes : List Change) (v : Version) (image : List ℕ) (made : Made) (leads : effect n.server.image changes ≡ image)
-      (same : durable_after (durable_in n.server) made.call ≡ durable v image) (cuts : TakenCutsNoPut made.reason made.call → CutsNoPut changes) (count : change_count made.call ≡ length changes) (calls : t.calls ≡ made ∷ []) where
-    pub call_made : {G : Type 0} (server : Server) (place : Member) → place ≡ n.member → Commits g changes v s later → IsDurable g changes v s later G → ¬ G → (knows → (t.server ≡ server) × (after ≡ before ++ outputs_of t.shown))
+      (still : IsStoredAs g s n.server.version n.server.image) (runs : s.failed ≡ false) (later : Store D) (rewrite : Rewrite) (v : Version) (image : List ℕ) (made : Made) (leads : rewritten rewrite n.server.image ≡ image)
+      (same : durable_after (durable_in n.server) made.call ≡ durable v image) (cuts : TakenCutsNoPut made.reason made.call → KeepsPuts rewrite) (count : CallsAs made rewrite) (calls : t.calls ≡ made ∷ []) where
+    pub call_made : {G : Type 0} (server : Server) (place : Member) → place ≡ n.member → Rewrites g rewrite v s later → IsDurableIn g rewrite v s later G → ¬ G → (knows → (t.server ≡ server) × (after ≡ before ++ outputs_of t.shown))
         → Ends g knows t before after n (record n { store = later; server = server; member = place }) (Ok tt)
-    call_made = known_call_made n was up s reads went still runs later changes v image made (λ _. record { leads = leads; same = same; cuts = cuts; count = count; calls = calls })
+    call_made = known_call_made n was up s reads went still runs later rewrite v image made (λ _. record { leads = leads; same = same; cuts = cuts; count = count; calls = calls })
 
-    pub call_failed : (long : ℕ → Type 0) (e : StoreFault) → EndsAs g long v s later e → version_lt s.version v ≡ true → ((bytes : ℕ) → long bytes → ⊥) → IsDurable g changes v s later (IsErrOf (ended e) DiskFault)
+    pub call_failed : (long : ℕ → Type 0) (e : StoreFault) → EndsAs g long v s later e → version_lt s.version v ≡ true → ((bytes : ℕ) → long bytes → ⊥) → IsDurableIn g rewrite v s later (IsErrOf (ended e) DiskFault)
         → Ends g knows t before after n (record n { store = later }) (Err e)
-    call_failed = known_call_failed n was up s reads went still runs later changes v image made (λ _. record { leads = leads; same = same; cuts = cuts; count = count; calls = calls })
+    call_failed = known_call_failed n was up s reads went still runs later rewrite v image made (λ _. record { leads = leads; same = same; cuts = cuts; count = count; calls = calls })
 
   -- a rule after reads
   pub after_reads : {knows : Type 0} {t : Stepped} {before after : List Output} (n : Held D) (s : Store D) (m : Held D) (r : Result (Unit {0}) StoreFault) {F : Type 0} → OnlyReads g n.store.disk s.disk F → ¬ F

@@ -12,17 +12,17 @@ use Rattle.disk_base.specs.Runs.{OnlyReads}
 use Rattle.disk_base.specs.Stops.{IsStopped, after_changes}
 use Rattle.disk_base.proofs.Runs.{widened, rested}
 use Rattle.page_file.specs.Pages.{image_of}
-use Rattle.ubik_log.proofs.Gates.{short_log_is_discarded}
 use Rattle.ubik_store.specs.declared.stores.Store.{Store}
-use Rattle.ubik_store.specs.DurableCall.{IsDurable}
+use Rattle.ubik_store.specs.DurableCall.{IsDurableIn}
 use Rattle.ubik_store.specs.Files.{StandsFor, StandsForEither}
-use Rattle.ubik_store.specs.Files.StandsFor.{by_label}
-use Rattle.ubik_store.specs.Gaps.{IsPlain, CutsNoPut}
-use Rattle.ubik_store.specs.Moments.{head_calls}
+use Rattle.ubik_store.specs.Gaps.{IsPlain}
 use Rattle.ubik_store.specs.Rest.{IsAtRest}
+use Rattle.ubik_store.specs.Rewrite.{Rewrite, rewritten, rewrite_calls, KeepsPuts}
+use Rattle.ubik_store.specs.Rewrite.Rewrite.{Changed, Replaced}
 use Rattle.ubik_store.specs.Store.{IsReady, image_in}
+use Rattle.ubik_store.proofs.Rests.{at_rest_stands}
 use Rattle.ubik_store.proofs.Telling.{told, of_told}
-use Rattle.cell_model.specs.Durable.{Durable, Made, durable, durable_after, durable_after_all, change_count}
+use Rattle.cell_model.specs.Durable.{Durable, Made, disk_calls, durable, durable_after, durable_after_all, label_calls}
 use Rattle.ubik_node.specs.Disk.{FailsIn, StandsAs, StandsBetween, StandsWithin, LeavesWithin, Serves, TakenCutsNoPut, has_label, calls_made}
 
 -- the image that stands there is the one that is known
@@ -53,37 +53,53 @@ head_is : (b : Bool) → ◌≡◌ {A = ℕ} (cond b 1 0) (cond (not b) 0 1)
 head_is true = refl
 head_is false = refl
 
-pub calls_one : (file : List ℕ) (made : Made) (changes : ℕ) → change_count made.call ≡ changes → 13 + changes + head_calls file ≡ calls_made (has_label file) (made ∷ [])
-calls_one file made changes count = let head = head_is (ltb (length file) 64) in omega (arith, count, head)
+-- the calls of a rewrite, by whether the database file has a label
+abbrev pub calls_by : Rewrite → Bool → ℕ
+calls_by (Changed changes) labelled = 13 + length changes + label_calls labelled
+calls_by (Replaced image) labelled = 15
 
-module _ {D : Type 0} (g : Ghosts D) (old new : Store D) (d : Durable) (changes : List Change) (v : Version) (image : List ℕ) (made : Made) {F : Type 0} where
+-- a durable call makes as many
+abbrev pub CallsAs : Made → Rewrite → Type 0
+CallsAs made rewrite = (labelled : Bool) → disk_calls labelled made.call ≡ calls_by rewrite labelled
+
+rewrite_calls_by : (rewrite : Rewrite) (file : List ℕ) → rewrite_calls rewrite file ≡ calls_by rewrite (has_label file)
+rewrite_calls_by (Changed changes) file = let head = head_is (ltb (length file) 64) in omega (arith, head)
+rewrite_calls_by (Replaced image) file = refl
+
+pub calls_one : (file : List ℕ) (made : Made) (rewrite : Rewrite) → CallsAs made rewrite → rewrite_calls rewrite file ≡ calls_made (has_label file) (made ∷ [])
+calls_one file made rewrite count =
+    let as_by = rewrite_calls_by rewrite file in
+    let as_made = count (has_label file) in
+    omega (arith, as_by, as_made)
+
+module _ {D : Type 0} (g : Ghosts D) (old new : Store D) (d : Durable) (rewrite : Rewrite) (v : Version) (image : List ℕ) (made : Made) {F : Type 0} where
   -- one durable call of the store
-  pub leaves_one : IsThere d.image (image_in (g.files old.disk)) → old.version ≡ d.version → effect d.image changes ≡ image → durable_after d made.call ≡ durable v image → (TakenCutsNoPut made.reason made.call → CutsNoPut changes)
-      → IsDurable g changes v old new F → LeavesWithin g d old.disk new.disk (made ∷ [])
+  pub leaves_one : IsThere d.image (image_in (g.files old.disk)) → old.version ≡ d.version → rewritten rewrite d.image ≡ image → durable_after d made.call ≡ durable v image → (TakenCutsNoPut made.reason made.call → KeepsPuts rewrite)
+      → IsDurableIn g rewrite v old new F → LeavesWithin g d old.disk new.disk (made ∷ [])
   leaves_one there version leads after cuts made_so = record {
     moments = told (g.files old.disk) (λ _. LeavesOnly g.steps g.left_since old.disk new.disk (StandsWithin d (made ∷ []))) (λ fs is.
         let here : image_of fs.database ≡ d.image = image_there (g.files old.disk) fs d.image is there in
-        let Either : Files → Type 0 = StandsForEither old.version (image_of fs.database) v (effect (image_of fs.database) changes) in
+        let Either : Files → Type 0 = StandsForEither old.version (image_of fs.database) v (rewritten rewrite (image_of fs.database)) in
         widened g.steps g.left_since old.disk new.disk Either (StandsWithin d (made ∷ []))
-        (stands_one d (durable v image) made old.version v (image_of fs.database) (effect (image_of fs.database) changes) version here
-        (ap (durable v) (ap (λ (xs : List ℕ). effect xs changes) here ∙ leads)) after)
-        (of_told (g.files old.disk) fs (λ fs. LeavesOnly g.steps g.left_since old.disk new.disk (StandsForEither old.version (image_of fs.database) v (effect (image_of fs.database) changes))) is made_so.moments));
+        (stands_one d (durable v image) made old.version v (image_of fs.database) (rewritten rewrite (image_of fs.database)) version here
+        (ap (durable v) (ap (rewritten rewrite) here ∙ leads)) after)
+        (of_told (g.files old.disk) fs (λ fs. LeavesOnly g.steps g.left_since old.disk new.disk (StandsForEither old.version (image_of fs.database) v (rewritten rewrite (image_of fs.database)))) is made_so.moments));
     plain = λ taken. made_so.plain (cuts taken.0);
   }
 
-  pub serves_one : IsThere d.image (image_in (g.files old.disk)) → old.version ≡ d.version → effect d.image changes ≡ image → durable_after d made.call ≡ durable v image → (TakenCutsNoPut made.reason made.call → CutsNoPut changes)
-      → change_count made.call ≡ length changes → IfSome (g.files old.disk) (λ fs. g.steps new.disk ≡ g.steps old.disk + (13 + length changes + head_calls fs.database))
-      → IsDurable g changes v old new F → Serves g d old.disk new.disk (made ∷ [])
+  pub serves_one : IsThere d.image (image_in (g.files old.disk)) → old.version ≡ d.version → rewritten rewrite d.image ≡ image → durable_after d made.call ≡ durable v image → (TakenCutsNoPut made.reason made.call → KeepsPuts rewrite)
+      → CallsAs made rewrite → IfSome (g.files old.disk) (λ fs. g.steps new.disk ≡ g.steps old.disk + rewrite_calls rewrite fs.database)
+      → IsDurableIn g rewrite v old new F → Serves g d old.disk new.disk (made ∷ [])
   serves_one there version leads after cuts count rose made_so = record {
     leaves = leaves_one there version leads after cuts made_so;
     steps = told (g.files old.disk) (λ fs. g.steps new.disk ≡ g.steps old.disk + calls_made (has_label fs.database) (made ∷ [])) (λ fs is.
-        of_told (g.files old.disk) fs (λ fs. g.steps new.disk ≡ g.steps old.disk + (13 + length changes + head_calls fs.database)) is rose
-        ∙ ap (λ (n : ℕ). g.steps old.disk + n) (calls_one fs.database made (length changes) count));
+        of_told (g.files old.disk) fs (λ fs. g.steps new.disk ≡ g.steps old.disk + rewrite_calls rewrite fs.database) is rose
+        ∙ ap (λ (n : ℕ). g.steps old.disk + n) (calls_one fs.database made rewrite count));
   }
 
   -- the store failed in it
-  pub fails_one : IsReady g old → IsThere d.image (image_in (g.files old.disk)) → old.version ≡ d.version → effect d.image changes ≡ image → durable_after d made.call ≡ durable v image → (TakenCutsNoPut made.reason made.call → CutsNoPut changes)
-      → change_count made.call ≡ length changes → IsDurable g changes v old new F → FailsIn g d old.disk new.disk (made ∷ [])
+  pub fails_one : IsReady g old → IsThere d.image (image_in (g.files old.disk)) → old.version ≡ d.version → rewritten rewrite d.image ≡ image → durable_after d made.call ≡ durable v image → (TakenCutsNoPut made.reason made.call → KeepsPuts rewrite)
+      → CallsAs made rewrite → IsDurableIn g rewrite v old new F → FailsIn g d old.disk new.disk (made ∷ [])
   fails_one ready there version leads after cuts count made_so =
       let leaves = leaves_one there version leads after cuts made_so in record {
         leaves = leaves;
@@ -93,11 +109,11 @@ module _ {D : Type 0} (g : Ghosts D) (old new : Store D) (d : Durable) (changes 
             let stands = run.each c (g.counts_now new.disk (g.steps old.disk) c run.later left) in
             between_one d made c stands.0 stands.1 stands.2);
         least = told (g.files old.disk) (λ fs. g.steps old.disk + calls_made (has_label fs.database) [] ≤ g.steps new.disk) (λ fs is.
-            let few = of_told (g.files old.disk) fs (λ fs. RisesAtMost (13 + length changes + head_calls fs.database) (g.steps old.disk) (g.steps new.disk)) is made_so.few in
+            let few = of_told (g.files old.disk) fs (λ fs. RisesAtMost (rewrite_calls rewrite fs.database) (g.steps old.disk) (g.steps new.disk)) is made_so.few in
             omega (arith, few.0));
         most = told (g.files old.disk) (λ fs. g.steps new.disk ≤ g.steps old.disk + calls_made (has_label fs.database) (made ∷ [])) (λ fs is.
-            let few = of_told (g.files old.disk) fs (λ fs. RisesAtMost (13 + length changes + head_calls fs.database) (g.steps old.disk) (g.steps new.disk)) is made_so.few in
-            let one = calls_one fs.database made (length changes) count in
+            let few = of_told (g.files old.disk) fs (λ fs. RisesAtMost (rewrite_calls rewrite fs.database) (g.steps old.disk) (g.steps new.disk)) is made_so.few in
+            let one = calls_one fs.database made rewrite count in
             omega (arith, few.1, one));
         running = told (g.files old.disk) (λ fs. ¬ IsStopped (after_changes (calls_made (has_label fs.database) []) (g.stop old.disk))) (λ fs is. ready.runs);
       }
@@ -111,7 +127,7 @@ module _ {D : Type 0} (g : Ghosts D) (s : Store D) (d : Durable) where
 
   none_left : IsReady g s → (fs : Files) → g.files s.disk ≡ Some fs → StandsFor fs s.version (image_of fs.database)
   none_left ready fs is =
-      let rests = at_rest ready fs is in by_label fs s.version (short_log_is_discarded fs.log (omega (arith, ap length rests.log))) rests.label
+      at_rest_stands fs s.version (image_of fs.database) (at_rest ready fs is)
 
   stands_none : IsReady g s → IsThere d.image (image_in (g.files s.disk)) → s.version ≡ d.version → (fs : Files) → g.files s.disk ≡ Some fs → Narrows (StandsWithin d []) (g.may_leave s.disk)
   stands_none ready there version fs is = λ c left.

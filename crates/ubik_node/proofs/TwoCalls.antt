@@ -20,7 +20,9 @@ use Rattle.ubik_store.specs.declared.stores.Store.{Store}
 use Rattle.page_file.specs.Pages.{image_of}
 use Rattle.ubik_store.specs.declared.faults.StoreFault.{StoreFault}
 use Rattle.ubik_store.specs.declared.faults.StoreFault.TheVariants.{DiskFault, BadLabel, TooLarge, NotNewer, NoMemory}
-use Rattle.ubik_store.specs.DurableCall.{Commits, EndsAs, IsDurable, IsNeverLong}
+use Rattle.ubik_store.specs.DurableCall.{Commits, EndsAs, IsDurable, IsDurableIn, IsNeverLong, Rewrites}
+use Rattle.ubik_store.specs.Rewrite.{Rewrite, rewritten, rewrite_calls, most_calls, KeepsPuts}
+use Rattle.ubik_store.specs.Rewrite.Rewrite.{Changed}
 use Rattle.ubik_store.specs.Gaps.{CutsNoPut, IsPlain}
 use Rattle.ubik_store.specs.Moments.{head_calls}
 use Rattle.ubik_store.specs.Rest.{IsAtRest}
@@ -28,13 +30,13 @@ use Rattle.ubik_store.specs.Store.{IsReady, IsSound, image_in}
 use Rattle.ubik_store.proofs.Applied.{calls_as, calls_joined}
 use Rattle.ubik_store.proofs.Telling.{told, of_told}
 use Rattle.cell_model.specs.declared.events.Output.{Output}
-use Rattle.cell_model.specs.Durable.{Durable, Made, change_count, durable, durable_after, durable_after_all}
+use Rattle.cell_model.specs.Durable.{Durable, Made, durable, durable_after, durable_after_all}
 use Rattle.cell_model.specs.Node.{Server}
 use Rattle.cell_model.specs.Step.{Member, Stepped, outputs_of}
 use Rattle.ubik_node.specs.Disk.{FailsIn, LeavesWithin, Serves, StandsAs, StandsBetween, StandsWithin, TakenCutsNoPut, calls_made, has_label}
 use Rattle.ubik_node.specs.Node.{Ends, Held, IsKept, durable_in}
 use Rattle.ubik_node.proofs.Calling.{call_failed, ended, failed_leaves, told_by}
-use Rattle.ubik_node.proofs.Durables.{IsThere, calls_one, fails_one, image_then, leaves_one, serves_one}
+use Rattle.ubik_node.proofs.Durables.{CallsAs, IsThere, calls_one, fails_one, image_then, leaves_one, serves_one}
 use Rattle.ubik_node.proofs.Endings.{ends_as, made_ends, reads_none}
 
 -- a database file that is shorter than a label is an empty one, of the first version
@@ -96,13 +98,13 @@ module _ {D : Type 0} (g : Ghosts D) (old mid : D) (d : Durable) (first second :
   within_second c stands = (suc stands.0, omega (arith, stands.1), stands.2)
 
   -- the first call failed
-  pub fails_first : (was now : Store D) (changes : List Change) → was.disk ≡ old → now.disk ≡ mid → IsReady g was → change_count first.call ≡ length changes
-      → LeavesWithin g d old mid (first ∷ []) → IfSome (g.files old) (λ fs. RisesAtMost (13 + length changes + head_calls fs.database) (g.steps old) (g.steps mid)) → FailsIn g d old mid both
-  fails_first was now changes before after ready count leaves few =
+  pub fails_first : (was now : Store D) (rewrite : Rewrite) → was.disk ≡ old → now.disk ≡ mid → IsReady g was → CallsAs first rewrite
+      → LeavesWithin g d old mid (first ∷ []) → IfSome (g.files old) (λ fs. RisesAtMost (rewrite_calls rewrite fs.database) (g.steps old) (g.steps mid)) → FailsIn g d old mid both
+  fails_first was now rewrite before after ready count leaves few =
       let run : (fs : Files) → g.files old ≡ Some fs → LeavesOnly g.steps g.left_since old mid (StandsWithin d (first ∷ [])) =
       λ fs is. of_told (g.files old) fs (λ _. LeavesOnly g.steps g.left_since old mid (StandsWithin d (first ∷ []))) is leaves.moments in
-      let rose : (fs : Files) → g.files old ≡ Some fs → RisesAtMost (13 + length changes + head_calls fs.database) (g.steps old) (g.steps mid) =
-      λ fs is. of_told (g.files old) fs (λ fs. RisesAtMost (13 + length changes + head_calls fs.database) (g.steps old) (g.steps mid)) is few in
+      let rose : (fs : Files) → g.files old ≡ Some fs → RisesAtMost (rewrite_calls rewrite fs.database) (g.steps old) (g.steps mid) =
+      λ fs is. of_told (g.files old) fs (λ fs. RisesAtMost (rewrite_calls rewrite fs.database) (g.steps old) (g.steps mid)) is few in
       record {
         leaves = record {
           moments = told (g.files old) (λ _. LeavesOnly g.steps g.left_since old mid (StandsWithin d both)) (λ fs is.
@@ -116,7 +118,7 @@ module _ {D : Type 0} (g : Ghosts D) (old mid : D) (d : Durable) (first second :
         least = told (g.files old) (λ fs. g.steps old + calls_made (has_label fs.database) [] ≤ g.steps mid) (λ fs is. let low = (rose fs is).0 in omega (arith, low));
         most = told (g.files old) (λ fs. g.steps mid ≤ g.steps old + calls_made (has_label fs.database) (first ∷ [])) (λ fs is.
             let high = (rose fs is).1 in
-            let one = calls_one fs.database first (length changes) count in
+            let one = calls_one fs.database first rewrite count in
             omega (arith, high, one));
         running = told (g.files old) (λ fs. ¬ IsStopped (after_changes (calls_made (has_label fs.database) []) (g.stop old))) (λ fs is.
             subst (λ (disk : D). ¬ IsStopped (g.stop disk)) before ready.runs);
@@ -204,29 +206,29 @@ module _ {D : Type 0} (g : Ghosts D) (old mid : D) (d : Durable) (first second :
           as_many : (a b x n y : ℕ) → b ≡ a + (x + 0) → b ≡ a + n → n + y ≡ x + y
           as_many a b x n y one run = omega arith
 
-module _ {D : Type 0} (g : Ghosts D) (n : Held D) (was : IsKept g n) (up : n.store.failed ≡ false) (mid : Store D) (sound : IsSound g mid) (changes : List Change) (v : Version) (image : List ℕ)
-    (first second : Made) (leads : effect n.server.image changes ≡ image) (same : durable_after (durable_in n.server) first.call ≡ durable v image) (cuts : TakenCutsNoPut first.reason first.call → CutsNoPut changes) (count : change_count first.call ≡ length changes) where
+module _ {D : Type 0} (g : Ghosts D) (n : Held D) (was : IsKept g n) (up : n.store.failed ≡ false) (mid : Store D) (sound : IsSound g mid) (rewrite : Rewrite) (v : Version) (image : List ℕ)
+    (first second : Made) (leads : rewritten rewrite n.server.image ≡ image) (same : durable_after (durable_in n.server) first.call ≡ durable v image) (cuts : TakenCutsNoPut first.reason first.call → KeepsPuts rewrite) (count : CallsAs first rewrite) where
   -- the first call was not made
-  pub first_failed : {knows : Type 0} {t : Stepped} {before after : List Output} → t.calls ≡ first ∷ second ∷ [] → (long : ℕ → Type 0) (e : StoreFault) → EndsAs g long v n.store mid e → version_lt n.store.version v ≡ true → ((bytes : ℕ) → long bytes → ⊥) → IsDurable g changes v n.store mid (IsErrOf (ended e) DiskFault)
+  pub first_failed : {knows : Type 0} {t : Stepped} {before after : List Output} → t.calls ≡ first ∷ second ∷ [] → (long : ℕ → Type 0) (e : StoreFault) → EndsAs g long v n.store mid e → version_lt n.store.version v ≡ true → ((bytes : ℕ) → long bytes → ⊥) → IsDurableIn g rewrite v n.store mid (IsErrOf (ended e) DiskFault)
       → Ends g knows t before after n (record n { store = mid }) (Err e)
   first_failed {knows} {t} {before} {after} calls long e ends newer fits durably =
       let one : Ends g knows (record t { calls = first ∷ [] }) before after n (record n { store = mid }) (Err e) =
-      call_failed g n was up n.store (reads_none g n.store.disk) (λ none. none) was up mid changes v image first leads same cuts count refl long e ends newer fits durably in
+      call_failed g n was up n.store (reads_none g n.store.disk) (λ none. none) was up mid rewrite v image first leads same cuts count refl long e ends newer fits durably in
       ends_as g (λ _. tt) (λ known _.
       subst (λ (all : List Made). FailsIn g (durable_in n.server) n.store.disk mid.disk all) (sym calls)
-      (fails_first g n.store.disk mid.disk (durable_in n.server) first second n.store mid changes refl refl (was.sound.ready up) count
-      (leaves_one g n.store mid (durable_in n.server) changes v image first (was.image up) (was.version up) leads same cuts durably) durably.few)) one
+      (fails_first g n.store.disk mid.disk (durable_in n.server) first second n.store mid rewrite refl refl (was.sound.ready up) count
+      (leaves_one g n.store mid (durable_in n.server) rewrite v image first (was.image up) (was.version up) leads same cuts durably) durably.few)) one
 
-  module _ {F : Type 0} (done : Commits g changes v n.store mid) (durably : IsDurable g changes v n.store mid F) (went : ¬ F) (later : Store D) (w : Version) (none : change_count second.call ≡ 0)
+  module _ {F : Type 0} (done : Rewrites g rewrite v n.store mid) (durably : IsDurableIn g rewrite v n.store mid F) (went : ¬ F) (later : Store D) (w : Version) (none : CallsAs second (Changed []))
       (next : durable_after (durable v image) second.call ≡ durable w image) where
     ready : IsReady g mid
     ready = sound.ready done.failed
 
     there : IsThere image (image_in (g.files mid.disk))
-    there = image_then (λ bytes. effect bytes changes) (image_in (g.files n.store.disk)) (image_in (g.files mid.disk)) n.server.image image done.image (was.image up) leads
+    there = image_then (rewritten rewrite) (image_in (g.files n.store.disk)) (image_in (g.files mid.disk)) n.server.image image done.image (was.image up) leads
 
     tells : IsSome (g.files n.store.disk) → IsSome (g.files mid.disk)
-    tells = told_by (λ bytes. effect bytes changes) (g.files n.store.disk) (g.files mid.disk) done.image
+    tells = told_by (rewritten rewrite) (g.files n.store.disk) (g.files mid.disk) done.image
 
     label : IfSome (g.files mid.disk) (λ fs. has_label fs.database ≡ true)
     label = told (g.files mid.disk) (λ fs. has_label fs.database ≡ true) (λ fs is.
@@ -234,13 +236,13 @@ module _ {D : Type 0} (g : Ghosts D) (n : Held D) (was : IsKept g n) (up : n.sto
         label_after fs.database n.store.version v (rests.label ∙ ap Some done.version) done.newer)
 
     one : Serves g (durable_in n.server) n.store.disk mid.disk (first ∷ [])
-    one = serves_one g n.store mid (durable_in n.server) changes v image first (was.image up) (was.version up) leads same cuts count done.steps durably
+    one = serves_one g n.store mid (durable_in n.server) rewrite v image first (was.image up) (was.version up) leads same cuts count done.steps durably
 
     -- both were made
     pub both_made : {knows : Type 0} {t : Stepped} {before after : List Output} {G : Type 0} → t.calls ≡ first ∷ second ∷ [] → (server : Server) (place : Member) → place ≡ n.member → Commits g [] w mid later → IsDurable g [] w mid later G → ¬ G → (knows → (t.server ≡ server) × (after ≡ before ++ outputs_of t.shown)) → Ends g knows t before after n (record n { store = later; server = server; member = place }) (Ok tt)
     both_made calls server place member also durably_too fine shows =
         made_ends g n (record n { store = later; server = server; member = place }) refl member
-        (14 + length changes + 14, calls_as (omega arith) (λ failed. fine failed) (λ none. absurd none) (calls_joined durably.calls went durably_too.calls))
+        (most_calls rewrite + 14, calls_as (omega arith) (λ failed. fine failed) (λ none. absurd none) (calls_joined durably.calls went durably_too.calls))
         also.failed
         (λ told. told_by (λ bytes. effect bytes []) (g.files mid.disk) (g.files later.disk) also.image (tells told))
         (λ known.
@@ -252,7 +254,7 @@ module _ {D : Type 0} (g : Ghosts D) (n : Held D) (was : IsKept g n) (up : n.sto
               subst (λ (all : List Made). Serves g (durable_in n.server) n.store.disk later.disk all) (sym calls)
               (serves_both g n.store.disk mid.disk (durable_in n.server) first second later.disk tells label one
               (subst (λ (e : Durable). Serves g e mid.disk later.disk (second ∷ [])) (sym same)
-              (serves_one g mid later (durable v image) [] w image second there done.version refl next (λ _. tt) none also.steps durably_too)));
+              (serves_one g mid later (durable v image) (Changed []) w image second there done.version refl next (λ _. tt) none also.steps durably_too)));
         })
 
     -- the second one was not made: its disk failed
@@ -264,8 +266,8 @@ module _ {D : Type 0} (g : Ghosts D) (n : Held D) (was : IsKept g n) (up : n.sto
           subst (λ (all : List Made). FailsIn g (durable_in n.server) n.store.disk later.disk all) (sym calls)
           (fails_second g n.store.disk mid.disk (durable_in n.server) first second later.disk tells label one durably.calls.advances
           (subst (λ (e : Durable). FailsIn g e mid.disk later.disk (second ∷ [])) (sym same)
-          (fails_one g mid later (durable v image) [] w image second ready there done.version refl next (λ _. tt) none durably_too)));
-      leaves = failed_leaves g later ends.failed (14 + length changes + 14, calls_as (omega arith) (λ failed. failed) (λ failed. failed) (calls_joined durably.calls went durably_too.calls));
+          (fails_one g mid later (durable v image) (Changed []) w image second ready there done.version refl next (λ _. tt) none durably_too)));
+      leaves = failed_leaves g later ends.failed (most_calls rewrite + 14, calls_as (omega arith) (λ failed. failed) (λ failed. failed) (calls_joined durably.calls went durably_too.calls));
       state = λ other. refl;
       keeps = λ failed. refl;
       last = refl;

@@ -20,9 +20,12 @@ use Rattle.ubik_log.specs.Gate.{closed}
 use Rattle.ubik_log.specs.LogFile.{with_log, gate_set, HasDiscarded, HasLogOrNone, KeepsLog}
 use Rattle.ubik_log.specs.LogGrammar.{IsCommitted, IsDiscarded}
 use Rattle.ubik_log.proofs.Gates.{opened_log_is_committed, short_log_is_discarded}
+use Rattle.incoming_file.specs.Incoming.{IsIgnored}
+use Rattle.incoming_file.proofs.Opens.{empty_ignored}
 use Rattle.ubik_store.specs.Files.{StandsFor, StandsForEither}
 use Rattle.ubik_store.specs.Files.StandsFor.{by_log, by_label}
 use Rattle.ubik_store.specs.Moments.{MayRedo, LeadsTo, ended}
+use Rattle.ubik_store.specs.Rest.{AreEmpty}
 use Rattle.ubik_store.proofs.Redone.{redoes_itself, one_at}
 use Rattle.ubik_store.proofs.Redoing.{one_covered}
 use Rattle.ubik_store.proofs.Telling.{of_told, of_some}
@@ -33,38 +36,44 @@ fits_of pages files fs agrees is len =
     let at = of_told files fs (λ fs. Agrees pages fs.database) is agrees in
     omega (arith, at.len, len, length-drop 64 fs.database)
 
-module _ (fs : Files) (own v : Version) (changes : List Change) (log : List ℕ) where
+module _ (fs : Files) (own v : Version) (changes : List Change) (log : List ℕ) (ignored : IsIgnored fs.incoming) where
   -- while the log is kept, the label counts
-  stands_by_own : (c : Files) → version_of_database fs.database ≡ Some own → c.database ≡ fs.database → IsDiscarded c.log → StandsFor c own (image_of fs.database)
-  stands_by_own c labelled same discarded =
-      subst (λ (xs : List ℕ). StandsFor c own (image_of xs)) same (by_label c own discarded (ap version_of_database same ∙ labelled))
+  stands_by_own : (c : Files) → version_of_database fs.database ≡ Some own → c.database ≡ fs.database → c.incoming ≡ fs.incoming
+      → IsDiscarded c.log → StandsFor c own (image_of fs.database)
+  stands_by_own c labelled same beside discarded =
+      subst (λ (xs : List ℕ). StandsFor c own (image_of xs)) same
+      (by_label c own (subst IsIgnored (sym beside) ignored) discarded (ap version_of_database same ∙ labelled))
 
   pub stands_before : version_of_database fs.database ≡ Some own → (before : Files → Type 0) → Only fs before → (c : Files) → After HasDiscarded before c
       → StandsForEither own (image_of fs.database) v (effect (image_of fs.database) changes) c
   stands_before labelled before only c from =
-      inl (stands_by_own c labelled (ap (λ (f : Files). f.database) from.2.1 ∙ ap (λ (f : Files). f.database) (only from.0 from.1)) from.2.0)
+      inl (stands_by_own c labelled (ap (λ (f : Files). f.database) from.2.1 ∙ ap (λ (f : Files). f.database) (only from.0 from.1))
+      (ap (λ (f : Files). f.incoming) from.2.1 ∙ ap (λ (f : Files). f.incoming) (only from.0 from.1)) from.2.0)
 
   stands_at_gate : (c : Files) → IsCommitted log changes v → length fs.database ≤ MAX_DATABASE_LEN → version_of_database fs.database ≡ Some own → c.database ≡ fs.database
-      → (c.log ≡ log) ⊎ IsDiscarded c.log → StandsForEither own (image_of fs.database) v (effect (image_of fs.database) changes) c
-  stands_at_gate c committed fits labelled same (inl is) =
+      → c.incoming ≡ fs.incoming → (c.log ≡ log) ⊎ IsDiscarded c.log → StandsForEither own (image_of fs.database) v (effect (image_of fs.database) changes) c
+  stands_at_gate c committed fits labelled same beside (inl is) =
       let there : IsCommitted c.log changes v = subst (λ (xs : List ℕ). IsCommitted xs changes v) (sym is) committed in
       let fits_too : length c.database ≤ MAX_DATABASE_LEN = subst (λ (xs : List ℕ). length xs ≤ MAX_DATABASE_LEN) (sym same) fits in
-      inr (subst (λ (xs : List ℕ). StandsFor c v (effect (image_of xs) changes)) same (by_log c changes v there fits_too))
-  stands_at_gate c committed fits labelled same (inr discarded) = inl (stands_by_own c labelled same discarded)
+      inr (subst (λ (xs : List ℕ). StandsFor c v (effect (image_of xs) changes)) same
+      (by_log c changes v (record { ignored = subst IsIgnored (sym beside) ignored; committed = there }) fits_too))
+  stands_at_gate c committed fits labelled same beside (inr discarded) = inl (stands_by_own c labelled same beside discarded)
 
   -- while its gate is opened, the one or the other
   pub stands_in_gate : IsCommitted log changes v → length fs.database ≤ MAX_DATABASE_LEN → version_of_database fs.database ≡ Some own
       → (mid : Files → Type 0) → Only (with_log (closed log) fs) mid → (c : Files) → After (HasLogOrNone log) mid c → StandsForEither own (image_of fs.database) v (effect (image_of fs.database) changes) c
   stands_in_gate committed fits labelled mid only c from =
-      stands_at_gate c committed fits labelled (ap (λ (f : Files). f.database) from.2.1 ∙ ap (λ (f : Files). f.database) (only from.0 from.1)) from.2.0
+      stands_at_gate c committed fits labelled (ap (λ (f : Files). f.database) from.2.1 ∙ ap (λ (f : Files). f.database) (only from.0 from.1))
+      (ap (λ (f : Files). f.incoming) from.2.1 ∙ ap (λ (f : Files). f.incoming) (only from.0 from.1)) from.2.0
 
 all_covered : (changes : List Change) (base : List ℕ) (k : ℕ) (d : Change) → k < length changes → IsCovered changes base (get_or changes k d)
 all_covered changes base k d below = one_covered changes base (get_or changes k d) (one_at changes k d below)
 
 -- the changes of the log themselves
-pub leads_itself : (fs : Files) (v : Version) (changes : List Change) (log : List ℕ) → IsCommitted log changes v → LeadsTo (with_log log fs) changes v changes
-leads_itself fs v changes log committed = record {
-  committed = committed;
+pub leads_itself : (fs : Files) (v : Version) (changes : List Change) (log : List ℕ) → IsIgnored fs.incoming → IsCommitted log changes v
+    → LeadsTo (with_log log fs) changes v changes
+leads_itself fs v changes log ignored committed = record {
+  logged = record { ignored = ignored; committed = committed };
   covered = all_covered changes (image_of fs.database);
   same = refl;
 }
@@ -97,6 +106,9 @@ only_log fs log left is only = λ c here. ap (λ (f : Files). f.log) (only c her
 pub settled_at : (files : Option Files) (fs : Files) (left : Files → Type 0) → files ≡ Some fs → IsSettled files left → Only fs left
 settled_at files fs left is settled = of_told files fs (λ fs. Only fs left) is settled
 
+pub ignored_at : (files : Option Files) (fs : Files) → files ≡ Some fs → IfSome files AreEmpty → IsIgnored fs.incoming
+ignored_at files fs is empty = empty_ignored fs.incoming (of_told files fs AreEmpty is empty).1
+
 -- what is settled stays so where a crash leaves no more
 pub settled_narrow : (old new : Option Files) (before now : Files → Type 0) → new ≡ old → Narrows before now → IsSettled old before → IsSettled new now
 settled_narrow None new before now is narrows settled = let P : Option Files → Type 0 = λ o. IsSettled o now in subst P (sym is) tt
@@ -112,11 +124,12 @@ pub all_end_more : (changes : List Change) (m n : ℕ) → m ≤ n → All (λ c
 all_end_more changes m n more ends = λ k d below. ends_more (get_or changes k d) m n more (ends k d below)
 
 -- files at rest stand for their label
-pub stands_at_rest : (fs : Files) (own v : Version) (image : List ℕ) (before : Files → Type 0) → fs.log ≡ [] → version_of_database fs.database ≡ Some own → Only fs before
+pub stands_at_rest : (fs : Files) (own v : Version) (image : List ℕ) (before : Files → Type 0) → AreEmpty fs
+    → version_of_database fs.database ≡ Some own → Only fs before
     → (c : Files) → before c → StandsForEither own (image_of fs.database) v image c
 stands_at_rest fs own v image before empty labelled only c here =
-    let discarded : IsDiscarded fs.log = short_log_is_discarded fs.log (omega (arith, ap length empty)) in
-    let stands : StandsFor fs own (image_of fs.database) = by_label fs own discarded labelled in
+    let discarded : IsDiscarded fs.log = short_log_is_discarded fs.log (omega (arith, ap length empty.0)) in
+    let stands : StandsFor fs own (image_of fs.database) = by_label fs own (empty_ignored fs.incoming empty.1) discarded labelled in
     inl (subst (λ (f : Files). StandsFor f own (image_of fs.database)) (sym (only c here)) stands)
 
 module _ {D : Type 0} (g : Ghosts D) where
@@ -160,15 +173,15 @@ OpensLogOnly g old new =
     → LeavesOnly g.steps g.left_since old new (After (HasLogOrNone log) (g.may_leave old))
 
 module _ {D : Type 0} (g : Ghosts D) (P : Files → Type 0) (fs : Files) (log : List ℕ) where
-  pub while_kept : {old mid : D} → g.files old ≡ Some fs → IfSome (g.files old) (λ fs. fs.log ≡ []) → IsSettled (g.files old) (g.may_leave old)
+  pub while_kept : {old mid : D} → g.files old ≡ Some fs → IfSome (g.files old) AreEmpty → IsSettled (g.files old) (g.may_leave old)
       → HoldsKept P fs → IfSome (g.files old) (λ _. KeepsLogOnly g old mid) → LeavesOnly g.steps g.left_since old mid P
   while_kept {old} {mid} is empty settled holds keeps =
       let only = settled_at (g.files old) fs (g.may_leave old) is settled in
       let run = of_some (g.files old) fs (KeepsLogOnly g old mid) is keeps in
       widened g.steps g.left_since old mid (After HasDiscarded (g.may_leave old)) P (holds (g.may_leave old) only)
-      (run (only_log fs [] (g.may_leave old) (of_told (g.files old) fs (λ fs. fs.log ≡ []) is empty) only))
+      (run (only_log fs [] (g.may_leave old) (of_told (g.files old) fs AreEmpty is empty).0 only))
 
-  pub until_open : {old mid new : D} (changes : List Change) (v : Version) → g.files old ≡ Some fs → IfSome (g.files old) (λ fs. fs.log ≡ []) → IsSettled (g.files old) (g.may_leave old)
+  pub until_open : {old mid new : D} (changes : List Change) (v : Version) → g.files old ≡ Some fs → IfSome (g.files old) AreEmpty → IsSettled (g.files old) (g.may_leave old)
       → HoldsKept P fs → IfSome (g.files old) (λ _. KeepsLogOnly g old mid)
       → HoldsAtGate P fs log → IsCommitted log changes v → KeepsLog g log old mid → OpensLogOnly g mid new → LeavesOnly g.steps g.left_since old new P
   until_open {old} {mid} {new} changes v is empty settled holds keeps at_gate committed kept opens =

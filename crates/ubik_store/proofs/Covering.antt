@@ -12,6 +12,7 @@ use Rattle.ubik_types.specs.Logged.{logged}
 use Rattle.disk_base.specs.Files.{Files}
 use Rattle.page_file.specs.Pages.{image_of}
 use Rattle.ubik_log.specs.LogGrammar.{IsCommitted}
+use Rattle.ubik_store.specs.Files.{IsLogged}
 use Rattle.ubik_store.specs.Gaps.{LeaveNoGap}
 use Rattle.ubik_store.specs.Moments.{LeadsTo}
 use Rattle.ubik_store.specs.Redo.{changed_len, len_after, AllLeave, Reaches, Redoes, IsCovered}
@@ -153,10 +154,10 @@ logged_covered done (Cut to ∷ rest) base gapless =
     All-cons (IsCovered told base) (Cut (min to here)) (logged (changed_len here cut) rest) (clamped_cut done rest base to) more
 
 -- the changes that are made lead where those of the log lead
-pub leads_logged : (fs : Files) (told : List Change) (v : Version) → IsCommitted fs.log told v → LeaveNoGap (length (image_of fs.database)) told
+pub leads_logged : (fs : Files) (told : List Change) (v : Version) → IsLogged fs told v → LeaveNoGap (length (image_of fs.database)) told
     → LeadsTo fs told v (logged (length (image_of fs.database)) told)
-leads_logged fs told v committed gapless = record {
-  committed = committed;
+leads_logged fs told v is gapless = record {
+  logged = is;
   covered = logged_covered [] told (image_of fs.database) gapless;
   same = effect_logged told (image_of fs.database);
 }

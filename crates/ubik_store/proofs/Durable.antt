@@ -1,10 +1,8 @@
 -- A durable call over files at rest: what went before its first changing call shows in nothing.
-use Rattle.std.proofs.Common.{◌≡◌, inl, ℕ, ◌+◌, List, [], length, Some, IfSome, subst, sym, ap, ◌∙◌, arith}
-use Rattle.ubik_types.specs.declared.images.Change.{Change}
+use Rattle.std.proofs.Common.{◌≡◌, inl, ℕ, Some, IfSome, subst, sym, ap, ◌∙◌, arith}
 use Rattle.ubik_types.specs.declared.versions.Version.{Version}
-use Rattle.ubik_types.specs.Image.{effect}
 use Rattle.disk_base.specs.declared.disks.Disk.{Ghosts}
-use Rattle.disk_base.specs.Crash.{Narrows, LeavesOnly, Only, IsSettled}
+use Rattle.disk_base.specs.Crash.{Narrows, LeavesOnly, Only, IsSettled, RisesAtMost}
 use Rattle.disk_base.specs.Files.{Files}
 use Rattle.disk_base.specs.Runs.{OnlyReserves}
 use Rattle.disk_base.specs.Stops.{IsStopped}
@@ -16,10 +14,21 @@ use Rattle.ubik_store.specs.Calls.{CallsAtMost}
 use Rattle.ubik_store.specs.Commit.{IsDurableOver}
 use Rattle.ubik_store.specs.Files.{StandsForEither}
 use Rattle.ubik_store.specs.Gaps.{IsPlain}
+use Rattle.ubik_store.specs.Rest.{AreEmpty}
+use Rattle.ubik_store.specs.Rewrite.{Rewrite, rewritten, rewrite_calls}
 use Rattle.ubik_store.proofs.Applied.{calls_joined, calls_as, no_calls}
-use Rattle.ubik_store.proofs.Committing.{LeavesEither, settled_at, stands_at_rest, unmoved, room_made, room_first}
-use Rattle.ubik_store.proofs.Heads.{FewWithHead, few_but}
+use Rattle.ubik_store.proofs.Committing.{settled_at, stands_at_rest, unmoved, room_made, room_first}
 use Rattle.ubik_store.proofs.Telling.{told, of_told}
+
+-- a run leaves the state before, or the one after
+abbrev pub LeavesRewritten : {D : Type 0} (g : Ghosts D) (old new : D) (v : Version) (rewrite : Rewrite) → Files → Type 0
+LeavesRewritten g old new v rewrite fs =
+    (own : Version) → version_of_database fs.database ≡ Some own
+    → LeavesOnly g.steps g.left_since old new (StandsForEither own (image_of fs.database) v (rewritten rewrite (image_of fs.database)))
+
+-- and makes no more calls than one that is done
+abbrev pub FewRewritten : {D : Type 0} (g : Ghosts D) (old new : D) (rewrite : Rewrite) → Files → Type 0
+FewRewritten g old new rewrite fs = RisesAtMost (rewrite_calls rewrite fs.database) (g.steps old) (g.steps new)
 
 -- plain files stay plain
 abbrev pub KeepsPlain : {D : Type 0} (g : Ghosts D) (old new : D) → Files → Type 0
@@ -41,45 +50,45 @@ module _ {D : Type 0} (g : Ghosts D) where
   calls_first {n} {old} {mid} {new} {F} made rest =
       calls_as (omega arith) (λ failed. failed) (λ failed. failed) (calls_joined (calls_reserved {F = ⊥} made (λ none. none)) (λ none. none) rest)
 
-  module _ (changes : List Change) (v : Version) (disk : D) (empty : IfSome (g.files disk) (λ fs. fs.log ≡ [])) (settled : IsSettled (g.files disk) (g.may_leave disk)) where
+  module _ (rewrite : Rewrite) (v : Version) (disk : D) (empty : IfSome (g.files disk) AreEmpty) (settled : IsSettled (g.files disk) (g.may_leave disk)) where
     stands_here : (fs : Files) (own : Version) → g.files disk ≡ Some fs → version_of_database fs.database ≡ Some own
-        → Narrows (StandsForEither own (image_of fs.database) v (effect (image_of fs.database) changes)) (g.may_leave disk)
+        → Narrows (StandsForEither own (image_of fs.database) v (rewritten rewrite (image_of fs.database))) (g.may_leave disk)
     stands_here fs own is labelled =
-        stands_at_rest fs own v (effect (image_of fs.database) changes) (g.may_leave disk) (of_told (g.files disk) fs (λ fs. fs.log ≡ []) is empty) labelled
+        stands_at_rest fs own v (rewritten rewrite (image_of fs.database)) (g.may_leave disk) (of_told (g.files disk) fs AreEmpty is empty) labelled
         (settled_at (g.files disk) fs (g.may_leave disk) is settled)
 
     plain_here : (fs : Files) → g.files disk ≡ Some fs → IsPlain fs → Narrows IsPlain (g.may_leave disk)
     plain_here fs is plain = λ c here. subst IsPlain (sym (settled_at (g.files disk) fs (g.may_leave disk) is settled c here)) plain
 
     -- no call of the disk at all
-    pub durable_unmoved : {F : Type 0} → ¬ F → IsDurableOver g changes v disk disk F
+    pub durable_unmoved : {F : Type 0} → ¬ F → IsDurableOver g rewrite v disk disk F
     durable_unmoved {F} not = record {
-      moments = told (g.files disk) (LeavesEither g disk disk v changes) (λ fs is own labelled. unmoved g disk _ (stands_here fs own is labelled));
+      moments = told (g.files disk) (LeavesRewritten g disk disk v rewrite) (λ fs is own labelled. unmoved g disk _ (stands_here fs own is labelled));
       plain = λ _ _. told (g.files disk) (KeepsPlain g disk disk) (λ fs is plain. unmoved g disk IsPlain (plain_here fs is plain));
-      few = few_but g (13 + length changes) 0 disk disk (omega arith, omega arith) (omega arith);
+      few = told (g.files disk) (FewRewritten g disk disk rewrite) (λ fs is. (omega arith, omega arith));
       calls = calls_as (omega arith) (λ failed. failed) (λ failed. failed) (no_calls disk F not);
     }
 
     -- room was made, and nothing else
-    pub durable_reserved : {new : D} {F : Type 0} → OnlyReserves g disk new → ¬ F → IsDurableOver g changes v disk new F
+    pub durable_reserved : {new : D} {F : Type 0} → OnlyReserves g disk new → ¬ F → IsDurableOver g rewrite v disk new F
     durable_reserved {new} {F} made not = record {
-      moments = told (g.files disk) (LeavesEither g disk new v changes) (λ fs is own labelled. room_made g _ made (stands_here fs own is labelled));
+      moments = told (g.files disk) (LeavesRewritten g disk new v rewrite) (λ fs is own labelled. room_made g _ made (stands_here fs own is labelled));
       plain = λ _ _. told (g.files disk) (KeepsPlain g disk new) (λ fs is plain. room_made g IsPlain made (plain_here fs is plain));
-      few = few_but g (13 + length changes) 0 disk new (omega (arith, made.steps), omega (arith, made.steps)) (omega arith);
+      few = told (g.files disk) (FewRewritten g disk new rewrite) (λ fs is. (omega (arith, made.steps), omega (arith, made.steps)));
       calls = calls_as (omega arith) (λ failed. failed) (λ failed. failed) (calls_reserved made not);
     }
 
     -- room was made first
-    pub durable_first : {mid new : D} {F : Type 0} → OnlyReserves g disk mid → IsDurableOver g changes v mid new F → IsDurableOver g changes v disk new F
+    pub durable_first : {mid new : D} {F : Type 0} → OnlyReserves g disk mid → IsDurableOver g rewrite v mid new F → IsDurableOver g rewrite v disk new F
     durable_first {mid} {new} {F} made rest = record {
-      moments = told (g.files disk) (LeavesEither g disk new v changes) (λ fs is own labelled.
+      moments = told (g.files disk) (LeavesRewritten g disk new v rewrite) (λ fs is own labelled.
           room_first g _ made (stands_here fs own is labelled)
-          (of_told (g.files mid) fs (LeavesEither g mid new v changes) (made.files ∙ is) rest.moments own labelled));
+          (of_told (g.files mid) fs (LeavesRewritten g mid new v rewrite) (made.files ∙ is) rest.moments own labelled));
       plain = λ newer cuts. told (g.files disk) (KeepsPlain g disk new) (λ fs is plain.
           room_first g IsPlain made (plain_here fs is plain)
           (of_told (g.files mid) fs (KeepsPlain g mid new) (made.files ∙ is) (rest.plain newer cuts) plain));
-      few = told (g.files disk) (FewWithHead g (13 + length changes) disk new) (λ fs is.
-          let last = of_told (g.files mid) fs (FewWithHead g (13 + length changes) mid new) (made.files ∙ is) rest.few in
+      few = told (g.files disk) (FewRewritten g disk new rewrite) (λ fs is.
+          let last = of_told (g.files mid) fs (FewRewritten g mid new rewrite) (made.files ∙ is) rest.few in
           (omega (arith, made.steps, last.0), omega (arith, made.steps, last.1)));
       calls = calls_first made rest.calls;
     }

@@ -6,7 +6,6 @@ use Rattle.std.specs.Option.{option_map}
 use Rattle.ubik_types.specs.declared.images.Change.{Change}
 use Rattle.ubik_types.specs.declared.limits.TheConstants.{MAX_IMAGE}
 use Rattle.ubik_types.specs.declared.versions.Version.{Version}
-use Rattle.ubik_types.specs.Image.{effect}
 use Rattle.ubik_types.specs.Version.{IsVersion, version_lt}
 use Rattle.disk_base.specs.declared.disks.Disk.{Ghosts}
 use Rattle.disk_base.specs.Crash.{LeavesOnly}
@@ -18,18 +17,16 @@ use Rattle.page_file.specs.Pages.{Known, AgreesIn, image_of}
 use Rattle.ubik_store.specs.declared.faults.StoreFault.{StoreFault}
 use Rattle.ubik_store.specs.declared.faults.StoreFault.TheVariants.{DiskFault, BadLabel, TooLarge, NotNewer, NoMemory}
 use Rattle.ubik_store.specs.declared.stores.Store.{Store}
-use Rattle.ubik_store.specs.Commit.{CommitsFiles, IsDurableOver}
-use Rattle.ubik_store.specs.DurableCall.{IsDurable}
+use Rattle.ubik_store.specs.Commit.{RewritesFiles, IsDurableOver}
+use Rattle.ubik_store.specs.DurableCall.{IsDurableIn}
 use Rattle.ubik_store.specs.Files.{StandsForEither}
 use Rattle.ubik_store.specs.Gaps.{IsPlain}
-use Rattle.ubik_store.specs.Moments.{ended}
-use Rattle.ubik_store.specs.Redo.{len_after}
 use Rattle.ubik_store.specs.Rest.{IsAtRest, RestsAs}
+use Rattle.ubik_store.specs.Rewrite.{Rewrite, rewritten, len_rewritten, files_rewritten}
 use Rattle.ubik_store.specs.Store.{IsReady, IsSound, IsForbidden, taken_over}
 use Rattle.ubik_store.proofs.Applied.{no_calls, calls_as}
 use Rattle.ubik_store.proofs.Committing.{settled_at, settled_narrow, stands_at_rest, unmoved}
-use Rattle.ubik_store.proofs.Durable.{KeepsPlain}
-use Rattle.ubik_store.proofs.Heads.{few_but}
+use Rattle.ubik_store.proofs.Durable.{FewRewritten, KeepsPlain}
 use Rattle.ubik_store.proofs.Rests.{AllAtRest, rests_here}
 use Rattle.ubik_store.proofs.Telling.{told, of_told}
 use Rattle.ubik_store.proofs.Versions.{after_first}
@@ -40,41 +37,41 @@ labelled : (files : Option Files) (own : Version) (P : Version → Files → Typ
 labelled None own P rests says = tt
 labelled (Some fs) own P rests says = says own rests.label
 
-module _ (v : Version) (changes : List Change) (change : Files → Files) where
+module _ (v : Version) (rewrite : Rewrite) (change : Files → Files) where
   rests_after : (old new : Option Files) → new ≡ option_map change old
-      → IfSome old (λ fs. RestsAs v (effect (image_of fs.database) changes) new) → AllAtRest v new
+      → IfSome old (λ fs. RestsAs v (rewritten rewrite (image_of fs.database)) new) → AllAtRest v new
   rests_after None new is rests = subst (AllAtRest v) (sym is) tt
-  rests_after (Some fs) new is rests = rests_here new v (effect (image_of fs.database) changes) rests
+  rests_after (Some fs) new is rests = rests_here new v (rewritten rewrite (image_of fs.database)) rests
 
 module _ {D : Type 0} (g : Ghosts D) where
   -- where no call was made, a crash finds what stood there
-  pub durable_itself : (changes : List Change) (v : Version) (s : Store D) (F : Type 0) → IsReady g s → ¬ F → IsDurable g changes v s s F
-  durable_itself changes v s F ready not = record {
+  pub durable_itself : (rewrite : Rewrite) (v : Version) (s : Store D) (F : Type 0) → IsReady g s → ¬ F → IsDurableIn g rewrite v s s F
+  durable_itself rewrite v s F ready not = record {
     moments = told (g.files s.disk) _ (λ fs is.
         let rest = of_told (g.files s.disk) fs (λ fs. IsAtRest s.version (image_of fs.database) fs) is ready.rests in
         let only = settled_at (g.files s.disk) fs (g.may_leave s.disk) is ready.settled in
-        unmoved g s.disk (StandsForEither s.version (image_of fs.database) v (effect (image_of fs.database) changes))
-        (stands_at_rest fs s.version v (effect (image_of fs.database) changes) (g.may_leave s.disk) rest.log rest.label only));
+        unmoved g s.disk (StandsForEither s.version (image_of fs.database) v (rewritten rewrite (image_of fs.database)))
+        (stands_at_rest fs s.version v (rewritten rewrite (image_of fs.database)) (g.may_leave s.disk) (rest.log, rest.incoming) rest.label only));
     plain = λ cuts. told (g.files s.disk) (KeepsPlain g s.disk s.disk) (λ fs is plain.
         let only = settled_at (g.files s.disk) fs (g.may_leave s.disk) is ready.settled in
         unmoved g s.disk IsPlain (λ c here. subst IsPlain (sym (only c here)) plain));
-    few = few_but g (13 + length changes) 0 s.disk s.disk (omega arith, omega arith) (omega arith);
+    few = told (g.files s.disk) (FewRewritten g s.disk s.disk rewrite) (λ fs is. (omega arith, omega arith));
     calls = calls_as (omega arith) (λ failed. failed) (λ failed. failed) (no_calls s.disk F not);
   }
 
 -- what a durable call over the files of a store tells of its end
-pub record EndsFiles {D : Type 0} (g : Ghosts D) (changes : List Change) (v : Version) (s : Store D) (disk : D) (pages : Known) (r : Result (Unit {0}) StoreFault) : Type 0 where
-  pub done : OnOk r (CommitsFiles g changes v s.disk disk s.pages pages)
-  pub durable : IsDurableOver g changes v s.disk disk (IsErrOf r DiskFault)
+pub record EndsFiles {D : Type 0} (g : Ghosts D) (rewrite : Rewrite) (v : Version) (s : Store D) (disk : D) (pages : Known) (r : Result (Unit {0}) StoreFault) : Type 0 where
+  pub done : OnOk r (RewritesFiles g rewrite v s.disk disk s.pages pages)
+  pub durable : IsDurableOver g rewrite v s.disk disk (IsErrOf r DiskFault)
   pub fault : IfErr r (λ f. (f ≡ DiskFault) ⊎ (f ≡ NoMemory))
   pub unchanged : IsErrOf r NoMemory → OnlyReserves g s.disk disk × (pages ≡ s.pages)
 
-module _ {D : Type 0} (g : Ghosts D) (changes : List Change) (v : Version) (s : Store D) (disk : D) (pages : Known) where
-  sound_done : IsSound g s → s.failed ≡ false → IsVersion v → len_after s.len changes ≤ MAX_IMAGE
-      → CommitsFiles g changes v s.disk disk s.pages pages → ¬ IsStopped (g.stop disk)
+module _ {D : Type 0} (g : Ghosts D) (rewrite : Rewrite) (v : Version) (s : Store D) (disk : D) (pages : Known) where
+  sound_done : IsSound g s → s.failed ≡ false → IsVersion v → len_rewritten rewrite s.len ≤ MAX_IMAGE
+      → RewritesFiles g rewrite v s.disk disk s.pages pages → ¬ IsStopped (g.stop disk)
       → IsSound g (record s { disk = disk; pages = pages; version = v; len = min pages.len (2 ^ 32 - 1); begun = None })
   sound_done sound went version fits done runs =
-      let len : pages.len ≡ len_after s.len changes = done.len ∙ ap (λ (n : ℕ). len_after n changes) (sound.ready went).len in
+      let len : pages.len ≡ len_rewritten rewrite s.len = done.len ∙ ap (len_rewritten rewrite) (sound.ready went).len in
       record {
         version = version;
         len = omega (arith, len, fits);
@@ -82,7 +79,7 @@ module _ {D : Type 0} (g : Ghosts D) (changes : List Change) (v : Version) (s : 
           agrees = done.agrees;
           label = done.label;
           len = omega (arith, len, fits);
-          rests = rests_after v changes (ended changes v) (g.files s.disk) (g.files disk) done.files done.rests;
+          rests = rests_after v rewrite (files_rewritten rewrite v) (g.files s.disk) (g.files disk) done.files done.rests;
           settled = done.settled;
           runs = runs;
         };
@@ -116,8 +113,8 @@ module _ {D : Type 0} (g : Ghosts D) (changes : List Change) (v : Version) (s : 
   }
 
   -- a store stays sound
-  sound_ended : (r : Result (Unit {0}) StoreFault) → IsSound g s → s.failed ≡ false → IsVersion v → len_after s.len changes ≤ MAX_IMAGE
-      → EndsFiles g changes v s disk pages r → IsSound g (taken_over v (record s { disk = disk; pages = pages }) r)
+  sound_ended : (r : Result (Unit {0}) StoreFault) → IsSound g s → s.failed ≡ false → IsVersion v → len_rewritten rewrite s.len ≤ MAX_IMAGE
+      → EndsFiles g rewrite v s disk pages r → IsSound g (taken_over v (record s { disk = disk; pages = pages }) r)
   sound_ended (Ok done) sound went version fits is =
       sound_done sound went version fits is.done (λ stopped. ⊎_elim (sound.ready went).runs (λ failed. absurd cc) (is.durable.calls.stopped stopped))
   sound_ended (Err DiskFault) sound went version fits is = sound_failed sound
@@ -127,18 +124,18 @@ module _ {D : Type 0} (g : Ghosts D) (changes : List Change) (v : Version) (s : 
   sound_ended (Err NoMemory) sound went version fits is = let same = is.unchanged refl in sound_as_it_was sound went same.0 same.1
 
   -- the call was made of a durable one over the files
-  durable_at : (after : Store D) (F : Type 0) → IsReady g s → version_lt s.version v ≡ true → IsDurableOver g changes v s.disk after.disk F → IsDurable g changes v s after F
+  durable_at : (after : Store D) (F : Type 0) → IsReady g s → version_lt s.version v ≡ true → IsDurableOver g rewrite v s.disk after.disk F → IsDurableIn g rewrite v s after F
   durable_at after F ready newer durable = record {
     moments = labelled (g.files s.disk) s.version
-        (λ w fs. LeavesOnly g.steps g.left_since s.disk after.disk (StandsForEither w (image_of fs.database) v (effect (image_of fs.database) changes)))
+        (λ w fs. LeavesOnly g.steps g.left_since s.disk after.disk (StandsForEither w (image_of fs.database) v (rewritten rewrite (image_of fs.database))))
         ready.rests durable.moments;
     plain = durable.plain (after_first s.version v newer);
     few = durable.few;
     calls = durable.calls;
   }
 
-  durable_ended : (r : Result (Unit {0}) StoreFault) → IsSound g s → s.failed ≡ false → version_lt s.version v ≡ true → IsDurableOver g changes v s.disk disk (IsErrOf r DiskFault)
-      → IsDurable g changes v s (taken_over v (record s { disk = disk; pages = pages }) r) (IsErrOf r DiskFault)
+  durable_ended : (r : Result (Unit {0}) StoreFault) → IsSound g s → s.failed ≡ false → version_lt s.version v ≡ true → IsDurableOver g rewrite v s.disk disk (IsErrOf r DiskFault)
+      → IsDurableIn g rewrite v s (taken_over v (record s { disk = disk; pages = pages }) r) (IsErrOf r DiskFault)
   durable_ended (Ok done) sound went newer durable = durable_at _ _ (sound.ready went) newer durable
   durable_ended (Err DiskFault) sound went newer durable = durable_at _ _ (sound.ready went) newer durable
   durable_ended (Err (BadLabel len head)) sound went newer durable = durable_at _ _ (sound.ready went) newer durable
@@ -147,15 +144,15 @@ module _ {D : Type 0} (g : Ghosts D) (changes : List Change) (v : Version) (s : 
   durable_ended (Err NoMemory) sound went newer durable = durable_at _ _ (sound.ready went) newer durable
 
   pub sound_taken : (r : Result (Unit {0}) StoreFault) (after : Store D) → after ≡ taken_over v (record s { disk = disk; pages = pages }) r
-      → IsSound g s → s.failed ≡ false → IsVersion v → len_after s.len changes ≤ MAX_IMAGE → EndsFiles g changes v s disk pages r → IsSound g after
+      → IsSound g s → s.failed ≡ false → IsVersion v → len_rewritten rewrite s.len ≤ MAX_IMAGE → EndsFiles g rewrite v s disk pages r → IsSound g after
   sound_taken r after is sound went version fits ends =
       subst (λ (x : Store D). IsSound g x) (sym is) (sound_ended r sound went version fits ends)
 
   pub durable_taken : (r said : Result (Unit {0}) StoreFault) (after : Store D) → after ≡ taken_over v (record s { disk = disk; pages = pages }) r → said ≡ r
-      → IsSound g s → s.failed ≡ false → version_lt s.version v ≡ true → IsDurableOver g changes v s.disk disk (IsErrOf r DiskFault) → IsDurable g changes v s after (IsErrOf said DiskFault)
+      → IsSound g s → s.failed ≡ false → version_lt s.version v ≡ true → IsDurableOver g rewrite v s.disk disk (IsErrOf r DiskFault) → IsDurableIn g rewrite v s after (IsErrOf said DiskFault)
   durable_taken r said after is same sound went newer durable =
-      let P : Store D → Type 0 = λ x. IsDurable g changes v s x (IsErrOf said DiskFault) in
-      let Q : Result (Unit {0}) StoreFault → Type 0 = λ x. IsDurable g changes v s (taken_over v (record s { disk = disk; pages = pages }) r) (IsErrOf x DiskFault) in
+      let P : Store D → Type 0 = λ x. IsDurableIn g rewrite v s x (IsErrOf said DiskFault) in
+      let Q : Result (Unit {0}) StoreFault → Type 0 = λ x. IsDurableIn g rewrite v s (taken_over v (record s { disk = disk; pages = pages }) r) (IsErrOf x DiskFault) in
       subst P (sym is) (subst Q (sym same) (durable_ended r sound went newer durable))
 
 -- where a version is not newer, the disk is not at fault

@@ -23,11 +23,13 @@ use Rattle.page_file.proofs.Labels.{version_by_again, version_of_filled}
 use Rattle.ubik_log.specs.Gate.{IsOpen}
 use Rattle.ubik_log.specs.LogFile.{with_log, HasLogOrNone}
 use Rattle.ubik_log.specs.LogGrammar.{IsCommitted, IsDiscarded}
+use Rattle.incoming_file.specs.Incoming.{IsIgnored}
 use Rattle.ubik_store.specs.Files.{StandsFor}
 use Rattle.ubik_store.specs.Files.StandsFor.{by_log, by_label}
 use Rattle.ubik_store.specs.Moments.{MayRedo, LeadsTo, with_database, without_log, with_head, changed_file, applied, labelled, finished, ended}
 use Rattle.ubik_store.specs.Redo.{Redoes, changed_len, IsSeam, IsSeamless}
 use Rattle.ubik_store.proofs.Closing.{LeavesLog}
+use Rattle.ubik_store.proofs.Gaps.{logged_again}
 use Rattle.ubik_store.proofs.Heads.{short_head, long_head}
 use Rattle.ubik_store.proofs.Redone.{length-changed, redone}
 use Rattle.ubik_store.proofs.Redoing.{narrowed}
@@ -147,7 +149,7 @@ module _ (fs : Files) (told changes : List Change) (v : Version) (leads : LeadsT
   pub stands_by_log : (c : Files) → MayRedo fs told c → StandsFor c v (effect (image_of fs.database) told)
   stands_by_log c may =
       subst (λ (image : List ℕ). StandsFor c v image) (redone told (image_of fs.database) (image_of c.database) may.redoes)
-      (by_log c told v (subst (λ (log : List ℕ). IsCommitted log told v) (sym may.log) leads.committed) may.fits)
+      (by_log c told v (logged_again told v fs c leads.logged may) may.fits)
 
   -- and by the label, once the changes are made
   stands_by_label : (c d : Files) → IsVersion v → IsSeamless (length (image_of fs.database)) changes → MayRedo fs told d → d.database ≡ finished changes v fs.database
@@ -157,7 +159,8 @@ module _ (fs : Files) (told changes : List Change) (v : Version) (leads : LeadsT
       let image : image_of c.database ≡ effect (image_of fs.database) told = ap image_of file ∙ image_finished changes v fs.database seamless ∙ leads.same in
       let fits : length (finished changes v fs.database) ≤ MAX_DATABASE_LEN = subst (λ (xs : List ℕ). length xs ≤ MAX_DATABASE_LEN) finished_is may.fits in
       let version : version_of_database c.database ≡ Some v = ap version_of_database file ∙ version_labelled v (applied changes (with_head fs.database)) is fits in
-      subst (λ (xs : List ℕ). StandsFor c v xs) image (by_label c v discarded version)
+      let beside : c.incoming ≡ fs.incoming = ap (λ (f : Files). f.incoming) same ∙ may.incoming in
+      subst (λ (xs : List ℕ). StandsFor c v xs) image (by_label c v (subst IsIgnored (sym beside) leads.logged.ignored) discarded version)
 
   pub same_log : (c d : Files) → MayRedo fs told d → c ≡ with_log c.log d → c.log ≡ fs.log → MayRedo fs told c
   same_log c d may same log = record {
@@ -176,7 +179,7 @@ module _ (fs : Files) (told changes : List Change) (v : Version) (leads : LeadsT
   ]
 
   pub is_open : IsOpen fs.log
-  is_open = ap (λ (log : List ℕ). get_or log 3 0) leads.committed.begins
+  is_open = ap (λ (log : List ℕ). get_or log 3 0) leads.logged.committed.begins
 
 -- What a crash leaves once the database file is whole and the log empty is what reads give: the files were settled before.
 pub settled_end : (changes : List Change) (v : Version) (old end new : Option Files) (before mid now : Files → Type 0) → IsSettled old before

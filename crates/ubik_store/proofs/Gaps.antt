@@ -9,6 +9,9 @@ use Rattle.page_file.specs.Label.{version_of_database}
 use Rattle.page_file.specs.Pages.{image_of}
 use Rattle.ubik_log.specs.LogGrammar.{IsCommitted, IsDiscarded}
 use Rattle.ubik_log.proofs.OneReading.{log_has_one_reading}
+use Rattle.incoming_file.specs.Incoming.{IsIncoming, IsIgnored}
+use Rattle.incoming_file.proofs.Opens.{open_once}
+use Rattle.ubik_store.specs.Files.{IsLogged}
 use Rattle.ubik_store.specs.Gaps.{LeaveNoGap, CutNothingBefore, CutsNoPut, IsPlain}
 use Rattle.ubik_store.specs.Moments.{MayRedo}
 use Rattle.ubik_store.specs.Redo.{changed_len, Reaches, IsSeamless}
@@ -47,30 +50,50 @@ abbrev pub HasNoFirstLabel : List ℕ → Type 0
 HasNoFirstLabel file = version_of_database file ≡ Some zero_version → file ≡ []
 
 -- files with a discarded log are plain, where no label of the first version stands there
-pub discarded_is_plain : (fs : Files) → IsDiscarded fs.log → HasNoFirstLabel fs.database → IsPlain fs
-discarded_is_plain fs discarded first = record {
-  gapless = λ changes version committed. absurd (discarded changes version committed);
-  cuts = λ changes version committed. absurd (discarded changes version committed);
-  newer = λ changes version committed. absurd (discarded changes version committed);
-  unlabelled = λ _. first;
+pub discarded_is_plain : (fs : Files) → IsIgnored fs.incoming → IsDiscarded fs.log → HasNoFirstLabel fs.database → IsPlain fs
+discarded_is_plain fs ignored discarded first = record {
+  gapless = λ changes version is. absurd (discarded changes version is.committed);
+  cuts = λ changes version is. absurd (discarded changes version is.committed);
+  newer = λ changes version is. absurd (discarded changes version is.committed);
+  received = λ version image is. absurd (ignored version image is);
+  unlabelled = λ _ _. first;
+}
+
+-- files with an open incoming file are plain, where its version is not the first one
+pub received_is_plain : (fs : Files) (v : Version) (image : List ℕ) → IsIncoming fs.incoming v image → version_lt zero_version v ≡ true → IsPlain fs
+received_is_plain fs v image is newer = record {
+  gapless = λ changes version other. absurd (other.ignored v image is);
+  cuts = λ changes version other. absurd (other.ignored v image is);
+  newer = λ changes version other. absurd (other.ignored v image is);
+  received = λ version other opens.
+      subst (λ (w : Version). version_lt zero_version w ≡ true) (open_once fs.incoming v version image other is opens).0 newer;
+  unlabelled = λ ignored. absurd (ignored v image is);
 }
 
 module _ (told : List Change) (v : Version) where
+  -- the log that a crash leaves there counts, as it did
+  pub logged_again : (kept c : Files) → IsLogged kept told v → MayRedo kept told c → IsLogged c told v
+  logged_again kept c is may = record {
+    ignored = subst IsIgnored (sym may.incoming) is.ignored;
+    committed = subst (λ (log : List ℕ). IsCommitted log told v) (sym may.log) is.committed;
+  }
+
   -- and those whose log tells such changes of the image that stands there, under a version that is not the first one
-  pub committed_is_plain : (fs : Files) → IsCommitted fs.log told v → LeaveNoGap (length (image_of fs.database)) told → CutsNoPut told
+  pub committed_is_plain : (fs : Files) → IsLogged fs told v → LeaveNoGap (length (image_of fs.database)) told → CutsNoPut told
       → version_lt zero_version v ≡ true → IsPlain fs
-  committed_is_plain fs committed gapless cuts newer = record {
+  committed_is_plain fs is gapless cuts newer = record {
     gapless = λ changes version other.
-        subst (LeaveNoGap (length (image_of fs.database))) (log_has_one_reading fs.log told changes v version committed other).0 gapless;
-    cuts = λ changes version other. subst CutsNoPut (log_has_one_reading fs.log told changes v version committed other).0 cuts;
+        subst (LeaveNoGap (length (image_of fs.database))) (log_has_one_reading fs.log told changes v version is.committed other.committed).0 gapless;
+    cuts = λ changes version other. subst CutsNoPut (log_has_one_reading fs.log told changes v version is.committed other.committed).0 cuts;
     newer = λ changes version other.
-        subst (λ (w : Version). version_lt zero_version w ≡ true) (log_has_one_reading fs.log told changes v version committed other).1 newer;
-    unlabelled = λ discarded. absurd (discarded told v committed);
+        subst (λ (w : Version). version_lt zero_version w ≡ true) (log_has_one_reading fs.log told changes v version is.committed other.committed).1 newer;
+    received = λ version image opens. absurd (is.ignored version image opens);
+    unlabelled = λ ignored discarded. absurd (discarded told v is.committed);
   }
 
   -- what a crash leaves of plain files while the changes of their log are made is plain
-  pub plain_again : (kept c : Files) → IsCommitted kept.log told v → IsPlain kept → MayRedo kept told c → IsPlain c
-  plain_again kept c committed plain may =
-      committed_is_plain c (subst (λ (log : List ℕ). IsCommitted log told v) (sym may.log) committed)
-      (no_gap_again told (length (image_of kept.database)) (length (image_of c.database)) (plain.gapless told v committed) (plain.cuts told v committed) may.redoes.reaches)
-      (plain.cuts told v committed) (plain.newer told v committed)
+  pub plain_again : (kept c : Files) → IsLogged kept told v → IsPlain kept → MayRedo kept told c → IsPlain c
+  plain_again kept c is plain may =
+      committed_is_plain c (logged_again kept c is may)
+      (no_gap_again told (length (image_of kept.database)) (length (image_of c.database)) (plain.gapless told v is) (plain.cuts told v is) may.redoes.reaches)
+      (plain.cuts told v is) (plain.newer told v is)

@@ -12,11 +12,14 @@ pub mod Gaps
 pub mod Heads
 pub mod Kept
 pub mod Opened
+pub mod Once
 pub mod Plain
 pub mod ReadSound
 pub mod Redoing
 pub mod Redone
 pub mod Resting
 pub mod Rests
+pub mod Taking
 pub mod Telling
+pub mod Treating
 pub mod Versions

@@ -15,8 +15,11 @@ use Rattle.ubik_log.specs.Gate.{closed}
 use Rattle.ubik_log.specs.LogFile.{with_log, HasDiscarded, HasLogOrNone}
 use Rattle.ubik_log.specs.LogGrammar.{IsCommitted, IsDiscarded}
 use Rattle.ubik_log.proofs.Gates.{short_log_is_discarded}
+use Rattle.incoming_file.specs.Incoming.{IsIgnored}
+use Rattle.incoming_file.proofs.Opens.{empty_ignored}
 use Rattle.ubik_store.specs.Gaps.{LeaveNoGap, CutsNoPut, IsPlain}
 use Rattle.ubik_store.specs.Moments.{MayRedo, LeadsTo, with_database, with_head, applied, finished}
+use Rattle.ubik_store.specs.Rest.{AreEmpty}
 use Rattle.ubik_store.proofs.Closing.{LeavesLog}
 use Rattle.ubik_store.proofs.Ending.{same_log, is_open, version_labelled}
 use Rattle.ubik_store.proofs.Gaps.{HasNoFirstLabel, plain_again, committed_is_plain, discarded_is_plain}
@@ -32,21 +35,24 @@ LeavesPlain g old new v changes fs =
 module _ (fs : Files) (told changes : List Change) (v : Version) (leads : LeadsTo fs told v changes) (plain : IsPlain fs) where
   -- with the log there still
   pub plain_by_log : (c : Files) → MayRedo fs told c → IsPlain c
-  plain_by_log c may = plain_again told v fs c leads.committed plain may
+  plain_by_log c may = plain_again told v fs c leads.logged plain may
 
   -- and by the label of its version
-  plain_by_label : (c d : Files) → IsVersion v → MayRedo fs told d → d.database ≡ finished changes v fs.database → c.database ≡ d.database → IsDiscarded c.log → IsPlain c
+  plain_by_label : (c d : Files) → IsVersion v → MayRedo fs told d → d.database ≡ finished changes v fs.database → c ≡ with_log c.log d
+      → IsDiscarded c.log → IsPlain c
   plain_by_label c d is may whole same discarded =
       let fits : length (finished changes v fs.database) ≤ MAX_DATABASE_LEN = subst (λ (xs : List ℕ). length xs ≤ MAX_DATABASE_LEN) whole may.fits in
-      let version : version_of_database c.database ≡ Some v = ap version_of_database (same ∙ whole) ∙ version_labelled v (applied changes (with_head fs.database)) is fits in
-      discarded_is_plain c discarded (λ first. absurd (not_first v (plain.newer told v leads.committed) cc))
+      let version : version_of_database c.database ≡ Some v = ap version_of_database (ap (λ (f : Files). f.database) same ∙ whole) ∙ version_labelled v (applied changes (with_head fs.database)) is fits in
+      let beside : c.incoming ≡ fs.incoming = ap (λ (f : Files). f.incoming) same ∙ may.incoming in
+      discarded_is_plain c (subst IsIgnored (sym beside) leads.logged.ignored) discarded
+      (λ first. absurd (not_first v (plain.newer told v leads.logged) cc))
 
   -- while the log is ended
   plain_either : (left : Files → Type 0) → IsVersion v → Narrows (MayRedo fs told) left → OnlyIn Database (finished changes v fs.database) left
       → (c : Files) → After (HasLogOrNone fs.log) left c → IsPlain c
   plain_either left is may only c from = elim from.2.0 [
     | inl same ↦ plain_by_log c (same_log fs told changes v leads c from.0 (may from.0 from.1) from.2.1 same)
-    | inr discarded ↦ plain_by_label c from.0 is (may from.0 from.1) (only from.0 from.1) (ap (λ (f : Files). f.database) from.2.1) discarded
+    | inr discarded ↦ plain_by_label c from.0 is (may from.0 from.1) (only from.0 from.1) from.2.1 discarded
   ]
 
   -- the whole run: its changes are made and labelled, and then its log is ended
@@ -65,37 +71,48 @@ module _ (fs : Files) (told changes : List Change) (v : Version) (leads : LeadsT
       (last (is_open fs told changes v leads) logs))
 
 -- over an empty log the label counts
-pub first_over : (fs : Files) → IsPlain fs → fs.log ≡ [] → HasNoFirstLabel fs.database
-first_over fs plain empty = plain.unlabelled (short_log_is_discarded fs.log (omega (arith, ap length empty)))
+pub first_over : (fs : Files) → IsPlain fs → AreEmpty fs → HasNoFirstLabel fs.database
+first_over fs plain empty =
+    plain.unlabelled (empty_ignored fs.incoming empty.1) (short_log_is_discarded fs.log (omega (arith, ap length empty.0)))
+
+-- files with an empty log and an empty incoming file are plain, where no label of the first version stands there
+pub empty_is_plain : (fs : Files) → AreEmpty fs → HasNoFirstLabel fs.database → IsPlain fs
+empty_is_plain fs empty first =
+    discarded_is_plain fs (empty_ignored fs.incoming empty.1) (short_log_is_discarded fs.log (omega (arith, ap length empty.0))) first
 
 -- with another log that is discarded
-plain_beside : (fs c : Files) → HasNoFirstLabel fs.database → c.database ≡ fs.database → IsDiscarded c.log → IsPlain c
-plain_beside fs c first same discarded = discarded_is_plain c discarded (subst HasNoFirstLabel (sym same) first)
+plain_beside : (fs c : Files) → IsIgnored fs.incoming → HasNoFirstLabel fs.database → c ≡ with_log c.log fs → IsDiscarded c.log → IsPlain c
+plain_beside fs c ignored first same discarded =
+    discarded_is_plain c (subst IsIgnored (sym (ap (λ (f : Files). f.incoming) same)) ignored) discarded
+    (subst HasNoFirstLabel (sym (ap (λ (f : Files). f.database) same)) first)
 
 -- while a log is emptied that was discarded
-pub plain_discarded : (fs c : Files) → IsPlain fs → IsDiscarded fs.log → HasDiscarded fs c → IsPlain c
-plain_discarded fs c plain discarded from = plain_beside fs c (plain.unlabelled discarded) (ap (λ (f : Files). f.database) from.1) from.0
+pub plain_discarded : (fs c : Files) → IsPlain fs → IsIgnored fs.incoming → IsDiscarded fs.log → HasDiscarded fs c → IsPlain c
+plain_discarded fs c plain ignored discarded from = plain_beside fs c ignored (plain.unlabelled ignored discarded) from.1 from.0
 
 -- while a log is kept
-pub plain_before : (fs : Files) → HasNoFirstLabel fs.database → (before : Files → Type 0) → Only fs before → (c : Files) → After HasDiscarded before c → IsPlain c
-plain_before fs first before only c from =
-    plain_beside fs c first (ap (λ (f : Files). f.database) from.2.1 ∙ ap (λ (f : Files). f.database) (only from.0 from.1)) from.2.0
+pub plain_before : (fs : Files) → IsIgnored fs.incoming → HasNoFirstLabel fs.database → (before : Files → Type 0) → Only fs before → (c : Files) → After HasDiscarded before c → IsPlain c
+plain_before fs ignored first before only c from = plain_beside fs c ignored first (from.2.1 ∙ ap (with_log c.log) (only from.0 from.1)) from.2.0
 
-module _ (fs : Files) (changes : List Change) (v : Version) (log : List ℕ) where
+module _ (fs : Files) (changes : List Change) (v : Version) (log : List ℕ) (ignored : IsIgnored fs.incoming) where
   -- and once it is committed
   pub plain_committed : (c : Files) → IsCommitted log changes v → LeaveNoGap (length (image_of fs.database)) changes → CutsNoPut changes
-      → version_lt zero_version v ≡ true → c.log ≡ log → c.database ≡ fs.database → IsPlain c
-  plain_committed c committed gapless cuts newer same file =
-      committed_is_plain changes v c (subst (λ (xs : List ℕ). IsCommitted xs changes v) (sym same) committed)
-      (subst (λ (xs : List ℕ). LeaveNoGap (length (image_of xs)) changes) (sym file) gapless) cuts newer
+      → version_lt zero_version v ≡ true → c.log ≡ log → c ≡ with_log c.log fs → IsPlain c
+  plain_committed c committed gapless cuts newer same rest =
+      committed_is_plain changes v c
+      (record {
+        ignored = subst IsIgnored (sym (ap (λ (f : Files). f.incoming) rest)) ignored;
+        committed = subst (λ (xs : List ℕ). IsCommitted xs changes v) (sym same) committed;
+      })
+      (subst (λ (xs : List ℕ). LeaveNoGap (length (image_of xs)) changes) (sym (ap (λ (f : Files). f.database) rest)) gapless) cuts newer
 
   -- while its gate is opened, the one or the other
   pub plain_in_gate : IsCommitted log changes v → LeaveNoGap (length (image_of fs.database)) changes → CutsNoPut changes
       → version_lt zero_version v ≡ true → HasNoFirstLabel fs.database
       → (mid : Files → Type 0) → Only (with_log (closed log) fs) mid → (c : Files) → After (HasLogOrNone log) mid c → IsPlain c
   plain_in_gate committed gapless cuts newer first mid only c from =
-      let same : c.database ≡ fs.database = ap (λ (f : Files). f.database) from.2.1 ∙ ap (λ (f : Files). f.database) (only from.0 from.1) in
+      let same : c ≡ with_log c.log fs = from.2.1 ∙ ap (with_log c.log) (only from.0 from.1) in
       elim from.2.0 [
         | inl there ↦ plain_committed c committed gapless cuts newer there same
-        | inr discarded ↦ plain_beside fs c first same discarded
+        | inr discarded ↦ plain_beside fs c ignored first same discarded
       ]

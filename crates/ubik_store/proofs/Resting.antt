@@ -1,5 +1,5 @@
 -- What a durable call leaves is at rest, and has room for a relabelling.
-use Rattle.std.proofs.Common.{◌≡◌, ◌≤◌, inl, inr, ℕ, List, [], ◌∷◌, length, Option, Some, refl, subst, ap, arith, length-drop}
+use Rattle.std.proofs.Common.{◌≡◌, ◌≤◌, inl, inr, ℕ, List, [], ◌∷◌, length, Option, Some, refl, subst, ap, ◌∙◌, arith, length-drop}
 use Rattle.std.proofs.lemmas.Bool.{cases_lt}
 use Rattle.std.proofs.lemmas.List.Elements.{All-head, All-tail}
 use Rattle.std.specs.List.{All}
@@ -14,7 +14,7 @@ use Rattle.ubik_log.specs.LogGrammar.{IsCommitted, IsTold, IsWithinImage}
 use Rattle.ubik_log.proofs.Gates.{short_log_is_discarded}
 use Rattle.ubik_store.specs.Moments.{finished, ended, applied, with_head}
 use Rattle.ubik_store.specs.Redo.{changed_len, len_after, IsSeamless}
-use Rattle.ubik_store.specs.Rest.{IsAtRest, RestsAs}
+use Rattle.ubik_store.specs.Rest.{EndedAs, IsEnded, RestsAs}
 use Rattle.ubik_store.proofs.Ending.{image_finished, version_labelled}
 use Rattle.ubik_store.proofs.Redone.{length-effect}
 use Rattle.ubik_store.proofs.Telling.{of_told}
@@ -45,21 +45,30 @@ finished_fits changes v file within seamless fits =
     let after = len_after_within changes (length (image_of file)) within fits in
     omega (arith, image, after, length-effect (image_of file) changes, length-drop 64 (finished changes v file))
 
-pub rests_after : (changes : List Change) (v : Version) (fs : Files) → IsTold changes v → IsSeamless (length (image_of fs.database)) changes → length (image_of fs.database) ≤ 16777216
-    → IsAtRest v (effect (image_of fs.database) changes) (ended changes v fs)
-rests_after changes v fs is seamless fits = record {
+pub ended_after : (changes : List Change) (v : Version) (fs : Files) → IsTold changes v → IsSeamless (length (image_of fs.database)) changes
+    → length (image_of fs.database) ≤ 16777216 → IsEnded v (effect (image_of fs.database) changes) (ended changes v fs)
+ended_after changes v fs is seamless fits = record {
   log = refl;
   label = version_labelled v (applied changes (with_head fs.database)) is.is_version (finished_fits changes v fs.database is.within_image seamless fits);
   content = image_finished changes v fs.database seamless;
 }
 
-pub rests_in : (changes : List Change) (v : Version) (fs : Files) (pages : Known) (old new : Option Files) → IsTold changes v → AgreesIn pages old → old ≡ Some fs
-    → IsSeamless pages.len changes → pages.len ≤ 16777216 → new ≡ Some (ended changes v fs) → RestsAs v (effect (image_of fs.database) changes) new
-rests_in changes v fs pages old new is agrees here seamless fits there = (
+pub ended_in : (changes : List Change) (v : Version) (fs : Files) (pages : Known) (old new : Option Files) → IsTold changes v → AgreesIn pages old → old ≡ Some fs
+    → IsSeamless pages.len changes → pages.len ≤ 16777216 → new ≡ Some (ended changes v fs)
+    → EndedAs v (effect (image_of fs.database) changes) fs.incoming new
+ended_in changes v fs pages old new is agrees here seamless fits there = (
   ended changes v fs,
   there,
-  rests_after changes v fs is (seamless_of pages old fs changes agrees here seamless) (omega (arith, len_of pages old fs agrees here, fits)),
+  ended_after changes v fs is (seamless_of pages old fs changes agrees here seamless) (omega (arith, len_of pages old fs agrees here, fits)),
+  refl,
 )
+
+-- with an empty incoming file they are at rest
+pub at_rest : (v : Version) (image incoming : List ℕ) (files : Option Files) → incoming ≡ [] → EndedAs v image incoming files → RestsAs v image files
+at_rest v image incoming files empty ends =
+    let fs = ends.0 in
+    let is = ends.2 in
+    (fs, ends.1, record { incoming = ends.3 ∙ empty; log = is.log; label = is.label; content = is.content })
 
 -- a committed log is no shorter than one of no change
 pub committed_long : (log : List ℕ) (changes : List Change) (v : Version) → IsCommitted log changes v → 16 ≤ length log

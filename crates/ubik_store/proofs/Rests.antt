@@ -1,9 +1,12 @@
 -- Files at rest, and the store over them.
-use Rattle.std.proofs.Common.{◌≡◌, ℕ, List, length, Option, Some, None, IfSome, refl, sym, subst, ◌∙◌}
+use Rattle.std.proofs.Common.{◌≡◌, ℕ, List, length, Option, Some, None, IfSome, refl, sym, ap, subst, ◌∙◌, arith}
 use Rattle.ubik_types.specs.declared.versions.Version.{Version}
 use Rattle.disk_base.specs.Files.{Files}
 use Rattle.page_file.specs.Pages.{Known, image_of}
+use Rattle.ubik_log.proofs.Gates.{short_log_is_discarded}
+use Rattle.incoming_file.proofs.Opens.{empty_ignored}
 use Rattle.ubik_store.specs.Files.{StandsFor}
+use Rattle.ubik_store.specs.Files.StandsFor.{by_label}
 use Rattle.ubik_store.specs.Rest.{IsAtRest, RestsAs}
 
 -- where the disk tells its files, they are at rest under this version
@@ -14,8 +17,14 @@ pub rests_here : (files : Option Files) (version : Version) (image : List ℕ) �
 rests_here files version image rests =
     let fs = rests.0 in
     let rest = rests.2 in
-    let here : IsAtRest version (image_of fs.database) fs = record { log = rest.log; label = rest.label; content = refl } in
+    let here : IsAtRest version (image_of fs.database) fs = record { incoming = rest.incoming; log = rest.log; label = rest.label; content = refl } in
     subst (AllAtRest version) (sym rests.1) here
+
+-- files at rest stand for their version and their image
+pub at_rest_stands : (fs : Files) (version : Version) (image : List ℕ) → IsAtRest version image fs → StandsFor fs version image
+at_rest_stands fs version image rests =
+    let none = short_log_is_discarded fs.log (omega (arith, ap length rests.log)) in
+    subst (StandsFor fs version) rests.content (by_label fs version (empty_ignored fs.incoming rests.incoming) none rests.label)
 
 -- what an opening tells of files that stood there before it
 abbrev pub OpensAs : Option Files → Known → Files → Type 0

@@ -1,9 +1,7 @@
 -- A durable call over the pages and the files of a disk: what it makes, and what a crash leaves of it (own).
-use Rattle.std.specs.Prelude.{◌≡◌, ◌+◌, true, List, length, Some, IfSome}
+use Rattle.std.specs.Prelude.{◌≡◌, ◌+◌, true, Some, IfSome}
 use Rattle.std.specs.Option.{option_map}
-use Rattle.ubik_types.specs.declared.images.Change.{Change}
 use Rattle.ubik_types.specs.declared.versions.Version.{Version}
-use Rattle.ubik_types.specs.Image.{effect}
 use Rattle.ubik_types.specs.Version.{zero_version, version_lt}
 use Rattle.disk_base.specs.declared.disks.Disk.{Ghosts}
 use Rattle.disk_base.specs.Crash.{LeavesOnly, IsSettled, RisesAtMost}
@@ -11,30 +9,29 @@ use Rattle.page_file.specs.Label.{version_of_database}
 use Rattle.page_file.specs.Pages.{Known, AgreesIn, image_of}
 use Rattle.ubik_store.specs.Calls.{CallsAtMost}
 use Rattle.ubik_store.specs.Files.{StandsForEither}
-use Rattle.ubik_store.specs.Gaps.{IsPlain, CutsNoPut}
-use Rattle.ubik_store.specs.Moments.{head_calls, ended}
-use Rattle.ubik_store.specs.Redo.{len_after}
+use Rattle.ubik_store.specs.Gaps.{IsPlain}
 use Rattle.ubik_store.specs.Rest.{RestsAs, CanRelabel}
+use Rattle.ubik_store.specs.Rewrite.{Rewrite, rewritten, len_rewritten, rewrite_calls, most_calls, KeepsPuts, files_rewritten}
 
--- The changes are made under this version, with 13 changing calls and one for each change, and one more where the database file was
--- shorter than a label. Files at rest are left, with which the pages agree, and room for a relabelling.
-pub record CommitsFiles {D : Type 0} (g : Ghosts D) (changes : List Change) (v : Version) (old new : D) (before after : Known) : Type 0 where
-  pub files : g.files new ≡ option_map (ended changes v) (g.files old)
-  pub rests : IfSome (g.files old) (λ fs. RestsAs v (effect (image_of fs.database) changes) (g.files new))
+-- The image is rewritten under this version, in so many changing calls. Files at rest are left, with which the pages agree, and room for a
+-- relabelling.
+pub record RewritesFiles {D : Type 0} (g : Ghosts D) (rewrite : Rewrite) (v : Version) (old new : D) (before after : Known) : Type 0 where
+  pub files : g.files new ≡ option_map (files_rewritten rewrite v) (g.files old)
+  pub rests : IfSome (g.files old) (λ fs. RestsAs v (rewritten rewrite (image_of fs.database)) (g.files new))
   pub settled : IsSettled (g.files new) (g.may_leave new)
-  pub steps : IfSome (g.files old) (λ fs. g.steps new ≡ g.steps old + (13 + length changes + head_calls fs.database))
+  pub steps : IfSome (g.files old) (λ fs. g.steps new ≡ g.steps old + rewrite_calls rewrite fs.database)
   pub label : after.version ≡ Some v
-  pub len : after.len ≡ len_after before.len changes
+  pub len : after.len ≡ len_rewritten rewrite before.len
   pub agrees : AgreesIn after (g.files new)
   pub room : CanRelabel g new
 
 -- Done or not, a crash at any moment of the call leaves files that stand for the version and image before it or for those after it. Where
 -- no cut goes to before an earlier put, and the version is not the first one, plain files stay plain. It makes no more changing calls than
 -- one that is done.
-pub record IsDurableOver {D : Type 0} (g : Ghosts D) (changes : List Change) (v : Version) (old new : D) (failed : Type 0) : Type 0 where
+pub record IsDurableOver {D : Type 0} (g : Ghosts D) (rewrite : Rewrite) (v : Version) (old new : D) (failed : Type 0) : Type 0 where
   pub moments : IfSome (g.files old) (λ fs. (own : Version) → version_of_database fs.database ≡ Some own
-      → LeavesOnly g.steps g.left_since old new (StandsForEither own (image_of fs.database) v (effect (image_of fs.database) changes)))
-  pub plain : version_lt zero_version v ≡ true → CutsNoPut changes
+      → LeavesOnly g.steps g.left_since old new (StandsForEither own (image_of fs.database) v (rewritten rewrite (image_of fs.database))))
+  pub plain : version_lt zero_version v ≡ true → KeepsPuts rewrite
       → IfSome (g.files old) (λ fs. IsPlain fs → LeavesOnly g.steps g.left_since old new IsPlain)
-  pub few : IfSome (g.files old) (λ fs. RisesAtMost (13 + length changes + head_calls fs.database) (g.steps old) (g.steps new))
-  pub calls : CallsAtMost g (14 + length changes) old new failed
+  pub few : IfSome (g.files old) (λ fs. RisesAtMost (rewrite_calls rewrite fs.database) (g.steps old) (g.steps new))
+  pub calls : CallsAtMost g (most_calls rewrite) old new failed

@@ -1,10 +1,8 @@
 -- A durable call of a store: what it makes, what a crash leaves of it, and how it may end otherwise (own).
-use Rattle.std.specs.Prelude.{◌≡◌, ◌+◌, ℕ, true, false, List, [], ◌∷◌, length, None, IfSome}
+use Rattle.std.specs.Prelude.{◌≡◌, ◌+◌, ℕ, true, false, List, None, IfSome}
 use Rattle.std.specs.Option.{option_map}
 use Rattle.ubik_types.specs.declared.images.Change.{Change}
-use Rattle.ubik_types.specs.declared.images.Change.TheVariants.{Put, Cut}
 use Rattle.ubik_types.specs.declared.versions.Version.{Version}
-use Rattle.ubik_types.specs.Image.{effect}
 use Rattle.ubik_types.specs.Version.{version_lt}
 use Rattle.disk_base.specs.declared.disks.Disk.{Ghosts}
 use Rattle.disk_base.specs.Crash.{LeavesOnly, RisesAtMost}
@@ -15,27 +13,26 @@ use Rattle.ubik_store.specs.declared.faults.StoreFault.TheVariants.{DiskFault, B
 use Rattle.ubik_store.specs.declared.stores.Store.{Store}
 use Rattle.ubik_store.specs.Calls.{CallsAtMost}
 use Rattle.ubik_store.specs.Files.{StandsForEither}
-use Rattle.ubik_store.specs.Gaps.{IsPlain, CutsNoPut}
-use Rattle.ubik_store.specs.Moments.{head_calls}
-use Rattle.ubik_store.specs.Redo.{len_after}
+use Rattle.ubik_store.specs.Gaps.{IsPlain}
 use Rattle.ubik_store.specs.Rest.{CanRelabel}
+use Rattle.ubik_store.specs.Rewrite.{Rewrite, rewritten, len_rewritten, rewrite_calls, most_calls, KeepsPuts}
+use Rattle.ubik_store.specs.Rewrite.Rewrite.{Changed}
 use Rattle.ubik_store.specs.Store.{StaysAsItWas, image_in}
 
--- the changes of an install: everything is cut, and the image is put
-abbrev pub whole_image : List ℕ → List Change
-whole_image image = Cut 0 ∷ Put 0 image ∷ []
-
--- The changes were made, under this version, which is newer. With k changes that are 13 + k changing calls of the disk, and one
--- more where the database file was shorter than a label. There is room for a relabelling.
-pub record Commits {D : Type 0} (g : Ghosts D) (changes : List Change) (v : Version) (old new : Store D) : Type 0 where
+-- The image was rewritten, under this version, which is newer, in so many changing calls of the disk. There is room for a relabelling.
+pub record Rewrites {D : Type 0} (g : Ghosts D) (rewrite : Rewrite) (v : Version) (old new : Store D) : Type 0 where
   pub newer : version_lt old.version v ≡ true
   pub version : new.version ≡ v
-  pub len : new.len ≡ len_after old.len changes
-  pub image : image_in (g.files new.disk) ≡ option_map (λ image. effect image changes) (image_in (g.files old.disk))
+  pub len : new.len ≡ len_rewritten rewrite old.len
+  pub image : image_in (g.files new.disk) ≡ option_map (rewritten rewrite) (image_in (g.files old.disk))
   pub begun : new.begun ≡ None
   pub failed : new.failed ≡ false
-  pub steps : IfSome (g.files old.disk) (λ fs. g.steps new.disk ≡ g.steps old.disk + (13 + length changes + head_calls fs.database))
+  pub steps : IfSome (g.files old.disk) (λ fs. g.steps new.disk ≡ g.steps old.disk + rewrite_calls rewrite fs.database)
   pub room : CanRelabel g new.disk
+
+-- these changes were made
+abbrev pub Commits : {D : Type 0} → Ghosts D → List Change → Version → (old new : Store D) → Type 0
+Commits g changes v old new = Rewrites g (Changed changes) v old new
 
 -- nothing changed, but room may have been made
 pub record Refuses {D : Type 0} (g : Ghosts D) (old new : Store D) : Type 0 where
@@ -68,9 +65,13 @@ IsNeverLong bytes = ⊥
 
 -- Of a store that had not failed: at each moment of the call a crash leaves files that stand for the version and image before it or for
 -- those after it, and plain files stay plain. It makes no more changing calls than one that is done.
-pub record IsDurable {D : Type 0} (g : Ghosts D) (changes : List Change) (v : Version) (old new : Store D) (failed : Type 0) : Type 0 where
+pub record IsDurableIn {D : Type 0} (g : Ghosts D) (rewrite : Rewrite) (v : Version) (old new : Store D) (failed : Type 0) : Type 0 where
   pub moments : IfSome (g.files old.disk) (λ fs. LeavesOnly g.steps g.left_since old.disk new.disk
-      (StandsForEither old.version (image_of fs.database) v (effect (image_of fs.database) changes)))
-  pub plain : CutsNoPut changes → IfSome (g.files old.disk) (λ fs. IsPlain fs → LeavesOnly g.steps g.left_since old.disk new.disk IsPlain)
-  pub few : IfSome (g.files old.disk) (λ fs. RisesAtMost (13 + length changes + head_calls fs.database) (g.steps old.disk) (g.steps new.disk))
-  pub calls : CallsAtMost g (14 + length changes) old.disk new.disk failed
+      (StandsForEither old.version (image_of fs.database) v (rewritten rewrite (image_of fs.database))))
+  pub plain : KeepsPuts rewrite → IfSome (g.files old.disk) (λ fs. IsPlain fs → LeavesOnly g.steps g.left_since old.disk new.disk IsPlain)
+  pub few : IfSome (g.files old.disk) (λ fs. RisesAtMost (rewrite_calls rewrite fs.database) (g.steps old.disk) (g.steps new.disk))
+  pub calls : CallsAtMost g (most_calls rewrite) old.disk new.disk failed
+
+-- so of changes
+abbrev pub IsDurable : {D : Type 0} → Ghosts D → List Change → Version → (old new : Store D) → (failed : Type 0) → Type 0
+IsDurable g changes v old new failed = IsDurableIn g (Changed changes) v old new failed

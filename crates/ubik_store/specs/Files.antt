@@ -8,16 +8,26 @@ use Rattle.page_file.specs.declared.label.TheConstants.{MAX_DATABASE_LEN}
 use Rattle.page_file.specs.Label.{version_of_database}
 use Rattle.page_file.specs.Pages.{image_of}
 use Rattle.ubik_log.specs.LogGrammar.{IsCommitted, IsDiscarded}
+use Rattle.incoming_file.specs.Incoming.{IsIncoming, IsIgnored}
+
+-- No incoming file is open, and the log is committed: these are its changes and its version.
+pub record IsLogged (fs : Files) (changes : List Change) (version : Version) : Type 0 where
+  pub ignored : IsIgnored fs.incoming
+  pub committed : IsCommitted fs.log changes version
 
 -- Files whose database file is no longer than a label and the longest image, by cases.
 pub data StandsFor : Files → Version → List ℕ → Type 0 where
-  -- with a committed log: its version, and what its changes make of the bytes behind the label
+  -- with an open incoming file: its version and its image, whatever database and log are
+  by_incoming : (fs : Files) (version : Version) (image : List ℕ)
+      → IsIncoming fs.incoming version image → length fs.database ≤ MAX_DATABASE_LEN
+      → StandsFor fs version image
+  -- without one, and with a committed log: its version, and what its changes make of the bytes behind the label
   by_log : (fs : Files) (changes : List Change) (version : Version)
-      → IsCommitted fs.log changes version → length fs.database ≤ MAX_DATABASE_LEN
+      → IsLogged fs changes version → length fs.database ≤ MAX_DATABASE_LEN
       → StandsFor fs version (effect (image_of fs.database) changes)
-  -- with any other: the version of the label, or the first one where the file is empty, and the bytes behind it
+  -- with neither: the version of the label, or the first one where the file is empty, and the bytes behind it
   by_label : (fs : Files) (version : Version)
-      → IsDiscarded fs.log → version_of_database fs.database ≡ Some version
+      → IsIgnored fs.incoming → IsDiscarded fs.log → version_of_database fs.database ≡ Some version
       → StandsFor fs version (image_of fs.database)
 
 -- the files stand for the one version and image, or for the other

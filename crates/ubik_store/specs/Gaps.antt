@@ -7,7 +7,9 @@ use Rattle.ubik_types.specs.Version.{zero_version, version_lt}
 use Rattle.disk_base.specs.Files.{Files}
 use Rattle.page_file.specs.Label.{version_of_database}
 use Rattle.page_file.specs.Pages.{image_of}
-use Rattle.ubik_log.specs.LogGrammar.{IsCommitted, IsDiscarded}
+use Rattle.ubik_log.specs.LogGrammar.{IsDiscarded}
+use Rattle.incoming_file.specs.Incoming.{IsIncoming, IsIgnored}
+use Rattle.ubik_store.specs.Files.{IsLogged}
 use Rattle.ubik_store.specs.Redo.{changed_len}
 
 -- a put begins within an image of this length, or at its end; a cut may go past it
@@ -34,13 +36,14 @@ CutsNoPut (Cut to ∷ changes) = CutsNoPut changes
 
 -- the changes of a committed log leave no gap in the image that stands there
 abbrev pub IsGapless : Files → Type 0
-IsGapless fs =
-    (changes : List Change) (version : Version) → IsCommitted fs.log changes version → LeaveNoGap (length (image_of fs.database)) changes
+IsGapless fs = (changes : List Change) (version : Version) → IsLogged fs changes version → LeaveNoGap (length (image_of fs.database)) changes
 
 -- And none of its cuts goes to before where an earlier put begins: so it stays, however often an opening crashes. The first version is
--- that of an empty database file, and of nothing else: a store that began on empty files gives no log and no label that version.
+-- that of an empty database file, and of nothing else: a store that began on empty files gives no log, no label and no incoming file that
+-- version.
 pub record IsPlain (fs : Files) : Type 0 where
   pub gapless : IsGapless fs
-  pub cuts : (changes : List Change) (version : Version) → IsCommitted fs.log changes version → CutsNoPut changes
-  pub newer : (changes : List Change) (version : Version) → IsCommitted fs.log changes version → version_lt zero_version version ≡ true
-  pub unlabelled : IsDiscarded fs.log → version_of_database fs.database ≡ Some zero_version → fs.database ≡ []
+  pub cuts : (changes : List Change) (version : Version) → IsLogged fs changes version → CutsNoPut changes
+  pub newer : (changes : List Change) (version : Version) → IsLogged fs changes version → version_lt zero_version version ≡ true
+  pub received : (version : Version) (image : List ℕ) → IsIncoming fs.incoming version image → version_lt zero_version version ≡ true
+  pub unlabelled : IsIgnored fs.incoming → IsDiscarded fs.log → version_of_database fs.database ≡ Some zero_version → fs.database ≡ []

@@ -9,4 +9,5 @@ pub mod Opening
 pub mod Plans
 pub mod Redo
 pub mod Rest
+pub mod Rewrite
 pub mod Store

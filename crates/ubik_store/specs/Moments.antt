@@ -9,7 +9,7 @@ use Rattle.disk_base.specs.Files.{Files, laid}
 use Rattle.page_file.specs.declared.label.TheConstants.{MAX_DATABASE_LEN}
 use Rattle.page_file.specs.Label.{label}
 use Rattle.page_file.specs.Pages.{image_of}
-use Rattle.ubik_log.specs.LogGrammar.{IsCommitted}
+use Rattle.ubik_store.specs.Files.{IsLogged}
 use Rattle.ubik_store.specs.Redo.{Redoes, IsCovered}
 
 -- The log stands there still, and its changes make of the image what they make of the one that was kept.
@@ -59,6 +59,6 @@ ended changes v fs = without_log (with_database (finished changes v) fs)
 
 -- These changes lead where those of the committed log lead, also over what a crash in the midst of them leaves.
 pub record LeadsTo (fs : Files) (told : List Change) (v : Version) (changes : List Change) : Type 0 where
-  pub committed : IsCommitted fs.log told v
+  pub logged : IsLogged fs told v
   pub covered : All (IsCovered told (image_of fs.database)) changes
   pub same : effect (image_of fs.database) changes ≡ effect (image_of fs.database) told

@@ -10,6 +10,7 @@ use Rattle.disk_base.specs.Stops.{IsStopped}
 use Rattle.page_file.specs.Label.{IsHeadOf}
 use Rattle.page_file.specs.Pages.{image_of}
 use Rattle.ubik_log.specs.LogGrammar.{IsCommitted, IsDiscarded, new_record}
+use Rattle.incoming_file.specs.Incoming.{IsIncoming, IsIgnored, clear_calls}
 use Rattle.ubik_store.specs.declared.faults.StoreFault.{StoreFault}
 use Rattle.ubik_store.specs.declared.faults.StoreFault.TheVariants.{DiskFault, BadLabel, TooLarge, NotNewer, NoMemory}
 use Rattle.ubik_store.specs.Calls.{CallsAtMost}
@@ -17,15 +18,23 @@ use Rattle.ubik_store.specs.Files.{StandsFor}
 use Rattle.ubik_store.specs.Gaps.{IsGapless, IsPlain}
 use Rattle.ubik_store.specs.Moments.{head_calls}
 
--- how many changing calls an opening of these files makes, by cases
-pub data OpensIn : Files → ℕ → Type 0 where
+-- how many changing calls the log of these files asks for, by cases
+pub data EndsLogIn : Files → ℕ → Type 0 where
   -- a committed log: its changes as they are made over the image that stands there, two syncs and the label, and the end of the log
   redoes : (fs : Files) (changes : List Change) (version : Version) → IsCommitted fs.log changes version
-      → OpensIn fs (7 + length (logged (length (image_of fs.database)) changes) + head_calls fs.database)
+      → EndsLogIn fs (7 + length (logged (length (image_of fs.database)) changes) + head_calls fs.database)
   -- a discarded log that begins with LOGNEW: its gate is closed, and it is cut to nothing, and both is synced
-  closes : (fs : Files) → IsDiscarded fs.log → take 4 fs.log ≡ new_record → OpensIn fs 4
+  closes : (fs : Files) → IsDiscarded fs.log → take 4 fs.log ≡ new_record → EndsLogIn fs 4
   -- any other, an empty one too: it is cut to nothing, and synced
-  cuts : (fs : Files) → IsDiscarded fs.log → ¬ (take 4 fs.log ≡ new_record) → OpensIn fs 2
+  cuts : (fs : Files) → IsDiscarded fs.log → ¬ (take 4 fs.log ≡ new_record) → EndsLogIn fs 2
+
+-- how many an opening of these files makes, by cases
+pub data OpensIn : Files → ℕ → Type 0 where
+  -- an open incoming file: the log is emptied, the database file is cut and written, and all is synced; then the incoming file's gate is
+  -- closed, and it is emptied
+  takes : (fs : Files) (version : Version) (image : List ℕ) → IsIncoming fs.incoming version image → OpensIn fs 9
+  -- none: what the log asks for, and one that has bytes is emptied
+  treats : (fs : Files) (calls : ℕ) → IsIgnored fs.incoming → EndsLogIn fs calls → OpensIn fs (calls + clear_calls fs.incoming)
 
 -- the files stand for no version and no image
 abbrev pub StandsForNothing : Files → Type 0
@@ -39,14 +48,17 @@ RefusesFiles fs (TooLarge bytes) = ⊥
 RefusesFiles fs (NotNewer own given) = ⊥
 RefusesFiles fs NoMemory = Unit {0}
 
--- What an opening leaves of a disk, done or not. Where no put of a committed log leaves a gap, a crash at any moment of it leaves files
--- that stand for the same; plain files stay plain, so that it is so at any crash of a later opening. It makes no more changing calls than one
--- that is done.
-pub record IsOpening {D : Type 0} (g : Ghosts D) (old new : D) (failed : Type 0) : Type 0 where
+-- What an opening, or a part of one, leaves of a disk, done or not; `In` says how many changing calls it makes of files. Where no put of a
+-- committed log leaves a gap, a crash at any moment of it leaves files that stand for the same; plain files stay plain, so that it is so at any
+-- crash of a later opening. It makes no more changing calls than one that is done.
+pub record IsOpeningIn {D : Type 0} (In : Files → ℕ → Type 0) (g : Ghosts D) (old new : D) (failed : Type 0) : Type 0 where
   pub moments : IfSome (g.files old) (λ fs. IsGapless fs → (version : Version) (image : List ℕ) → StandsFor fs version image
       → LeavesOnly g.steps g.left_since old new (λ c. StandsFor c version image))
   pub plain : IfSome (g.files old) (λ fs. IsPlain fs → LeavesOnly g.steps g.left_since old new IsPlain)
-  pub few : IfSome (g.files old) (λ fs. (calls : ℕ) → OpensIn fs calls → RisesAtMost calls (g.steps old) (g.steps new))
+  pub few : IfSome (g.files old) (λ fs. (calls : ℕ) → In fs calls → RisesAtMost calls (g.steps old) (g.steps new))
   pub stopped : IsStopped (g.stop new) → failed
   pub most : ℕ
   pub calls : CallsAtMost g most old new failed
+
+abbrev pub IsOpening : {D : Type 0} → Ghosts D → (old new : D) → (failed : Type 0) → Type 0
+IsOpening g old new failed = IsOpeningIn OpensIn g old new failed

@@ -10,10 +10,10 @@ ghost use Rattle.page_file.specs.Label.{version_of_database};
 ghost use Rattle.page_file.specs.Pages.{AgreesIn, image_of};
 ghost use Rattle.ubik_log.specs.LogGrammar.{IsTold, IsWithinImage, IsCommitted};
 ghost use Rattle.ubik_store.specs.Calls.{CallsAtMost};
-ghost use Rattle.ubik_store.specs.Commit.{CommitsFiles, IsDurableOver};
+ghost use Rattle.ubik_store.specs.Commit.{RewritesFiles, IsDurableOver};
 ghost use Rattle.ubik_store.specs.Gaps.{IsPlain, CutsNoPut};
-ghost use Rattle.ubik_store.specs.Rest.{CanRelabel, RestsAs};
-ghost use Rattle.ubik_store.specs.DurableCall.{whole_image};
+ghost use Rattle.ubik_store.specs.Rest.{AreEmpty, CanRelabel, RestsAs};
+ghost use Rattle.ubik_store.specs.Rewrite.Rewrite.{Changed};
 ghost use Rattle.ubik_store.specs.Files.{StandsForEither};
 ghost use Rattle.ubik_store.specs.Moments.{head_calls, ended};
 ghost use Rattle.ubik_store.specs.Redo.{len_after, IsSeamless, Ends};
@@ -24,7 +24,7 @@ use disk_base::{Disk, FileNo};
 use page_file::Pages;
 use std::alloc::Global;
 use ubik_log::{empty_log, encode_log, keep_log, open_gate};
-use ubik_types::{Change, Changes, MAX_IMAGE, Version, bytes_of, changes_new, changes_push};
+use ubik_types::{Change, Changes, MAX_IMAGE, Version};
 
 /// Keeps the log of these changes and this version, commits it, and brings it to its end. It makes the room of the
 /// log first; that of the changes is there. For want of memory nothing changes. A crash at any moment leaves files that
@@ -43,7 +43,7 @@ pub(crate) fn keep_and_redo<D: Disk>(
     requires seamless { IsSeamless pages.old.len changes.now }
     requires fits { All (λ change. Ends change (D.room disk.old FileNo.Database)) changes.now }
     requires head_fits { 64 ≤ D.room disk.old FileNo.Database }
-    requires empty { IfSome (D.files disk.old) (λ fs. fs.log ≡ []) }
+    requires empty { IfSome (D.files disk.old) AreEmpty }
     requires settled { IsSettled (D.files disk.old) (D.may_leave disk.old) }
     ensures files { OnOk result (D.files disk.new ≡ option_map (ended changes.now v) (D.files disk.old)) }
     ensures moments { IfSome (D.files disk.old) (λ fs. (own : Version) → version_of_database fs.database ≡ Some own
@@ -98,7 +98,7 @@ pub(crate) fn reach(changes: &[Change]) -> u32
 }
 
 /// Makes these changes of a database one durable call, which gives it a version. The pages are those of the disk, in whose
-/// log file there is nothing. All memory is taken first: for want of it nothing changes. A crash at any moment
+/// log file and incoming file there is nothing. All memory is taken first: for want of it nothing changes. A crash at any moment
 /// leaves files that stand for the state before or the one after.
 pub(crate) fn commit_changes<D: Disk>(
     alloc: Global,
@@ -111,10 +111,10 @@ pub(crate) fn commit_changes<D: Disk>(
     requires agrees { AgreesIn pages.old (D.files disk.old) }
     requires len { pages.old.len ≤ MAX_IMAGE }
     requires seamless { IsSeamless pages.old.len changes.now }
-    requires empty { IfSome (D.files disk.old) (λ fs. fs.log ≡ []) }
+    requires empty { IfSome (D.files disk.old) AreEmpty }
     requires settled { IsSettled (D.files disk.old) (D.may_leave disk.old) }
-    ensures done { OnOk result (CommitsFiles D.Disk changes.now v disk.old disk.new pages.old pages.new) }
-    ensures durable { IsDurableOver D.Disk changes.now v disk.old disk.new (IsErrOf result StoreFault.DiskFault) }
+    ensures done { OnOk result (RewritesFiles D.Disk (Changed changes.now) v disk.old disk.new pages.old pages.new) }
+    ensures durable { IsDurableOver D.Disk (Changed changes.now) v disk.old disk.new (IsErrOf result StoreFault.DiskFault) }
     ensures fault { IfErr result (λ fault. (fault ≡ StoreFault.DiskFault) ⊎ (fault ≡ StoreFault.NoMemory)) }
     ensures unchanged { IsErrOf result StoreFault.NoMemory → OnlyReserves D.Disk disk.old disk.new × (pages.new ≡ pages.old) }
 {
@@ -133,41 +133,14 @@ pub(crate) fn relabel_files<D: Disk>(
     requires version { IsVersion v }
     requires agrees { AgreesIn pages.old (D.files disk.old) }
     requires len { pages.old.len ≤ MAX_IMAGE }
-    requires empty { IfSome (D.files disk.old) (λ fs. fs.log ≡ []) }
+    requires empty { IfSome (D.files disk.old) AreEmpty }
     requires settled { IsSettled (D.files disk.old) (D.may_leave disk.old) }
-    ensures done { OnOk result (CommitsFiles D.Disk [] v disk.old disk.new pages.old pages.new) }
-    ensures durable { IsDurableOver D.Disk [] v disk.old disk.new (IsErrOf result StoreFault.DiskFault) }
+    ensures done { OnOk result (RewritesFiles D.Disk (Changed []) v disk.old disk.new pages.old pages.new) }
+    ensures durable { IsDurableOver D.Disk (Changed []) v disk.old disk.new (IsErrOf result StoreFault.DiskFault) }
     ensures fault { IfErr result (λ fault. (fault ≡ StoreFault.DiskFault) ⊎ (fault ≡ StoreFault.NoMemory)) }
     ensures no_memory { CanRelabel D.Disk disk.old → ¬ IsErrOf result StoreFault.NoMemory }
     ensures unchanged { IsErrOf result StoreFault.NoMemory → OnlyReserves D.Disk disk.old disk.new × (pages.new ≡ pages.old) }
 {
     pages.reserve(disk, 0)?;
     keep_and_redo(alloc, disk, pages, &empty_log(v), &[], v)
-}
-
-/// Takes another image under a version, in one durable call: everything is cut, and the image is put.
-pub(crate) fn install_files<D: Disk>(
-    alloc: Global,
-    disk: &mut D,
-    pages: &mut Pages,
-    image: &[u8],
-    v: Version,
-) -> Result<(), StoreFault>
-    requires version { IsVersion v }
-    requires fits { length image.now ≤ MAX_IMAGE }
-    requires agrees { AgreesIn pages.old (D.files disk.old) }
-    requires len { pages.old.len ≤ MAX_IMAGE }
-    requires empty { IfSome (D.files disk.old) (λ fs. fs.log ≡ []) }
-    requires settled { IsSettled (D.files disk.old) (D.may_leave disk.old) }
-    ensures done { OnOk result (CommitsFiles D.Disk (whole_image image.now) v disk.old disk.new pages.old pages.new) }
-    ensures rests { OnOk result (IfSome (D.files disk.old) (λ _. RestsAs v image.now (D.files disk.new))) }
-    ensures durable { IsDurableOver D.Disk (whole_image image.now) v disk.old disk.new (IsErrOf result StoreFault.DiskFault) }
-    ensures fault { IfErr result (λ fault. (fault ≡ StoreFault.DiskFault) ⊎ (fault ≡ StoreFault.NoMemory)) }
-    ensures unchanged { IsErrOf result StoreFault.NoMemory → OnlyReserves D.Disk disk.old disk.new × (pages.new ≡ pages.old) }
-{
-    let bytes = bytes_of(alloc, image)?;
-    let mut changes = changes_new(alloc);
-    changes_push(&mut changes, Change::Cut { len: 0 })?;
-    changes_push(&mut changes, Change::Put { at: 0, bytes })?;
-    commit_changes(alloc, disk, pages, &changes, v)
 }

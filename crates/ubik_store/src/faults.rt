@@ -1,4 +1,5 @@
 //! Why a call of a store was not done.
+use incoming_file::IncomingFault;
 use page_file::{LABEL_LEN, PageFault};
 use thiserror::Error;
 use ubik_log::LogFault;
@@ -51,6 +52,20 @@ impl From<LogFault> for StoreFault {
         match fault {
             LogFault::DiskFault => StoreFault::DiskFault,
             LogFault::NoMemory => StoreFault::NoMemory,
+        }
+    }
+}
+
+impl From<IncomingFault> for StoreFault {
+    ghost use Rattle.std.specs.Prelude.{◌≡◌};
+    ghost use Rattle.ubik_store.specs.Faults.{of_incoming};
+
+    ghost from_gives = { λ fault e. e ≡ of_incoming fault };
+
+    fn from(fault: IncomingFault) -> Self {
+        match fault {
+            IncomingFault::DiskFault => StoreFault::DiskFault,
+            IncomingFault::NoMemory => StoreFault::NoMemory,
         }
     }
 }

@@ -1,9 +1,10 @@
-//! The store of a server: a version and an image, in a database file and a log, which a crash at any moment leaves
+//! The store of a server: a version and an image, in a database file, a log and an incoming file, which a crash at any moment leaves
 //! as they were before a call or as they are after it.
 #![tactic(auto)]
 
 mod commits;
 mod faults;
+mod installs;
 mod logged;
 mod opening;
 mod redo;

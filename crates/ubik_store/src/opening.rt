@@ -6,31 +6,35 @@ ghost use Rattle.ubik_types.specs.Version.{IsVersion};
 ghost use Rattle.disk_base.specs.Crash.{LeavesOnly, IsSettled, RisesAtMost};
 ghost use Rattle.disk_base.specs.Runs.{OnlyReads, OnlyReserves, ChangesAtMost};
 ghost use Rattle.disk_base.specs.Stops.{IsStopped};
+ghost use Rattle.incoming_file.specs.Incoming.{IsIgnored};
+ghost use Rattle.incoming_file.specs.Reading.{FindsOpen};
 ghost use Rattle.page_file.specs.Pages.{AgreesIn};
 ghost use Rattle.ubik_log.specs.LogFile.{HasDiscarded};
 ghost use Rattle.ubik_log.specs.LogGrammar.{IsTold, IsCommitted, IsDiscarded};
 ghost use Rattle.ubik_store.specs.Files.{StandsFor};
 ghost use Rattle.ubik_store.specs.Moments.{without_log};
-ghost use Rattle.ubik_store.specs.Opening.{OpensIn, RefusesFiles, IsOpening};
-ghost use Rattle.ubik_store.specs.Plans.{IsBegun, Plans};
-ghost use Rattle.ubik_store.specs.Rest.{RestsAs};
+ghost use Rattle.ubik_store.specs.Opening.{EndsLogIn, OpensIn, RefusesFiles, IsOpening, IsOpeningIn};
+ghost use Rattle.ubik_store.specs.Plans.{IsBegun, Plans, PlansLog, PlansTreat};
+ghost use Rattle.ubik_store.specs.Rest.{EndedAs, RestsAs};
 
 use crate::commits::reach;
 use crate::faults::StoreFault;
+use crate::installs::take_over;
 use crate::logged::as_made;
 use crate::redo::{empty_log_file, end_log, redo};
 use disk_base::{Disk, DiskEnd, FileNo, LenEnd, RoomEnd};
-use page_file::Pages;
+use incoming_file::{Found, clear_incoming, read_incoming, reserve_incoming};
+use page_file::{LABEL_LEN, Pages};
 use std::alloc::Global;
 use ubik_log::{LogState, read_log};
-use ubik_types::{Changes, MAX_IMAGE, NoMemory, Version, WORD_LEN};
+use ubik_types::{Bytes, Changes, MAX_IMAGE, NoMemory, Version, WORD_LEN};
 
 /// The first record of a log.
 const FIRST_RECORD: [u8; WORD_LEN] = [0, 0, 0, 100];
 
-/// What an opening is to do, once all is read and all memory is taken.
+/// What an opening is to do with the log.
 #[derive(Drop)]
-enum Plan {
+enum LogPlan {
     /// A committed log: these changes are made, under this version.
     Redo {
         pages: Pages,
@@ -41,6 +45,24 @@ enum Plan {
     Empty {
         pages: Pages,
         begun: bool,
+    },
+}
+
+/// What an opening is to do, once all is read and all memory is taken.
+#[derive(Drop)]
+enum Plan {
+    /// An open incoming file takes the place of database and log: its label and its image, of this version.
+    Take {
+        pages: Pages,
+        text: Bytes,
+        version: Version,
+    },
+    /// None is open. The log is treated, and then the incoming file, so many bytes long, is emptied. Its gate stands open past the longest
+    /// image, or not.
+    Treat {
+        log: LogPlan,
+        len: u64,
+        gated: bool,
     },
 }
 
@@ -80,10 +102,11 @@ fn plan_redo<D: Disk>(
     disk: &mut D,
     told: Changes,
     version: Version,
-) -> Result<Plan, StoreFault>
+) -> Result<LogPlan, StoreFault>
     requires told { IsTold told version }
     requires committed { IfSome (D.files disk.old) (λ fs. IsCommitted fs.log told version) }
-    ensures plans { IfOk result (Plans D.Disk disk.new) }
+    requires ignored { IfSome (D.files disk.old) (λ fs. IsIgnored fs.incoming) }
+    ensures plans { IfOk result (PlansLog D.Disk disk.new) }
     ensures refused { IfErr result (λ fault. IfSome (D.files disk.old) (λ fs. RefusesFiles fs fault)) }
     ensures reads { OnlyReads D.Disk disk.old disk.new (IsErrOf result StoreFault.DiskFault) }
 {
@@ -91,7 +114,7 @@ fn plan_redo<D: Disk>(
     let changes = as_made(alloc, pages.len(), told)?;
     pages.reserve(disk, reach(changes.as_slice()))?;
     reserve_gate(disk)?;
-    Ok(Plan::Redo {
+    Ok(LogPlan::Redo {
         pages,
         changes,
         version,
@@ -99,9 +122,10 @@ fn plan_redo<D: Disk>(
 }
 
 /// Reads length and label of a database file over which a discarded log stands, and whether that log has an open gate.
-fn plan_empty<D: Disk>(alloc: Global, disk: &mut D) -> Result<Plan, StoreFault>
+fn plan_empty<D: Disk>(alloc: Global, disk: &mut D) -> Result<LogPlan, StoreFault>
     requires discarded { IfSome (D.files disk.old) (λ fs. IsDiscarded fs.log) }
-    ensures plans { IfOk result (Plans D.Disk disk.new) }
+    requires ignored { IfSome (D.files disk.old) (λ fs. IsIgnored fs.incoming) }
+    ensures plans { IfOk result (PlansLog D.Disk disk.new) }
     ensures refused { IfErr result (λ fault. IfSome (D.files disk.old) (λ fs. RefusesFiles fs fault)) }
     ensures reads { OnlyReads D.Disk disk.old disk.new (IsErrOf result StoreFault.DiskFault) }
 {
@@ -110,19 +134,57 @@ fn plan_empty<D: Disk>(alloc: Global, disk: &mut D) -> Result<Plan, StoreFault>
     if begun {
         reserve_gate(disk)?;
     }
-    Ok(Plan::Empty { pages, begun })
+    Ok(LogPlan::Empty { pages, begun })
 }
 
-/// Reads the files, and takes all memory that an opening of them needs.
+/// Reads log and database file, where no incoming file is open, and takes all memory that the log asks for.
+fn plan_log<D: Disk>(alloc: Global, disk: &mut D) -> Result<LogPlan, StoreFault>
+    requires ignored { IfSome (D.files disk.old) (λ fs. IsIgnored fs.incoming) }
+    ensures plans { IfOk result (PlansLog D.Disk disk.new) }
+    ensures refused { IfErr result (λ fault. IfSome (D.files disk.old) (λ fs. RefusesFiles fs fault)) }
+    ensures reads { OnlyReads D.Disk disk.old disk.new (IsErrOf result StoreFault.DiskFault) }
+{
+    match read_log(alloc, disk)? {
+        LogState::Committed { changes, version } => plan_redo(alloc, disk, changes, version),
+        LogState::Discarded => plan_empty(alloc, disk),
+    }
+}
+
+/// Makes room for label and image of an open incoming file in the database file, and for its closed gate.
+fn plan_take<D: Disk>(
+    alloc: Global,
+    disk: &mut D,
+    text: Bytes,
+    version: Version,
+) -> Result<Plan, StoreFault>
+    requires found { FindsOpen D.Disk disk.old text version }
+    ensures plans { IfOk result (Plans D.Disk disk.new) }
+    ensures refused { IfErr result (λ fault. IfSome (D.files disk.old) (λ fs. RefusesFiles fs fault)) }
+    ensures reads { OnlyReads D.Disk disk.old disk.new (IsErrOf result StoreFault.DiskFault) }
+{
+    let mut pages = Pages::over(alloc, disk)?;
+    pages.reserve(disk, (text.as_slice().len() - LABEL_LEN) as u32)?;
+    reserve_incoming(disk, LABEL_LEN as u64)?;
+    Ok(Plan::Take {
+        pages,
+        text,
+        version,
+    })
+}
+
+/// Reads the files, the incoming file first, and takes all memory that an opening of them needs.
 fn plan_opening<D: Disk>(alloc: Global, disk: &mut D) -> Result<Plan, StoreFault>
     ensures plans { IfOk result (Plans D.Disk disk.new) }
     ensures refused { IfErr result (λ fault. IfSome (D.files disk.old) (λ fs. RefusesFiles fs fault)) }
     ensures stopped { IsStopped (D.stop disk.old) → IsErrOf result StoreFault.DiskFault }
     ensures reads { OnlyReads D.Disk disk.old disk.new (IsErrOf result StoreFault.DiskFault) }
 {
-    match read_log(alloc, disk)? {
-        LogState::Committed { changes, version } => plan_redo(alloc, disk, changes, version),
-        LogState::Discarded => plan_empty(alloc, disk),
+    match read_incoming(alloc, disk)? {
+        Found::Open { text, version } => plan_take(alloc, disk, text, version),
+        Found::Ignored { len, gated } => {
+            let log = plan_log(alloc, disk)?;
+            Ok(Plan::Treat { log, len, gated })
+        }
     }
 }
 
@@ -150,6 +212,64 @@ fn empty_discarded<D: Disk>(disk: &mut D, begun: bool) -> Result<(), StoreFault>
     }
 }
 
+/// Makes the changes that the log asks for, where no incoming file is open.
+fn treat_log<D: Disk>(disk: &mut D, plan: LogPlan) -> Result<Pages, StoreFault>
+    requires plans { PlansLog D.Disk disk.old plan }
+    requires ignored { IfSome (D.files disk.old) (λ fs. IsIgnored fs.incoming) }
+    requires settled { IsSettled (D.files disk.old) (D.may_leave disk.old) }
+    requires runs { ¬ IsStopped (D.stop disk.old) }
+    ensures stands { IfOk result (λ pages. IfSome (D.files disk.old) (λ fs. (version : Version) × (image : List ℕ) × StandsFor fs version image
+        × EndedAs version image fs.incoming (D.files disk.new) × (pages.version ≡ Some version) × (pages.len ≡ length image))) }
+    ensures numbers { IfOk result (λ pages. (version : Version) × (pages.version ≡ Some version) × IsVersion version) }
+    ensures len { IfOk result (λ pages. pages.len ≤ MAX_IMAGE) }
+    ensures agrees { IfOk result (λ pages. AgreesIn pages (D.files disk.new)) }
+    ensures settled { OnOk result (IsSettled (D.files disk.new) (D.may_leave disk.new)) }
+    ensures steps { OnOk result (IfSome (D.files disk.old) (λ fs. (calls : ℕ) → EndsLogIn fs calls
+        → D.steps disk.new ≡ D.steps disk.old + calls)) }
+    ensures untold { OnOk result (D.files disk.old ≡ None → D.files disk.new ≡ None) }
+    ensures fault { IfErr result (λ fault. fault ≡ StoreFault.DiskFault) }
+    ensures opening { IsOpeningIn EndsLogIn D.Disk disk.old disk.new (IsErrOf result StoreFault.DiskFault) }
+{
+    match plan {
+        LogPlan::Redo {
+            mut pages,
+            changes,
+            version,
+        } => {
+            redo(disk, &mut pages, changes.as_slice(), version)?;
+            Ok(pages)
+        }
+        LogPlan::Empty { pages, begun } => {
+            empty_discarded(disk, begun)?;
+            Ok(pages)
+        }
+    }
+}
+
+/// Makes the changes that the log asks for, and empties the incoming file, which is ignored.
+fn treat<D: Disk>(disk: &mut D, log: LogPlan, len: u64, gated: bool) -> Result<Pages, StoreFault>
+    requires plans { PlansTreat D.Disk disk.old log len gated }
+    requires settled { IsSettled (D.files disk.old) (D.may_leave disk.old) }
+    requires runs { ¬ IsStopped (D.stop disk.old) }
+    ensures stands { IfOk result (λ pages. IfSome (D.files disk.old) (λ fs. (version : Version) × (image : List ℕ)
+        × StandsFor fs version image × RestsAs version image (D.files disk.new) × (pages.version ≡ Some version) × (pages.len ≡ length image))) }
+    ensures numbers { IfOk result (λ pages. (version : Version) × (pages.version ≡ Some version) × IsVersion version) }
+    ensures len { IfOk result (λ pages. pages.len ≤ MAX_IMAGE) }
+    ensures agrees { IfOk result (λ pages. AgreesIn pages (D.files disk.new)) }
+    ensures settled { OnOk result (IsSettled (D.files disk.new) (D.may_leave disk.new)) }
+    ensures steps { OnOk result (IfSome (D.files disk.old) (λ fs. (calls : ℕ) → OpensIn fs calls
+        → D.steps disk.new ≡ D.steps disk.old + calls)) }
+    ensures untold { OnOk result (D.files disk.old ≡ None → D.files disk.new ≡ None) }
+    ensures fault { IfErr result (λ fault. fault ≡ StoreFault.DiskFault) }
+    ensures opening { IsOpening D.Disk disk.old disk.new (IsErrOf result StoreFault.DiskFault) }
+{
+    let pages = treat_log(disk, log)?;
+    match clear_incoming(disk, len, gated) {
+        DiskEnd::Done => Ok(pages),
+        DiskEnd::Failed => Err(StoreFault::DiskFault),
+    }
+}
+
 /// Makes the changes that an opening makes.
 fn carry_out<D: Disk>(disk: &mut D, plan: Plan) -> Result<Pages, StoreFault>
     requires plans { Plans D.Disk disk.old plan }
@@ -168,24 +288,22 @@ fn carry_out<D: Disk>(disk: &mut D, plan: Plan) -> Result<Pages, StoreFault>
     ensures opening { IsOpening D.Disk disk.old disk.new (IsErrOf result StoreFault.DiskFault) }
 {
     match plan {
-        Plan::Redo {
+        Plan::Take {
             mut pages,
-            changes,
+            text,
             version,
         } => {
-            redo(disk, &mut pages, changes.as_slice(), version)?;
+            take_over(disk, &mut pages, text.as_slice(), version)?;
             Ok(pages)
         }
-        Plan::Empty { pages, begun } => {
-            empty_discarded(disk, begun)?;
-            Ok(pages)
-        }
+        Plan::Treat { log, len, gated } => treat(disk, log, len, gated),
     }
 }
 
-/// Brings a committed log to its end, empties any other, and reads length and label of the database file. Files at rest are
-/// left, which stand for what the files stood for. A crash at any moment leaves files that stand for the same, but where a put of a
-/// committed log leaves a gap. Files that stand for nothing are refused, and nothing changes; nor does it for want of memory.
+/// Has an open incoming file take the place of database and log; without one brings a committed log to its end, empties any other, and
+/// empties the incoming file. Files at rest are left, which stand for what the files stood for. A crash at any moment leaves files that
+/// stand for the same, but where a put of a committed log leaves a gap. Files that stand for nothing are refused, and nothing changes; nor
+/// does it for want of memory.
 pub(crate) fn open_files<D: Disk>(alloc: Global, disk: &mut D) -> Result<Pages, StoreFault>
     requires settled { IsSettled (D.files disk.old) (D.may_leave disk.old) }
     ensures stands { IfOk result (λ pages. IfSome (D.files disk.old) (λ fs. (version : Version) × (image : List ℕ)

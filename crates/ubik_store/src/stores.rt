@@ -7,14 +7,16 @@ ghost use Rattle.disk_base.specs.Runs.{OnlyReads};
 ghost use Rattle.disk_base.specs.Stops.{IsStopped, armed};
 ghost use Rattle.disk_base.specs.Stops.DiskStop.{Unarmed};
 ghost use Rattle.page_file.specs.Kept.{AreKept};
-ghost use Rattle.ubik_store.specs.DurableCall.{Commits, EndsAs, HasFailed, IsDurable, IsNeverLong, whole_image};
+ghost use Rattle.ubik_store.specs.DurableCall.{Commits, EndsAs, HasFailed, IsDurable, IsDurableIn, IsNeverLong, Rewrites};
 ghost use Rattle.ubik_store.specs.Files.{StandsFor};
 ghost use Rattle.ubik_store.specs.Opening.{OpensIn, RefusesFiles, IsOpening};
 ghost use Rattle.ubik_store.specs.Rest.{RestsAs, CanRelabel};
+ghost use Rattle.ubik_store.specs.Rewrite.Rewrite.{Replaced};
 ghost use Rattle.ubik_store.specs.Store.{Adds, IsForbidden, IsPutRefused, IsSound, IsTooLong, SameButBegun, StaysAsItWas, changes_begun, image_in, taken_over};
 
-use crate::commits::{commit_changes, install_files, relabel_files};
+use crate::commits::{commit_changes, relabel_files};
 use crate::faults::StoreFault;
+use crate::installs::install_files;
 use crate::opening::open_files;
 use crate::transactions::Transaction;
 use disk_base::{Disk, Fill, Refused, StopDisk};
@@ -36,7 +38,8 @@ pub struct Store<D: Disk> {
 }
 
 impl<D: Disk> Store<D> {
-    /// Opens a store over a disk on which nothing is pending: a committed log is brought to its end, any other is emptied.
+    /// Opens a store over a disk on which nothing is pending: an open incoming file takes the place of database and log; without one a
+    /// committed log is brought to its end, and any other is emptied, and so is the incoming file.
     pub fn open(alloc: Global, disk: D) -> Result<Store<D>, Refused<D, StoreFault>>
         requires settled { IsSettled (D.files disk) (D.may_leave disk) }
         ensures sound { IfOk result (IsSound D.Disk) }
@@ -222,20 +225,21 @@ impl<D: Disk> Store<D> {
         self.end(ended, v)
     }
 
-    /// Takes another image under a newer version, in one durable call. A relabelling that comes next lacks no memory.
+    /// Takes another image under a newer version, in one durable call of 15 changing calls, by way of the incoming file. A relabelling that
+    /// comes next lacks no memory.
     pub fn install(&mut self, image: &[u8], v: Version) -> Result<(), StoreFault>
         requires sound { IsSound D.Disk self.old }
         requires version { IsVersion v }
         requires none { self.old.begun ≡ None }
         ensures sound { IsSound D.Disk self.new }
-        ensures ended { MatchResult result (λ _. Commits D.Disk (whole_image image.now) v self.old self.new)
+        ensures ended { MatchResult result (λ _. Rewrites D.Disk (Replaced image.now) v self.old self.new)
             (EndsAs D.Disk (IsTooLong image.now) v self.old self.new) }
         ensures fits { OnOk result (length image.now ≤ MAX_IMAGE) }
         ensures too_long { self.old.failed ≡ false → MAX_IMAGE < length image.now
             → IsErrOf result (StoreFault.TooLarge (length image.now)) }
         ensures image { OnOk result (IfSome (D.files self.old.disk) (λ _. image_in (D.files self.new.disk) ≡ Some image.now)) }
         ensures durable { self.old.failed ≡ false
-            → IsDurable D.Disk (whole_image image.now) v self.old self.new (IsErrOf result StoreFault.DiskFault) }
+            → IsDurableIn D.Disk (Replaced image.now) v self.old self.new (IsErrOf result StoreFault.DiskFault) }
         ensures rests { self.old.failed ≡ true → (self.new.disk ≡ self.old.disk) × IsErrOf result StoreFault.DiskFault }
     {
         if !self.failed && image.len() > MAX_IMAGE {

@@ -11,6 +11,7 @@ use Rattle.ubik_store.specs.declared.faults.StoreFault.TheVariants.{BadLabel, Di
 use Rattle.ubik_store.specs.declared.stores.Store.{Store}
 use Rattle.ubik_store.specs.DurableCall.{Commits, EndsAs, IsDurable, IsNeverLong}
 use Rattle.ubik_store.specs.Store.{changes_begun}
+use Rattle.ubik_store.specs.Rewrite.Rewrite.{Changed}
 use Rattle.ubik_store.proofs.Ended.{durable_itself}
 use Rattle.ubik_node.proofs.Putting.{durable_moved}
 use Rattle.ubik_node.proofs.database.commit_all.Goals as goal
@@ -42,7 +43,7 @@ returns-clause-durable g c =
       | in-Err w ↦
           durable_moved g.D.Disk changes c.args.v (IsErrOf c.match-put_all.ended DiskFault) old old old after refl refl
           (c.abort.ensures.same.disk ∙ ap (λ (s : Store g.row.D.Denot). s.disk) w.store-is ∙ same.disk ∙ first.disk)
-          (durable_itself g.D.Disk changes c.args.v old (IsErrOf c.match-put_all.ended DiskFault) (c.requires.sound.ready c.requires.fresh)
+          (durable_itself g.D.Disk (Changed changes) c.args.v old (IsErrOf c.match-put_all.ended DiskFault) (c.requires.sound.ready c.requires.fresh)
           (no_fault c.match-put_all.ended w.in-Err.fault w.ended-is w.in-Err.ensures.fault))
     ]
 

@@ -1,4 +1,4 @@
-use Rattle.std.proofs.Common.{◌≡◌, ◌+◌, ◌∙◌, ◌⊎◌, rules, inl, inr, ℕ, [], length, Some, refl, ap, arith}
+use Rattle.std.proofs.Common.{◌≡◌, ◌+◌, ◌∙◌, ◌⊎◌, rules, inl, inr, ℕ, length, Some, refl, ap, arith}
 use Rattle.std.proofs.lemmas.Bool.{false≢true}
 use Rattle.std.specs.Option.{option_map}
 use Rattle.std.specs.Prelude.{Result, Ok, Err, IfErr, IsErr, IsErrOf}
@@ -13,45 +13,45 @@ use Rattle.disk_base.proofs.Runs.{widened, joined}
 use Rattle.page_file.specs.Pages.{image_of}
 use Rattle.ubik_log.specs.LogFile.{with_log}
 use Rattle.ubik_store.specs.Gaps.{IsPlain}
-use Rattle.ubik_store.specs.Rest.{RestsAs}
+use Rattle.ubik_store.specs.Rest.{AreEmpty, RestsAs}
 use Rattle.ubik_store.specs.Files.{StandsFor, StandsForEither}
 use Rattle.ubik_store.specs.Moments.{head_calls, ended}
 use Rattle.ubik_store.proofs.Applied.{calls_of, calls_joined, calls_as}
-use Rattle.ubik_store.proofs.Committing.{LeavesEither, fits_of, stands_before, stands_in_gate, leads_itself, may_redo_all, opened_files, ended_from, opened_over, while_kept, until_open, settled_at, all_end_more}
+use Rattle.ubik_store.proofs.Committing.{LeavesEither, fits_of, stands_before, stands_in_gate, leads_itself, may_redo_all, opened_files, ended_from, ignored_at, opened_over, while_kept, until_open, settled_at, all_end_more}
 use Rattle.ubik_store.proofs.Ending.{LeavesEffect}
 use Rattle.ubik_store.proofs.Gaps.{seamless_is_gapless}
 use Rattle.ubik_store.proofs.Heads.{FewWithHead, rises_joined, few_but}
 use Rattle.ubik_store.proofs.Plain.{LeavesPlain, plain_before, plain_in_gate, plain_committed, first_over}
-use Rattle.ubik_store.proofs.Resting.{seamless_of, rests_in, committed_long}
+use Rattle.ubik_store.proofs.Resting.{seamless_of, ended_in, at_rest, committed_long}
 use Rattle.ubik_store.proofs.Telling.{told, of_told, ok_map, err_of, err_any}
 use Rattle.ubik_store.proofs.commits.keep_and_redo.Goals as goal
 
 pub returns-in_err-keep_log-clause-moments : goal.returns-in_err-keep_log-clause-moments
 returns-in_err-keep_log-clause-moments g c = told _ (LeavesEither g.D.Disk c.args.disk.now c.keep_log.new.disk c.args.v c.args.changes.now) (λ fs is own labelled.
     let log = c.args.log.now in
-    while_kept g.D.Disk _ fs log is c.requires.empty c.requires.settled (stands_before fs own c.args.v c.args.changes.now log labelled) c.keep_log.ensures.moments)
+    while_kept g.D.Disk _ fs log is c.requires.empty c.requires.settled (stands_before fs own c.args.v c.args.changes.now log (ignored_at _ fs is c.requires.empty) labelled) c.keep_log.ensures.moments)
 
 pub returns-in_err-open_gate-clause-moments : goal.returns-in_err-open_gate-clause-moments
 returns-in_err-open_gate-clause-moments g c = told _ (LeavesEither g.D.Disk c.args.disk.now c.open_gate.new.disk c.args.v c.args.changes.now) (λ fs is own labelled.
     let log = c.args.log.now in
     let changes = c.args.changes.now in
-    until_open g.D.Disk _ fs log changes c.args.v is c.requires.empty c.requires.settled (stands_before fs own c.args.v changes log labelled) c.keep_log.ensures.moments
-    (stands_in_gate fs own c.args.v changes log c.requires.committed (fits_of _ _ fs c.requires.agrees is c.requires.len) labelled) c.requires.committed
+    until_open g.D.Disk _ fs log changes c.args.v is c.requires.empty c.requires.settled (stands_before fs own c.args.v changes log (ignored_at _ fs is c.requires.empty) labelled) c.keep_log.ensures.moments
+    (stands_in_gate fs own c.args.v changes log (ignored_at _ fs is c.requires.empty) c.requires.committed (fits_of _ _ fs c.requires.agrees is c.requires.len) labelled) c.requires.committed
     c.in_ok-keep_log.ensures.stands c.open_gate.ensures.either)
 
 pub returns-in_err-keep_log-clause-plain : goal.returns-in_err-keep_log-clause-plain
 returns-in_err-keep_log-clause-plain g c = λ newer cuts. told _ (λ fs. IsPlain fs → LeavesOnly g.D.Disk.steps g.D.Disk.left_since c.args.disk.now c.keep_log.new.disk IsPlain) (λ fs is plain.
-    let first = first_over fs plain (of_told _ fs (λ fs. fs.log ≡ []) is c.requires.empty) in
-    while_kept g.D.Disk IsPlain fs c.args.log.now is c.requires.empty c.requires.settled (plain_before fs first) c.keep_log.ensures.moments)
+    let first = first_over fs plain (of_told _ fs AreEmpty is c.requires.empty) in
+    while_kept g.D.Disk IsPlain fs c.args.log.now is c.requires.empty c.requires.settled (plain_before fs (ignored_at _ fs is c.requires.empty) first) c.keep_log.ensures.moments)
 
 pub returns-in_err-open_gate-clause-plain : goal.returns-in_err-open_gate-clause-plain
 returns-in_err-open_gate-clause-plain g c = λ newer cuts. told _ (λ fs. IsPlain fs → LeavesOnly g.D.Disk.steps g.D.Disk.left_since c.args.disk.now c.open_gate.new.disk IsPlain) (λ fs is plain.
-    let first = first_over fs plain (of_told _ fs (λ fs. fs.log ≡ []) is c.requires.empty) in
+    let first = first_over fs plain (of_told _ fs AreEmpty is c.requires.empty) in
     let log = c.args.log.now in
     let changes = c.args.changes.now in
     let gapless = seamless_is_gapless changes _ (seamless_of c.args.pages.now _ fs changes c.requires.agrees is c.requires.seamless) in
-    until_open g.D.Disk IsPlain fs log changes c.args.v is c.requires.empty c.requires.settled (plain_before fs first) c.keep_log.ensures.moments
-    (plain_in_gate fs changes c.args.v log c.requires.committed gapless cuts newer first) c.requires.committed c.in_ok-keep_log.ensures.stands c.open_gate.ensures.either)
+    until_open g.D.Disk IsPlain fs log changes c.args.v is c.requires.empty c.requires.settled (plain_before fs (ignored_at _ fs is c.requires.empty) first) c.keep_log.ensures.moments
+    (plain_in_gate fs changes c.args.v log (ignored_at _ fs is c.requires.empty) c.requires.committed gapless cuts newer first) c.requires.committed c.in_ok-keep_log.ensures.stands c.open_gate.ensures.either)
 
 -- a call that never lacks memory fails by the disk
 gate_fault : {A : Type 0} (r : Result A LogFault) (e : LogFault) → r ≡ Err e → ¬ IsErrOf r logs.NoMemory → e ≡ logs.DiskFault
@@ -94,14 +94,14 @@ returns-clause-moments g c = told _ (LeavesEither g.D.Disk c.args.disk.now c.red
     let only = settled_at _ (with_log log fs) _ opened (c.in_ok-open_gate.ensures.set.settled (c.in_ok-keep_log.ensures.stands.settled c.requires.settled)) in
     let rest = of_told _ (with_log log fs) (LeavesEffect g.D.Disk c.open_gate.new.disk c.redo.new.disk c.args.v changes) opened c.redo.ensures.moments in
     joined g.D.Disk.steps g.D.Disk.left_since _ _ _ Stands
-    (until_open g.D.Disk Stands fs log changes c.args.v is c.requires.empty c.requires.settled (stands_before fs own c.args.v changes log labelled) c.keep_log.ensures.moments
-    (stands_in_gate fs own c.args.v changes log c.requires.committed fits labelled) c.requires.committed c.in_ok-keep_log.ensures.stands c.open_gate.ensures.either)
+    (until_open g.D.Disk Stands fs log changes c.args.v is c.requires.empty c.requires.settled (stands_before fs own c.args.v changes log (ignored_at _ fs is c.requires.empty) labelled) c.keep_log.ensures.moments
+    (stands_in_gate fs own c.args.v changes log (ignored_at _ fs is c.requires.empty) c.requires.committed fits labelled) c.requires.committed c.in_ok-keep_log.ensures.stands c.open_gate.ensures.either)
     (widened g.D.Disk.steps g.D.Disk.left_since _ _ (λ x. StandsFor x c.args.v (effect (image_of fs.database) changes)) Stands (λ x stands. inr stands)
-    (rest changes (leads_itself fs c.args.v changes log c.requires.committed) (may_redo_all (with_log log fs) changes _ fits only))))
+    (rest changes (leads_itself fs c.args.v changes log (ignored_at _ fs is c.requires.empty) c.requires.committed) (may_redo_all (with_log log fs) changes _ fits only))))
 
 pub returns-clause-plain : goal.returns-clause-plain
 returns-clause-plain g c = λ newer cuts. told _ (λ fs. IsPlain fs → LeavesOnly g.D.Disk.steps g.D.Disk.left_since c.args.disk.now c.redo.new.disk IsPlain) (λ fs is plain.
-    let first = first_over fs plain (of_told _ fs (λ fs. fs.log ≡ []) is c.requires.empty) in
+    let first = first_over fs plain (of_told _ fs AreEmpty is c.requires.empty) in
     let log = c.args.log.now in
     let changes = c.args.changes.now in
     let gapless = seamless_is_gapless changes _ (seamless_of c.args.pages.now _ fs changes c.requires.agrees is c.requires.seamless) in
@@ -109,9 +109,9 @@ returns-clause-plain g c = λ newer cuts. told _ (λ fs. IsPlain fs → LeavesOn
     let only = settled_at _ (with_log log fs) _ opened (c.in_ok-open_gate.ensures.set.settled (c.in_ok-keep_log.ensures.stands.settled c.requires.settled)) in
     let rest = of_told _ (with_log log fs) (LeavesPlain g.D.Disk c.open_gate.new.disk c.redo.new.disk c.args.v changes) opened c.redo.ensures.plain in
     joined g.D.Disk.steps g.D.Disk.left_since _ _ _ IsPlain
-    (until_open g.D.Disk IsPlain fs log changes c.args.v is c.requires.empty c.requires.settled (plain_before fs first) c.keep_log.ensures.moments
-    (plain_in_gate fs changes c.args.v log c.requires.committed gapless cuts newer first) c.requires.committed c.in_ok-keep_log.ensures.stands c.open_gate.ensures.either)
-    (rest changes (leads_itself fs c.args.v changes log c.requires.committed) (plain_committed fs changes c.args.v log (with_log log fs) c.requires.committed gapless cuts newer refl refl)
+    (until_open g.D.Disk IsPlain fs log changes c.args.v is c.requires.empty c.requires.settled (plain_before fs (ignored_at _ fs is c.requires.empty) first) c.keep_log.ensures.moments
+    (plain_in_gate fs changes c.args.v log (ignored_at _ fs is c.requires.empty) c.requires.committed gapless cuts newer first) c.requires.committed c.in_ok-keep_log.ensures.stands c.open_gate.ensures.either)
+    (rest changes (leads_itself fs c.args.v changes log (ignored_at _ fs is c.requires.empty) c.requires.committed) (plain_committed fs changes c.args.v log (ignored_at _ fs is c.requires.empty) (with_log log fs) c.requires.committed gapless cuts newer refl refl)
     (may_redo_all (with_log log fs) changes _ (fits_of _ _ fs c.requires.agrees is c.requires.len) only)))
 
 pub returns-clause-settled : goal.returns-clause-settled
@@ -138,8 +138,9 @@ returns-clause-rests g c =
     ok_map c.redo.result _ _ c.redo.ensures.files (λ files.
     told _ (λ fs. RestsAs c.args.v (effect (image_of fs.database) c.args.changes.now) (g.D.Disk.files c.redo.new.disk)) (λ fs is.
     let from = opened_files c.args.log.now c.args.changes.now c.args.v _ _ _ c.requires.committed c.in_ok-keep_log.ensures.stands.files c.in_ok-open_gate.ensures.set.files in
-    rests_in c.args.changes.now c.args.v fs c.args.pages.now _ _ c.requires.committed.told c.requires.agrees is c.requires.seamless c.requires.len
-    (files ∙ ended_from c.args.log.now c.args.changes.now c.args.v _ _ from ∙ ap (option_map (ended c.args.changes.now c.args.v)) is)))
+    at_rest _ _ fs.incoming _ (of_told _ fs AreEmpty is c.requires.empty).1
+    (ended_in c.args.changes.now c.args.v fs c.args.pages.now _ _ c.requires.committed.told c.requires.agrees is c.requires.seamless c.requires.len
+    (files ∙ ended_from c.args.log.now c.args.changes.now c.args.v _ _ from ∙ ap (option_map (ended c.args.changes.now c.args.v)) is))))
 
 pub returns-clause-room : goal.returns-clause-room
 returns-clause-room g c =

@@ -3,8 +3,8 @@ use Rattle.std.specs.Result.{is_err}
 use Rattle.std.proofs.lemmas.Bool.{false≢true}
 use Rattle.disk_base.proofs.Runs.{reads_as}
 use Rattle.ubik_store.specs.declared.faults.StoreFault.TheVariants.{DiskFault}
-use Rattle.ubik_store.proofs.Opened.{reads_is_opening, opening_after}
-use Rattle.ubik_store.proofs.Telling.{err_on, err_back}
+use Rattle.ubik_store.proofs.Opened.{reads_is_opening, opening_after, steps_after}
+use Rattle.ubik_store.proofs.Telling.{err_on, err_back, ok_map}
 use Rattle.ubik_store.proofs.opening.open_files.Goals as goal
 
 pub returns-in_err-plan-clause-opening : goal.returns-in_err-plan-clause-opening
@@ -20,3 +20,8 @@ returns-in_err-plan-clause-opening g c =
 pub returns-clause-opening : goal.returns-clause-opening
 returns-clause-opening g c =
     opening_after g.D.Disk c.requires.settled c.in_ok-plan.ensures.reads (λ failed. false≢true (ap is_err failed)) c.carry_out.ensures.opening
+
+pub returns-clause-steps : goal.returns-clause-steps
+returns-clause-steps g c =
+    ok_map c.carry_out.result _ _ c.carry_out.ensures.steps
+    (steps_after g.D.Disk c.carry_out.new.disk c.in_ok-plan.ensures.reads (λ failed. false≢true (ap is_err failed)))

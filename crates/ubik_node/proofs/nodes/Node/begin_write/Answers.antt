@@ -1,4 +1,4 @@
-use Rattle.std.proofs.Common.{◌≡◌, ◌∙◌, ◌++◌, ℕ, cond, false, replicate, List, [], None, Err, IsErrOf, IsSome, length, refl, sym, ap, subst, arith}
+use Rattle.std.proofs.Common.{◌≡◌, ◌+◌, ◌∙◌, ◌++◌, ℕ, cond, false, replicate, List, [], None, Err, IsErrOf, IsSome, length, refl, sym, ap, subst, arith}
 use Rattle.std.specs.Result.{is_err}
 use Rattle.std.proofs.lemmas.Bool.{false≢true}
 use Rattle.ubik_types.specs.declared.images.Change.{Change}
@@ -18,6 +18,8 @@ use Rattle.ubik_recovery.specs.Record.{RecoveryRecord, held_alone}
 use Rattle.ubik_store.specs.declared.faults.StoreFault.TheVariants.{DiskFault}
 use Rattle.ubik_store.specs.DurableCall.{Commits, IsDurable, IsNeverLong}
 use Rattle.ubik_store.specs.Gaps.{CutsNoPut}
+use Rattle.cell_model.specs.Durable.{label_calls}
+use Rattle.ubik_store.specs.Rewrite.Rewrite.{Changed}
 use Rattle.ubik_node.specs.Node.{held}
 use Rattle.server_state.specs.State.{announced, member_of, server_of}
 use Rattle.ubik_write.specs.Flight.{IsFlightOf}
@@ -86,8 +88,8 @@ returns-in_err-commit_all-clause-ends g c = λ image.
     let leads = written_begun (server_of st) (announced st) st.recovery c.args.now c.args.id c.args.call.now c.args.answer image given c.requires.serving m own v c.next_version-next.ensures (sym st.of_cell.servers) c.requires.others refl refl in
     handed_ends g.D.Disk c.from_residual-in_err-commit_all.result e c.from_residual-in_err-commit_all.ensures.1
     (held_as g.D.Disk (server_of mid) (member_of mid) c.hold_place.ensures.server c.hold_place.ensures.kept.member
-    (known_call_failed g.D.Disk (held n) c.args.self.now.stored c.requires.not_halted first reads went still runs later kept v image (own_commit v given image (record { moment = c.args.now; call = c.args.call.now }))
-    (λ known. record { leads = ap (effect st.image) known.1.kept ∙ known.1.leads; same = refl; cuts = λ _. subst CutsNoPut (sym known.1.kept) known.1.puts; count = ap length (sym known.1.kept); calls = leads.calls }) IsNeverLong e
+    (known_call_failed g.D.Disk (held n) c.args.self.now.stored c.requires.not_halted first reads went still runs later (Changed kept) v image (own_commit v given image (record { moment = c.args.now; call = c.args.call.now }))
+    (λ known. record { leads = ap (effect st.image) known.1.kept ∙ known.1.leads; same = refl; cuts = λ _. subst CutsNoPut (sym known.1.kept) known.1.puts; count = λ labelled. ap (λ (n : ℕ). 13 + n + label_calls labelled) (ap length (sym known.1.kept)); calls = leads.calls }) IsNeverLong e
     (commit_ended g.D.Disk v first later e newer (c.in_err-commit_all.ensures.memory fits) (λ is. c.commit_all.ensures.failed (c.in_err-commit_all.was ∙ ap Err is)) c.in_err-commit_all.ensures.refused)
     newer (λ bytes long. absurd long)
     (subst (λ (cs : List Change). IsDurable g.D.Disk cs v first later (IsErrOf (ended e) DiskFault)) same c.in_err-commit_all.ensures.durable)))
@@ -124,8 +126,8 @@ returns-clause-ends g c = λ image.
     let leads = λ (known : Known). written_begun (server_of st) (announced st) st.recovery c.args.now c.args.id c.args.call.now c.args.answer image given c.requires.serving m write v c.next_version-next.ensures (sym st.of_cell.servers) c.requires.others
     (ap (λ (w : OwnRecord). w.kept.old_version) c.own_write-write.ensures.value ∙ of.old_version)
     (flown write flight (server_of st) c.args.id c.args.now st.version v c.args.call.now c.args.answer (image_before flight.undo flight.old_len c.of-image.result) given c.own_write-write.ensures.value of (back known)) in
-    known_call_made g.D.Disk (held n) c.args.self.now.stored c.requires.not_halted first reads went still runs later kept v image (own_commit v given image t)
-    (λ known. record { leads = ap (effect st.image) known.1.kept ∙ known.1.leads; same = refl; cuts = λ _. subst CutsNoPut (sym known.1.kept) known.1.puts; count = ap length (sym known.1.kept); calls = (leads known).calls })
+    known_call_made g.D.Disk (held n) c.args.self.now.stored c.requires.not_halted first reads went still runs later (Changed kept) v image (own_commit v given image t)
+    (λ known. record { leads = ap (effect st.image) known.1.kept ∙ known.1.leads; same = refl; cuts = λ _. subst CutsNoPut (sym known.1.kept) known.1.puts; count = λ labelled. ap (λ (n : ℕ). 13 + n + label_calls labelled) (ap length (sym known.1.kept)); calls = (leads known).calls })
     (server_of last) (member_of last) (c.begin_flight.ensures.place ∙ c.hold_place.ensures.kept.member) done
     (subst (λ (cs : List Change). IsDurable g.D.Disk cs v first later (IsErrOf c.commit_all.result DiskFault)) same c.commit_all.ensures.durable) (λ failed. ok_not c.in_ok-commit_all.field-0 (sym c.in_ok-commit_all.was ∙ failed))
     (λ known. (

@@ -1,5 +1,3 @@
-use Rattle.ubik_store.specs.Redo.{len_after}
-use Rattle.ubik_store.proofs.Redone.{length-effect}
 use Rattle.ubik_node.proofs.HeldImages.{held_length}
 use Rattle.std.proofs.Common.{◌∙◌, ℕ, List, refl, sym, ap, arith, ◌≡◌, length}
 use Rattle.ubik_node.proofs.Rested.{phase_is}
@@ -8,14 +6,14 @@ use Rattle.ubik_types.specs.Phase.{phase_of}
 use Rattle.cell_model.specs.Durable as durable
 use Rattle.cell_model.specs.Durable.{Received}
 use Rattle.cell_model.specs.Step.{with_database}
-use Rattle.ubik_store.specs.DurableCall.{whole_image}
+use Rattle.ubik_store.specs.Rewrite.Rewrite.{Replaced}
 use Rattle.ubik_store.specs.Store.{IsTooLong}
 use Rattle.cell_model.specs.Node.{Server}
 use Rattle.ubik_node.specs.Node.{held}
 use Rattle.server_state.specs.State.{member_of, server_of, announced}
 use Rattle.ubik_node.proofs.Calling.{call_failed, call_made}
 use Rattle.ubik_node.proofs.Endings.{handed_ends, ok_not, reads_none}
-use Rattle.ubik_node.proofs.Received.{effect_whole, held_text}
+use Rattle.ubik_node.proofs.Received.{held_text}
 use Rattle.ubik_node.proofs.nodes.Node.install.Goals as goal
 
 -- what a server serves by is told by its phase
@@ -29,7 +27,7 @@ returns-in_err-install-clause-ends g c =
     let text = c.args.text.now in
     handed_ends g.D.Disk c.from_residual.result c.in_err-install.field-0.0 c.from_residual.ensures.1
     (call_failed g.D.Disk (held n) c.args.self.now.stored c.requires.not_halted n.store (reads_none g.D.Disk n.store.disk) (λ none. none) c.args.self.now.stored c.requires.not_halted c.install.new.self
-    (whole_image text) v text (record { call = durable.Install v text; reason = Received }) (effect_whole n.state.image text) refl (λ _. (tt, tt)) refl refl (IsTooLong text) c.in_err-install.field-0.0 c.in_err-install.ensures.ended
+    (Replaced text) v text (record { call = durable.Install v text; reason = Received }) refl refl (λ _. tt) (λ _. refl) refl (IsTooLong text) c.in_err-install.field-0.0 c.in_err-install.ensures.ended
     (rw (c.args.self.now.stored.version c.requires.not_halted) c.requires.newer) (λ bytes long. absurd (omega (arith, long.0, c.requires.fits))) (c.in_err-install.ensures.durable c.requires.not_halted))
 
 pub returns-clause-ends : goal.returns-clause-ends
@@ -42,7 +40,7 @@ returns-clause-ends g c =
     let done = c.in_ok-install.ensures.ended in
     let last = c.take_over.new.self in
     call_made g.D.Disk (held n) c.args.self.now.stored c.requires.not_halted n.store (reads_none g.D.Disk n.store.disk) (λ none. none) c.args.self.now.stored c.requires.not_halted later
-    (whole_image text) v text (record { call = durable.Install v text; reason = Received }) (effect_whole st.image text) refl (λ _. (tt, tt)) refl refl (server_of last) (member_of last) c.take_over.ensures.place done
+    (Replaced text) v text (record { call = durable.Install v text; reason = Received }) refl refl (λ _. tt) (λ _. refl) refl (server_of last) (member_of last) c.take_over.ensures.place done
     (c.install.ensures.durable c.requires.not_halted) (λ failed. ok_not c.in_ok-install.field-0 (sym c.in_ok-install.was ∙ failed))
     (λ told. (
       sym (c.take_over.ensures.after
@@ -64,7 +62,6 @@ returns-clause-bytes g c =
     let later = c.install.new.self in
     let done = c.in_ok-install.ensures.ended in (
       c.of.result,
-      ap length c.of.ensures ∙ held_length g.D.Disk later (c.install.ensures.sound.ready done.failed) ∙ done.len
-          ∙ ap (λ (k : ℕ). len_after k (whole_image text)) (c.args.self.now.stored.len c.requires.not_halted) ∙ sym (length-effect st.image (whole_image text)) ∙ ap length (effect_whole st.image text),
+      ap length c.of.ensures ∙ held_length g.D.Disk later (c.install.ensures.sound.ready done.failed) ∙ done.len,
       c.take_over.ensures.after,
     )

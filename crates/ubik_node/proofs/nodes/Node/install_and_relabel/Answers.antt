@@ -1,5 +1,3 @@
-use Rattle.ubik_store.specs.Redo.{len_after}
-use Rattle.ubik_store.proofs.Redone.{length-effect}
 use Rattle.ubik_node.proofs.HeldImages.{held_length}
 use Rattle.ubik_node.specs.Alike.{blank, blank_outputs}
 use Rattle.ubik_node.proofs.Alike.{settled_alike}
@@ -10,7 +8,7 @@ use Rattle.ubik_types.specs.declared.versions.Version.{Version}
 use Rattle.ubik_types.specs.Phase.{Send}
 use Rattle.ubik_types.specs.Version.{version_lt}
 use Rattle.ubik_recovery.specs.Record.{polled_of}
-use Rattle.ubik_store.specs.DurableCall.{whole_image}
+use Rattle.ubik_store.specs.Rewrite.Rewrite.{Replaced}
 use Rattle.ubik_store.specs.Store.{IsTooLong}
 use Rattle.cell_model.specs.Durable as durable
 use Rattle.cell_model.specs.Durable.{Made, Received}
@@ -23,7 +21,6 @@ use Rattle.ubik_node.specs.Node.{held}
 use Rattle.server_state.specs.State.{ShowsBehind, member_of, server_of}
 use Rattle.ubik_node.proofs.Endings.{handed_ends, short_ends}
 use Rattle.ubik_node.proofs.Fetching.{first_of, held_twice}
-use Rattle.ubik_node.proofs.Received.{effect_whole}
 use Rattle.ubik_node.proofs.Relabelled.{relabel_outputs, settled_calls}
 use Rattle.ubik_node.proofs.TwoCalls.{both_made, first_failed, second_failed}
 use Rattle.ubik_node.proofs.nodes.Node.install_and_relabel.Goals as goal
@@ -47,7 +44,7 @@ returns-in_err-install-clause-ends g c =
     let installs : Made = record { call = durable.Install best text; reason = Received } in
     let s = with_database (server_of st) best text in
     handed_ends g.D.Disk c.from_residual-in_err-install.result c.in_err-install.field-0.0 c.from_residual-in_err-install.ensures.1
-    (first_failed g.D.Disk (held n) c.args.self.now.stored c.requires.not_halted c.install.new.self c.install.ensures.sound (whole_image text) best text installs (own_relabelling v) (effect_whole st.image text) refl (λ _. (tt, tt)) refl
+    (first_failed g.D.Disk (held n) c.args.self.now.stored c.requires.not_halted c.install.new.self c.install.ensures.sound (Replaced text) best text installs (own_relabelling v) refl refl (λ _. tt) (λ _. refl)
     (ap (λ (calls : List Made). installs ∷ own_relabelling v ∷ calls) (settled_calls m (relabelled_to m s (polled_of c.args.next) v).server)) (IsTooLong text) c.in_err-install.field-0.0 c.in_err-install.ensures.ended
     (rw (c.args.self.now.stored.version c.requires.not_halted) c.requires.may.newer) (λ bytes long. absurd (omega (arith, long.0, c.requires.fits))) (c.in_err-install.ensures.durable c.requires.not_halted))
 
@@ -63,9 +60,9 @@ returns-in_err-relabel-clause-ends g c =
     let s = with_database (server_of st) best text in
     let done = c.in_ok-install.ensures.ended in
     handed_ends g.D.Disk c.from_residual-in_err-relabel.result c.in_err-relabel.field-0.0 c.from_residual-in_err-relabel.ensures.1
-    (second_failed g.D.Disk (held n) c.args.self.now.stored c.requires.not_halted c.install.new.self c.install.ensures.sound (whole_image text) best text installs (own_relabelling v) (effect_whole st.image text) refl (λ _. (tt, tt)) refl
+    (second_failed g.D.Disk (held n) c.args.self.now.stored c.requires.not_halted c.install.new.self c.install.ensures.sound (Replaced text) best text installs (own_relabelling v) refl refl (λ _. tt) (λ _. refl)
     done
-    (c.install.ensures.durable c.requires.not_halted) (λ failed. false≢true (ap is_err (sym c.in_ok-install.was ∙ failed))) c.relabel.new.self v refl refl (ap (λ (calls : List Made). installs ∷ own_relabelling v ∷ calls) (settled_calls m (relabelled_to m s (polled_of c.args.next) v).server)) c.in_err-relabel.field-0.0 c.in_err-relabel.ensures.ended
+    (c.install.ensures.durable c.requires.not_halted) (λ failed. false≢true (ap is_err (sym c.in_ok-install.was ∙ failed))) c.relabel.new.self v (λ _. refl) refl (ap (λ (calls : List Made). installs ∷ own_relabelling v ∷ calls) (settled_calls m (relabelled_to m s (polled_of c.args.next) v).server)) c.in_err-relabel.field-0.0 c.in_err-relabel.ensures.ended
     (λ is. c.in_err-relabel.ensures.no_memory done.room (ap Err is)) (ap (λ (w : Version). version_lt w v) done.version ∙ c.requires.newer) (c.in_err-relabel.ensures.durable done.failed))
 
 pub returns : goal.returns
@@ -99,13 +96,12 @@ returns g c =
     relabel_outputs m poll best after c.poll.result (length text) c.in_ok-bytes_of.field-0 c.args.out.now c.give.new.out c.settle.new.out (settled m after).shown st.place c.poll.ensures refl
     (λ more. first_of text c.in_ok-bytes_of.field-0 c.min.result (omega (arith, c.min.ensures)) c.in_ok-bytes_of.ensures) c.in_ok-give.ensures.given out in
     let long : length bytes ≡ length text =
-    ap length c.of.ensures ∙ held_length g.D.Disk later (c.relabel.ensures.sound.ready also.failed) ∙ also.len ∙ done.len
-    ∙ ap (λ (k : ℕ). len_after k (whole_image text)) (c.args.self.now.stored.len c.requires.not_halted) ∙ sym (length-effect st.image (whole_image text)) ∙ ap length (effect_whole st.image text) in
+    ap length c.of.ensures ∙ held_length g.D.Disk later (c.relabel.ensures.sound.ready also.failed) ∙ also.len ∙ done.len in
     let alike = settled_alike m after bytes text long in
     record {
       ends =
-          both_made g.D.Disk (held n) c.args.self.now.stored c.requires.not_halted c.install.new.self c.install.ensures.sound (whole_image text) best text installs (own_relabelling v) (effect_whole st.image text) refl (λ _. (tt, tt)) refl
-          done (c.install.ensures.durable c.requires.not_halted) (λ failed. false≢true (ap is_err (sym c.in_ok-install.was ∙ failed))) later v refl refl (ap (λ (calls : List Made). installs ∷ own_relabelling v ∷ calls) (settled_calls m after))
+          both_made g.D.Disk (held n) c.args.self.now.stored c.requires.not_halted c.install.new.self c.install.ensures.sound (Replaced text) best text installs (own_relabelling v) refl refl (λ _. tt) (λ _. refl)
+          done (c.install.ensures.durable c.requires.not_halted) (λ failed. false≢true (ap is_err (sym c.in_ok-install.was ∙ failed))) later v (λ _. refl) refl (ap (λ (calls : List Made). installs ∷ own_relabelling v ∷ calls) (settled_calls m after))
           (server_of last) (member_of last) (c.settle.ensures.kept.member ∙ place) also (c.relabel.ensures.durable done.failed) (λ failed. false≢true (ap is_err (sym c.in_ok-relabel.was ∙ failed)))
           (λ told.
           let whole = held_twice (g.D.Disk.files n.store.disk) (g.D.Disk.files c.install.new.self.disk) (g.D.Disk.files later.disk) later.len text bytes told c.in_ok-install.ensures.image also.image c.of.ensures in

@@ -1,3 +1,4 @@
+use Rattle.ubik_store.specs.Rewrite.Rewrite.{Changed}
 use Rattle.ubik_node.specs.Alike.{blank}
 use Rattle.ubik_node.proofs.Alike.{piece_long, relabel_alike}
 use Rattle.std.proofs.Common.{◌≡◌, ◌<◌, ◌∷◌, ◌∙◌, ℕ, true, List, [], refl, sym, ap, subst, min, ◌-◌}
@@ -43,8 +44,8 @@ returns-in_err-relabel-clause-ends g c =
     let stays = c.in_ok-piece.ensures.same went in
     let still = read_keeps g.D.Disk c.first_piece.new.store c.in_ok-piece.ensures.sound n.stored stays c.in_ok-piece.ensures.disk went in
     handed_ends g.D.Disk c.from_residual-in_err-relabel.result c.in_err-relabel.field-0.0 c.from_residual-in_err-relabel.ensures.1
-    (call_failed g.D.Disk (held n) c.args.self.now.stored c.requires.not_halted c.first_piece.new.store c.in_ok-piece.ensures.disk went still (stays.failed ∙ c.requires.not_halted) c.relabel.new.self [] v st.image (own_relabelling v)
-    refl refl (λ _. tt) refl (ap (λ (calls : List Made). own_relabelling v ∷ calls) (settled_calls m (relabelled_to m (server_of st) (polled_of c.args.next) v).server)) IsNeverLong c.in_err-relabel.field-0.0 c.in_err-relabel.ensures.ended
+    (call_failed g.D.Disk (held n) c.args.self.now.stored c.requires.not_halted c.first_piece.new.store c.in_ok-piece.ensures.disk went still (stays.failed ∙ c.requires.not_halted) c.relabel.new.self (Changed []) v st.image (own_relabelling v)
+    refl refl (λ _. tt) (λ _. refl) (ap (λ (calls : List Made). own_relabelling v ∷ calls) (settled_calls m (relabelled_to m (server_of st) (polled_of c.args.next) v).server)) IsNeverLong c.in_err-relabel.field-0.0 c.in_err-relabel.ensures.ended
     (subst (λ (w : Version). version_lt w v ≡ true) (sym (stays.version ∙ c.args.self.now.stored.version c.requires.not_halted)) c.requires.may.newer) (λ bytes long. absurd long)
     (c.in_err-relabel.ensures.durable (stays.failed ∙ c.requires.not_halted)))
 
@@ -69,8 +70,8 @@ returns g c =
     (subst (λ (x : Member). ShowsBehind (settled x (server_of before)) (server_of last) c.give.new.out c.settle.new.out) c.begin_sending.ensures.place c.settle.ensures.shows) in
     record {
       ends =
-          call_made g.D.Disk (held n) c.args.self.now.stored c.requires.not_halted c.first_piece.new.store c.in_ok-piece.ensures.disk went still (stays.failed ∙ c.requires.not_halted) later [] v st.image (own_relabelling v)
-          refl refl (λ _. tt) refl (ap (λ (calls : List Made). own_relabelling v ∷ calls) (settled_calls m after)) (server_of last) (member_of last) (c.settle.ensures.kept.member ∙ c.begin_sending.ensures.place) done
+          call_made g.D.Disk (held n) c.args.self.now.stored c.requires.not_halted c.first_piece.new.store c.in_ok-piece.ensures.disk went still (stays.failed ∙ c.requires.not_halted) later (Changed []) v st.image (own_relabelling v)
+          refl refl (λ _. tt) (λ _. refl) (ap (λ (calls : List Made). own_relabelling v ∷ calls) (settled_calls m after)) (server_of last) (member_of last) (c.settle.ensures.kept.member ∙ c.begin_sending.ensures.place) done
           (c.relabel.ensures.durable (stays.failed ∙ c.requires.not_halted)) (λ failed. ok_not c.in_ok-relabel.field-0 (sym c.in_ok-relabel.was ∙ failed))
           (λ knows. (
             shows.server,

@@ -4,6 +4,7 @@ use Rattle.cell_model.specs.Durable as durable
 use Rattle.cell_model.specs.Durable.{Received}
 use Rattle.cell_model.specs.Step.{Member, outputs_of, sends_to}
 use Rattle.ubik_store.specs.DurableCall.{IsNeverLong}
+use Rattle.ubik_store.specs.Rewrite.Rewrite.{Changed}
 use Rattle.ubik_node.specs.Node.{held}
 use Rattle.server_state.specs.State.{member_of, server_of}
 use Rattle.ubik_node.proofs.Calling.{call_failed, call_made}
@@ -16,7 +17,7 @@ returns-in_err-relabel g c =
     let st = n.state in
     handed_ends g.D.Disk c.from_residual.result c.in_err-relabel.field-0.0 c.from_residual.ensures.1
     (call_failed g.D.Disk (held n) c.args.self.now.stored c.requires.not_halted n.store (reads_none g.D.Disk n.store.disk) (λ none. none) c.args.self.now.stored c.requires.not_halted c.relabel.new.self
-    [] c.args.new st.image (record { call = durable.Relabel c.args.new; reason = Received }) refl refl (λ _. tt) refl refl IsNeverLong c.in_err-relabel.field-0.0 c.in_err-relabel.ensures.ended
+    (Changed []) c.args.new st.image (record { call = durable.Relabel c.args.new; reason = Received }) refl refl (λ _. tt) (λ _. refl) refl IsNeverLong c.in_err-relabel.field-0.0 c.in_err-relabel.ensures.ended
     (rw (c.args.self.now.stored.version c.requires.not_halted) c.requires.may.newer) (λ bytes long. absurd long) (c.in_err-relabel.ensures.durable c.requires.not_halted))
 
 pub returns : goal.returns
@@ -27,7 +28,7 @@ returns g c =
     let last = c.relabel-2.new.self in
     let done = c.in_ok-relabel.ensures.ended in
     call_made g.D.Disk (held n) c.args.self.now.stored c.requires.not_halted n.store (reads_none g.D.Disk n.store.disk) (λ none. none) c.args.self.now.stored c.requires.not_halted later
-    [] c.args.new st.image (record { call = durable.Relabel c.args.new; reason = Received }) refl refl (λ _. tt) refl refl (server_of last) (member_of last) c.relabel-2.ensures.place done (c.relabel.ensures.durable c.requires.not_halted)
+    (Changed []) c.args.new st.image (record { call = durable.Relabel c.args.new; reason = Received }) refl refl (λ _. tt) (λ _. refl) refl (server_of last) (member_of last) c.relabel-2.ensures.place done (c.relabel.ensures.durable c.requires.not_halted)
     (λ failed. ok_not c.in_ok-relabel.field-0 (sym c.in_ok-relabel.was ∙ failed))
     (λ told. (
       sym c.relabel-2.ensures.after,

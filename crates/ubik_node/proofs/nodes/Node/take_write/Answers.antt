@@ -1,5 +1,6 @@
 use Rattle.ubik_store.specs.Redo.{len_after}
 use Rattle.ubik_store.proofs.Redone.{length-effect}
+use Rattle.ubik_store.specs.Rewrite.Rewrite.{Changed}
 use Rattle.ubik_node.specs.Alike.{blank, blank_outputs}
 use Rattle.ubik_node.proofs.Alike.{blank_database}
 use Rattle.std.proofs.Common.{◌≡◌, ◌∙◌, ◌++◌, ℕ, List, None, Err, IsErrOf, length, refl, sym, ap, subst}
@@ -35,7 +36,7 @@ returns-in_err-commit_all-clause-ends g c =
     let newer = ap (λ (own : Version). version_lt own v) (c.args.self.now.stored.version c.requires.not_halted) ∙ c.requires.may.newer in
     handed_ends g.D.Disk c.from_residual.result e c.from_residual.ensures.1
     (call_failed g.D.Disk (held n) c.args.self.now.stored c.requires.not_halted n.store (reads_none g.D.Disk n.store.disk) (λ none. none) c.args.self.now.stored c.requires.not_halted later
-    kept v (effect st.image kept) (record { call = durable.Commit v kept (effect st.image kept); reason = Received }) refl refl (λ cuts. cuts) refl refl IsNeverLong e
+    (Changed kept) v (effect st.image kept) (record { call = durable.Commit v kept (effect st.image kept); reason = Received }) refl refl (λ cuts. cuts) (λ _. refl) refl IsNeverLong e
     (commit_ended g.D.Disk v n.store later e newer (c.in_err-commit_all.ensures.memory fits) (λ is. c.commit_all.ensures.failed (c.in_err-commit_all.was ∙ ap Err is)) c.in_err-commit_all.ensures.refused)
     newer (λ bytes long. absurd long)
     (subst (λ (cs : List Change). IsDurable g.D.Disk cs v n.store later (IsErrOf (ended e) DiskFault)) same c.in_err-commit_all.ensures.durable))
@@ -57,7 +58,7 @@ returns g c =
     record {
       ends =
           call_made g.D.Disk (held n) c.args.self.now.stored c.requires.not_halted n.store (reads_none g.D.Disk n.store.disk) (λ none. none) c.args.self.now.stored c.requires.not_halted later
-          kept v (effect st.image kept) (record { call = durable.Commit v kept (effect st.image kept); reason = Received }) refl refl (λ cuts. cuts) refl refl (server_of last) (member_of last) c.take_over.ensures.place done
+          (Changed kept) v (effect st.image kept) (record { call = durable.Commit v kept (effect st.image kept); reason = Received }) refl refl (λ cuts. cuts) (λ _. refl) refl (server_of last) (member_of last) c.take_over.ensures.place done
           (subst (λ (cs : List Change). IsDurable g.D.Disk cs v n.store later (IsErrOf c.commit_all.result DiskFault)) same c.commit_all.ensures.durable) (λ failed. ok_not c.in_ok-commit_all.field-0 (sym c.in_ok-commit_all.was ∙ failed))
           (λ told. (
             sym (c.take_over.ensures.after

@@ -1,4 +1,3 @@
-use Rattle.std.proofs.lemmas.Bool.{false≢true}
 use Rattle.disk_base.proofs.Runs.{reads_as}
 use Rattle.ubik_store.proofs.ReadSound.{sound_read}
 use Rattle.ubik_store.proofs.stores.Store.read.Goals as goal

@@ -1,0 +1,187 @@
+//! Another image in place of the one that is there: it is kept whole in the incoming file, and then takes the place of the database file.
+//! With the incoming file's gate open a crash finds all of it there; before, the database file as it was.
+ghost use Rattle.std.specs.Prelude.{◌≡◌, ◌+◌, ◌++◌, ◌≤◌, ◌⊎◌, true, [], length, take, drop, Some, IfOk, IfErr, IfSome, IsErr, IsErrOf, OnOk};
+ghost use Rattle.std.specs.Option.{option_map};
+ghost use Rattle.ubik_types.specs.Version.{IsVersion, version_lt, zero_version};
+ghost use Rattle.disk_base.specs.Crash.{IsSettled, LeavesOnly};
+ghost use Rattle.disk_base.specs.Files.{three_files};
+ghost use Rattle.disk_base.specs.Runs.{OnlyReserves};
+ghost use Rattle.incoming_file.specs.Incoming.{IsIncoming};
+ghost use Rattle.incoming_file.specs.Reading.{IsText};
+ghost use Rattle.page_file.specs.Label.{label, version_of_database};
+ghost use Rattle.page_file.specs.Pages.{AgreesIn, image_of};
+ghost use Rattle.ubik_store.specs.Calls.{CallsAtMost};
+ghost use Rattle.ubik_store.specs.Commit.{RewritesFiles, IsDurableOver};
+ghost use Rattle.ubik_store.specs.Files.{StandsFor, StandsForEither};
+ghost use Rattle.ubik_store.specs.Gaps.{IsPlain};
+ghost use Rattle.ubik_store.specs.Rest.{AreEmpty};
+ghost use Rattle.ubik_store.specs.Rewrite.Rewrite.{Replaced};
+
+use crate::faults::StoreFault;
+use crate::redo::empty_log_file;
+use disk_base::{Disk, DiskEnd, FileNo, RoomEnd};
+use incoming_file::{end_incoming, keep_incoming, reserve_incoming};
+use page_file::{LABEL_LEN, MAX_DATABASE_LEN, Pages, label_bytes};
+use std::alloc::Global;
+use ubik_types::{Bytes, MAX_IMAGE, NoMemory, Version};
+
+/// How long a log of no change is, in bytes.
+const EMPTY_LOG_LEN: u64 = 16;
+
+/// Puts the label and the image of the open incoming file in place of the database file, and empties the incoming file. A crash at any
+/// moment leaves files that stand for them.
+pub(crate) fn take_incoming<D: Disk>(
+    disk: &mut D,
+    pages: &mut Pages,
+    text: &[u8],
+    v: Version,
+) -> Result<(), StoreFault>
+    requires is_text { IsText text.now v }
+    requires is_open { IfSome (D.files disk.old) (λ fs. IsIncoming fs.incoming v (drop LABEL_LEN text.now)) }
+    requires no_log { IfSome (D.files disk.old) (λ fs. fs.log ≡ []) }
+    requires not_long { IfSome (D.files disk.old) (λ fs. length fs.database ≤ MAX_DATABASE_LEN) }
+    requires agrees { AgreesIn pages.old (D.files disk.old) }
+    requires fits { length text.now ≤ D.room disk.old FileNo.Database }
+    requires gate_fits { LABEL_LEN ≤ D.room disk.old FileNo.Incoming }
+    requires settled { IsSettled (D.files disk.old) (D.may_leave disk.old) }
+    ensures files { OnOk result (D.files disk.new ≡ option_map (λ _. three_files text.now [] []) (D.files disk.old)) }
+    ensures moments { IfSome (D.files disk.old) (λ _.
+        LeavesOnly D.steps D.left_since disk.old disk.new (λ c. StandsFor c v (drop LABEL_LEN text.now))) }
+    ensures plain { version_lt zero_version v ≡ true → IfSome (D.files disk.old) (λ _.
+        LeavesOnly D.steps D.left_since disk.old disk.new IsPlain) }
+    ensures settled { OnOk result (IsSettled (D.files disk.new) (D.may_leave disk.new)) }
+    ensures steps { OnOk result (D.steps disk.new ≡ D.steps disk.old + 7) }
+    ensures label { OnOk result (pages.new.version ≡ Some v) }
+    ensures len { OnOk result (LABEL_LEN + pages.new.len ≡ length text.now) }
+    ensures agrees { OnOk result (AgreesIn pages.new (D.files disk.new)) }
+    ensures fault { IfErr result (λ fault. fault ≡ StoreFault.DiskFault) }
+    ensures calls { CallsAtMost D.Disk 7 disk.old disk.new (IsErr result) }
+{
+    pages.replace(disk, text, v)?;
+    pages.sync(disk)?;
+    match end_incoming(disk) {
+        DiskEnd::Done => Ok(()),
+        DiskEnd::Failed => Err(StoreFault::DiskFault),
+    }
+}
+
+/// Brings an open incoming file that an opening finds to its end: empties the log, and puts label and image in place of the database file. A
+/// crash at any moment leaves files that stand for them.
+pub(crate) fn take_over<D: Disk>(
+    disk: &mut D,
+    pages: &mut Pages,
+    text: &[u8],
+    v: Version,
+) -> Result<(), StoreFault>
+    requires is_text { IsText text.now v }
+    requires is_open { IfSome (D.files disk.old) (λ fs. IsIncoming fs.incoming v (drop LABEL_LEN text.now)) }
+    requires not_long { IfSome (D.files disk.old) (λ fs. length fs.database ≤ MAX_DATABASE_LEN) }
+    requires agrees { AgreesIn pages.old (D.files disk.old) }
+    requires fits { length text.now ≤ D.room disk.old FileNo.Database }
+    requires gate_fits { LABEL_LEN ≤ D.room disk.old FileNo.Incoming }
+    requires settled { IsSettled (D.files disk.old) (D.may_leave disk.old) }
+    ensures files { OnOk result (D.files disk.new ≡ option_map (λ _. three_files text.now [] []) (D.files disk.old)) }
+    ensures moments { IfSome (D.files disk.old) (λ _.
+        LeavesOnly D.steps D.left_since disk.old disk.new (λ c. StandsFor c v (drop LABEL_LEN text.now))) }
+    ensures plain { version_lt zero_version v ≡ true → IfSome (D.files disk.old) (λ _.
+        LeavesOnly D.steps D.left_since disk.old disk.new IsPlain) }
+    ensures settled { OnOk result (IsSettled (D.files disk.new) (D.may_leave disk.new)) }
+    ensures steps { OnOk result (D.steps disk.new ≡ D.steps disk.old + 9) }
+    ensures label { OnOk result (pages.new.version ≡ Some v) }
+    ensures len { OnOk result (LABEL_LEN + pages.new.len ≡ length text.now) }
+    ensures agrees { OnOk result (AgreesIn pages.new (D.files disk.new)) }
+    ensures fault { IfErr result (λ fault. fault ≡ StoreFault.DiskFault) }
+    ensures calls { CallsAtMost D.Disk 9 disk.old disk.new (IsErr result) }
+{
+    match empty_log_file(disk) {
+        DiskEnd::Done => take_incoming(disk, pages, text, v),
+        DiskEnd::Failed => Err(StoreFault::DiskFault),
+    }
+}
+
+/// The label of a version, and an image behind it.
+fn labelled_text(alloc: Global, image: &[u8], v: Version) -> Result<Bytes, NoMemory>
+    requires { length image.now ≤ MAX_IMAGE }
+    ensures { IfOk result (λ text. text ≡ label v ++ image.now) }
+{
+    let mut text = Vec::with_capacity(alloc, LABEL_LEN + image.len())?;
+    text.extend_from_slice(&label_bytes(v))?;
+    text.extend_from_slice(image)?;
+    Ok(Bytes::new(text))
+}
+
+/// Makes room for an install of an image of `len` bytes, and for a relabelling that comes next. For want of memory nothing changes.
+fn reserve_install<D: Disk>(disk: &mut D, pages: &mut Pages, len: u32) -> Result<(), NoMemory>
+    requires agrees { AgreesIn pages.old (D.files disk.old) }
+    ensures database { OnOk result (LABEL_LEN + len ≤ D.room disk.new FileNo.Database) }
+    ensures incoming { OnOk result (LABEL_LEN + len ≤ D.room disk.new FileNo.Incoming) }
+    ensures log { OnOk result (EMPTY_LOG_LEN ≤ D.room disk.new FileNo.Log) }
+    ensures pages { pages.new ≡ pages.old }
+    ensures reserves { OnlyReserves D.Disk disk.old disk.new }
+{
+    pages.reserve(disk, len)?;
+    reserve_incoming(disk, LABEL_LEN as u64 + len as u64)?;
+    match disk.reserve(FileNo::Log, EMPTY_LOG_LEN) {
+        RoomEnd::Done => Ok(()),
+        RoomEnd::NoMemory => Err(NoMemory),
+    }
+}
+
+/// Keeps a label and an image in the incoming file, opens its gate, and has them take the place of the database file. The room is there. A
+/// crash at any moment leaves files that stand for the state before or for the new one.
+fn keep_and_take<D: Disk>(
+    disk: &mut D,
+    pages: &mut Pages,
+    text: &[u8],
+    v: Version,
+) -> Result<(), StoreFault>
+    requires is_text { IsText text.now v }
+    requires agrees { AgreesIn pages.old (D.files disk.old) }
+    requires not_long { IfSome (D.files disk.old) (λ fs. length fs.database ≤ MAX_DATABASE_LEN) }
+    requires empty { IfSome (D.files disk.old) AreEmpty }
+    requires fits { length text.now ≤ D.room disk.old FileNo.Database }
+    requires incoming_fits { length text.now ≤ D.room disk.old FileNo.Incoming }
+    requires settled { IsSettled (D.files disk.old) (D.may_leave disk.old) }
+    ensures files { OnOk result (D.files disk.new ≡ option_map (λ _. three_files text.now [] []) (D.files disk.old)) }
+    ensures moments { IfSome (D.files disk.old) (λ fs. (own : Version) → version_of_database fs.database ≡ Some own
+        → LeavesOnly D.steps D.left_since disk.old disk.new (StandsForEither own (image_of fs.database) v (drop LABEL_LEN text.now))) }
+    ensures plain { version_lt zero_version v ≡ true → IfSome (D.files disk.old) (λ fs.
+        IsPlain fs → LeavesOnly D.steps D.left_since disk.old disk.new IsPlain) }
+    ensures settled { OnOk result (IsSettled (D.files disk.new) (D.may_leave disk.new)) }
+    ensures steps { OnOk result (D.steps disk.new ≡ D.steps disk.old + 15) }
+    ensures label { OnOk result (pages.new.version ≡ Some v) }
+    ensures len { OnOk result (LABEL_LEN + pages.new.len ≡ length text.now) }
+    ensures agrees { OnOk result (AgreesIn pages.new (D.files disk.new)) }
+    ensures fault { IfErr result (λ fault. fault ≡ StoreFault.DiskFault) }
+    ensures calls { CallsAtMost D.Disk 15 disk.old disk.new (IsErr result) }
+{
+    match keep_incoming(disk, text) {
+        DiskEnd::Done => take_incoming(disk, pages, text, v),
+        DiskEnd::Failed => Err(StoreFault::DiskFault),
+    }
+}
+
+/// Takes another image under a version, in one durable call. All memory is taken first: for want of it nothing changes. A crash at any
+/// moment leaves files that stand for the state before or the one after.
+pub(crate) fn install_files<D: Disk>(
+    alloc: Global,
+    disk: &mut D,
+    pages: &mut Pages,
+    image: &[u8],
+    v: Version,
+) -> Result<(), StoreFault>
+    requires version { IsVersion v }
+    requires fits { length image.now ≤ MAX_IMAGE }
+    requires agrees { AgreesIn pages.old (D.files disk.old) }
+    requires len { pages.old.len ≤ MAX_IMAGE }
+    requires empty { IfSome (D.files disk.old) AreEmpty }
+    requires settled { IsSettled (D.files disk.old) (D.may_leave disk.old) }
+    ensures done { OnOk result (RewritesFiles D.Disk (Replaced image.now) v disk.old disk.new pages.old pages.new) }
+    ensures durable { IsDurableOver D.Disk (Replaced image.now) v disk.old disk.new (IsErrOf result StoreFault.DiskFault) }
+    ensures fault { IfErr result (λ fault. (fault ≡ StoreFault.DiskFault) ⊎ (fault ≡ StoreFault.NoMemory)) }
+    ensures unchanged { IsErrOf result StoreFault.NoMemory → OnlyReserves D.Disk disk.old disk.new × (pages.new ≡ pages.old) }
+{
+    let text = labelled_text(alloc, image, v)?;
+    reserve_install(disk, pages, image.len() as u32)?;
+    keep_and_take(disk, pages, text.as_slice(), v)
+}
