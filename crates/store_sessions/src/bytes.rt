@@ -35,8 +35,12 @@ impl Names {
 
     /// The bytes that a word writes.
     pub fn bytes_of(&self, word: &str) -> Result<Vec<u8>, Fault> {
-        let mut bytes = Vec::new(self.alloc);
-        for part in word.split('+') {
+        let mut parts = word.split('+');
+        let mut bytes = match parts.next() {
+            Some(first) => self.part(first)?,
+            None => Vec::new(self.alloc),
+        };
+        for part in parts {
             bytes.extend_from_slice(&self.part(part)?)?;
         }
         Ok(bytes)

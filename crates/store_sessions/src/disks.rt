@@ -28,6 +28,7 @@ pub fn call_disk(
     match words {
         ["database", bytes] => lay(alloc, disk, FileNo::Database, &names.bytes_of(bytes)?),
         ["log", bytes] => lay(alloc, disk, FileNo::Log, &names.bytes_of(bytes)?),
+        ["incoming", bytes] => lay(alloc, disk, FileNo::Incoming, &names.bytes_of(bytes)?),
         ["write", file, at, bytes] => {
             let bytes = names.bytes_of(bytes)?;
             Answer::ended(alloc, write(disk, file_of(file)?, long_in(at)?, &bytes)?)
