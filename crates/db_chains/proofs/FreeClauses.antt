@@ -134,7 +134,7 @@ some_and c new P is holds = subst (λ (o : Option (List ℕ)). IsSomeAnd o P) (s
 
 pub is_taken_new : (a b c : Option (List ℕ)) (f : FreeBlocks) (block : List ℕ) (count len : ℕ) → AreFree f
     → IfSome a (λ image. length image ≡ len)
-    → len ≡ block_place f.head count → length block ≡ 192 → len < 2 ^ 31 → IfSome a (λ image. None ≡ first_at image f.first)
+    → len ≡ block_place f.head count → length block ≡ 192 → len < 2 ^ 31 + 2 ^ 20 → IfSome a (λ image. None ≡ first_at image f.first)
     → b ≡ option_map (without_first (free_links f) f.first) a → c ≡ option_map (with_new f count block) b
     → IfSome a (λ image. IsSomeAnd c (IsTaken f block image (count + 1)))
 is_taken_new None b c f block count len free told size full short none first second = tt

@@ -51,7 +51,7 @@ pub(crate) fn put_in<I: ImageRead>(
     word: u32,
 ) -> Result<(), RecordFault>
     requires links { AreLinks links }
-    requires len { d.old.len < 2 ^ 31 }
+    requires len { d.old.len < 2 ^ 31 + 2 ^ 20 }
     requires at { at + WORD_LEN ≤ d.old.len }
     requires word { IsPlaced links d.old.len word }
     ensures bytes { OnOk result (Becomes (put_in links at word) d.old d.new) }
@@ -76,7 +76,7 @@ pub(crate) fn take_at<I: ImageRead>(
     word: u32,
 ) -> Result<(), RecordFault>
     requires links { AreLinks links }
-    requires len { d.old.len < 2 ^ 31 }
+    requires len { d.old.len < 2 ^ 31 + 2 ^ 20 }
     requires at { at + WORD_LEN ≤ d.old.len }
     requires word { IsPlaced links d.old.len word }
     requires stands { IfSome d.old.bytes (λ image. word ≡ word_at image at) }
@@ -102,7 +102,7 @@ pub fn put_first<I: ImageRead>(
     word: u32,
 ) -> Result<(), RecordFault>
     requires links { AreLinks links }
-    requires len { d.old.len < 2 ^ 31 }
+    requires len { d.old.len < 2 ^ 31 + 2 ^ 20 }
     requires at { at + WORD_LEN ≤ d.old.len }
     requires apart { IsHeadPlace links at }
     requires word { IsPlaced links d.old.len word }
@@ -125,7 +125,7 @@ pub fn put_last<I: ImageRead>(
     word: u32,
 ) -> Result<(), RecordFault>
     requires links { AreLinks links }
-    requires len { d.old.len < 2 ^ 31 }
+    requires len { d.old.len < 2 ^ 31 + 2 ^ 20 }
     requires at { at + WORD_LEN ≤ d.old.len }
     requires apart { IsHeadPlace links at }
     requires word { IsPlaced links d.old.len word }
@@ -151,7 +151,7 @@ pub fn put_between<I: ImageRead>(
     word: u32,
 ) -> Result<(), RecordFault>
     requires links { AreLinks links }
-    requires len { d.old.len < 2 ^ 31 }
+    requires len { d.old.len < 2 ^ 31 + 2 ^ 20 }
     requires at { at + WORD_LEN ≤ d.old.len }
     requires apart { IsHeadPlace links at }
     requires word { IsPlaced links d.old.len word }
@@ -178,7 +178,7 @@ pub fn take_out<I: ImageRead>(
     word: u32,
 ) -> Result<(), RecordFault>
     requires links { AreLinks links }
-    requires len { d.old.len < 2 ^ 31 }
+    requires len { d.old.len < 2 ^ 31 + 2 ^ 20 }
     requires at { at + WORD_LEN ≤ d.old.len }
     requires apart { IsHeadPlace links at }
     ensures bytes { OnOk result (Becomes (without links at word) d.old d.new) }
@@ -205,7 +205,7 @@ pub fn take_first<I: ImageRead>(
     at: u32,
 ) -> Result<Option<u32>, RecordFault>
     requires links { AreLinks links }
-    requires len { d.old.len < 2 ^ 31 }
+    requires len { d.old.len < 2 ^ 31 + 2 ^ 20 }
     requires at { at + WORD_LEN ≤ d.old.len }
     requires apart { IsHeadPlace links at }
     ensures word { IfOk result (λ word. IfSome d.old.bytes (λ image. word ≡ first_at image at)) }

@@ -67,7 +67,7 @@ fn add_block<I: ImageRead>(
     block: &Block,
 ) -> Result<(), RecordFault>
     requires free { AreFree free }
-    requires len { d.old.len < 2 ^ 31 }
+    requires len { d.old.len < 2 ^ 31 + 2 ^ 20 }
     requires count { d.old.len ≡ block_place free.head count }
     ensures bytes { OnOk result (Becomes (with_new free count block.now) d.old d.new) }
     ensures len { OnOk result (d.new.len ≡ block_place free.head (count + 1)) }
@@ -88,13 +88,14 @@ pub fn take_block<I: ImageRead>(
     block: &Block,
 ) -> Result<u32, RecordFault>
     requires free { AreFree free }
-    requires len { d.old.len < 2 ^ 31 }
+    requires len { d.old.len < 2 ^ 31 + 2 ^ 20 }
     ensures number { IfOk result (λ n. IfSome d.old.bytes (λ image. n ≡ next_number free image)) }
     ensures bytes { OnOk result (Becomes (with_taken free block.now) d.old d.new) }
     ensures taken { IfOk result (λ n. IfSome d.old.bytes (λ image. IsSomeAnd d.new.bytes (IsTaken free block.now image n))) }
     ensures len { IfOk result (λ n. d.new.len ≡ max d.old.len (block_place free.head n)) }
     ensures within { IfOk result (IsNumber free d.new.len) }
     ensures longer { d.old.len ≤ d.new.len }
+    ensures grows { OnOk result (d.new.len ≤ d.old.len + BLOCK_LEN) }
     ensures bad { IfErr result (IsBadWhere d.old.bytes (IsBadFirst (free_links free) free.first)) }
     ensures fault { IfErr result (HasCause d.old.bytes (HasSome (free_links free) free.first)) }
     ensures frame { DraftsAtMost I.ImageRead (take_cost d.old.layout) d.old d.new (IsErrOf result RecordFault.DiskFault) }
@@ -116,7 +117,7 @@ pub fn free_block<I: ImageRead>(
     number: u32,
 ) -> Result<(), RecordFault>
     requires free { AreFree free }
-    requires len { d.old.len < 2 ^ 31 }
+    requires len { d.old.len < 2 ^ 31 + 2 ^ 20 }
     requires block { IsNumber free d.old.len number }
     ensures bytes { OnOk result (Becomes (with_freed free number) d.old d.new) }
     ensures freed { OnOk result (IfSome d.old.bytes (λ image. (ws : List ℕ) → HasChain (free_links free) image free.first ws

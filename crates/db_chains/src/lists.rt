@@ -24,7 +24,7 @@ pub fn words_of<I: ImageRead>(
     at: u32,
 ) -> Result<Vec<u32>, RecordFault>
     requires links { AreLinks links }
-    requires len { d.old.len < 2 ^ 31 }
+    requires len { d.old.len < 2 ^ 31 + 2 ^ 20 }
     requires at { at + WORD_LEN ≤ d.old.len }
     ensures words { IfOk result (λ words. IfSome d.old.bytes (λ image. HasChain links image at words.items)) }
     ensures bad { IfErr result (IsBadWhere d.old.bytes (IsBad links (is_until Until.End) at)) }

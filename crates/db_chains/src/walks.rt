@@ -58,7 +58,7 @@ pub(crate) fn read_word<I: ImageRead>(d: &mut Draft<I>, at: u32) -> Result<u32, 
 #[tactic(auto, unfolding(db_blocks::specs::Blocks::block_in))]
 fn read_block<I: ImageRead>(d: &mut Draft<I>, head: u32, number: u32) -> Result<Block, RecordFault>
     requires within { block_place head number + BLOCK_LEN ≤ d.old.len }
-    requires len { d.old.len < 2 ^ 31 }
+    requires len { d.old.len < 2 ^ 31 + 2 ^ 20 }
     requires head { head < 2 ^ 24 }
     ensures block { IfOk result (λ block. IfSome d.old.bytes (λ image. block ≡ block_in head image number)) }
     ensures fault { IfErr result IsOfImage }
@@ -79,7 +79,7 @@ pub(crate) fn read_link<I: ImageRead>(
     word: u32,
 ) -> Result<Link, RecordFault>
     requires links { AreLinks links }
-    requires len { d.old.len < 2 ^ 31 }
+    requires len { d.old.len < 2 ^ 31 + 2 ^ 20 }
     requires count { d.old.len ≡ block_place links.head count }
     requires told { IfSome d.old.bytes (λ image. length image ≡ d.old.len) }
     requires word { IfSome d.old.bytes (λ image. word ≡ word_at image place) }
@@ -106,7 +106,7 @@ pub(crate) fn walk<I: ImageRead, S: StopAt>(
     sought: &S,
 ) -> Result<Stop, RecordFault>
     requires links { AreLinks links }
-    requires len { d.old.len < 2 ^ 31 }
+    requires len { d.old.len < 2 ^ 31 + 2 ^ 20 }
     requires at { at + WORD_LEN ≤ d.old.len }
     ensures stop { IfOk result (λ stop. IfSome d.old.bytes (λ image. IsStop links (S.test sought.now) image at stop)) }
     ensures within { IfOk result (λ stop. stop.place + WORD_LEN ≤ d.old.len) }
@@ -147,7 +147,7 @@ pub fn find<I: ImageRead, S: StopAt>(
     sought: &S,
 ) -> Result<Option<Link>, RecordFault>
     requires links { AreLinks links }
-    requires len { d.old.len < 2 ^ 31 }
+    requires len { d.old.len < 2 ^ 31 + 2 ^ 20 }
     requires at { at + WORD_LEN ≤ d.old.len }
     ensures exact { IfOk result (λ link. IfSome d.old.bytes (λ image.
         IsFound links (S.test sought.now) image (stop_place links (S.test sought.now) image at) link)) }
