@@ -1,13 +1,12 @@
 -- A word that comes in front of one chain, and the chains beside it.
-use Rattle.std.proofs.Common.{◌≡◌, ◌≢◌, ℕ, zero, suc, ◌+◌, ◌-◌, ◌*◌, ◌/◌, ◌%◌, ◌^◌, ◌<◌, ◌≤◌, ◌⊎◌, inl, inr, ⊎_elim, true, List, [], ◌∷◌, ◌++◌, length, get_or, refl, sym, ap, subst, ◌∙◌, arith}
+use Rattle.std.proofs.Common.{◌≡◌, ◌≢◌, ℕ, zero, suc, ◌+◌, ◌*◌, ◌/◌, ◌%◌, ◌^◌, ◌<◌, ◌≤◌, ◌⊎◌, inl, inr, ⊎_elim, true, List, [], ◌∷◌, length, get_or, refl, sym, subst, arith}
 use Rattle.std.specs.List.{AllByRecursion, Contains}
-use Rattle.std.proofs.lemmas.Bool.{cases_eq, cases_order}
+use Rattle.std.proofs.lemmas.Bool.{cases_eq}
 use Rattle.std.proofs.Math.Nat.{mul-le-mul_right}
 use Rattle.db_blocks.specs.Blocks.{block_count, word_at}
 use Rattle.db_chains.specs.declared.links.Links.{Links}
 use Rattle.db_chains.specs.Chains.{HasChain}
-use Rattle.db_chains.specs.Changes.{IsHeadPlace, MayEnter, put_in}
-use Rattle.db_chains.specs.Free.{free_links}
+use Rattle.db_chains.specs.Changes.{MayEnter, put_in}
 use Rattle.db_chains.specs.Links.{AreLinks, is_right}
 use Rattle.db_chains.specs.Others.{AreApart, AreOtherSorts}
 use Rattle.db_chains.proofs.Changed.{chain_put_in}
@@ -24,26 +23,28 @@ not_among P n (w ∷ ws) all never = (
   not_among P n ws (λ v has. all v (suc has.0, omega (arith, has.1), has.2)) never,
 )
 
-first_or_rest : (n w : ℕ) (ws : List ℕ) (i : ℕ) → i < length (n ∷ ws) → get_or (n ∷ ws) i w ≡ w → Contains ws w ⊎ (w ≡ n)
+pub first_or_rest : (n w : ℕ) (ws : List ℕ) (i : ℕ) → i < length (n ∷ ws) → get_or (n ∷ ws) i w ≡ w → Contains ws w ⊎ (w ≡ n)
 first_or_rest n w ws zero below at = inr (sym at)
 first_or_rest n w ws (suc i) below at = inl (i, omega arith, at)
 
 -- ---- words of a chain are small
 
-small_by : (w step len count : ℕ) → 0 < step → step ≤ 4 → w / step ≤ count → 192 * count ≤ len → len < 2 ^ 31 → w < 2 ^ 32
+small_by : (w step len count : ℕ) → 0 < step → step ≤ 4 → w / step ≤ count → 192 * count ≤ len → len < 2 ^ 31 + 2 ^ 20 → w < 2 ^ 32
 small_by w step len count some few within fits short =
     let all : step * (w / step) + w % step ≡ w = omega (arith, some) in
     let rest : w % step < step = omega (arith, some) in
     let more : step * (w / step) ≤ 4 * (w / step) = mul-le-mul_right (w / step) few in
     omega (arith, all, rest, more)
 
-right_small : (l : Links) (image : List ℕ) (w : ℕ) → AreLinks l → l.step ≤ 4 → length image < 2 ^ 31 → w / l.step ≤ block_count l.head image
+right_small : (l : Links) (image : List ℕ) (w : ℕ) → AreLinks l → l.step ≤ 4 → length image < 2 ^ 31 + 2 ^ 20
+    → w / l.step ≤ block_count l.head image
     → w < 2 ^ 32
 right_small l image w links few short within =
     small_by w l.step (length image) (block_count l.head image) links.step few within (omega arith) short
 
 -- a place in which a right word or 0 stands
-small_word : (l : Links) (image : List ℕ) (at : ℕ) (ws : List ℕ) → AreLinks l → l.step ≤ 4 → length image < 2 ^ 31 → HasChain l image at ws
+pub small_word : (l : Links) (image : List ℕ) (at : ℕ) (ws : List ℕ) → AreLinks l → l.step ≤ 4 → length image < 2 ^ 31 + 2 ^ 20
+    → HasChain l image at ws
     → word_at image at < 2 ^ 32
 small_word l image at [] links few short chain = omega (arith, chain)
 small_word l image at (w ∷ ws) links few short chain =
@@ -53,7 +54,8 @@ small_word l image at (w ∷ ws) links few short chain =
 -- ---- the chain that a word comes into, and others of its sort
 
 put_own : (l : Links) (image : List ℕ) (at n : ℕ) (P : ℕ → Type 0) → AreLinks l → l.step ≤ 4 → at + 4 ≤ l.head → l.head ≤ length image
-    → length image < 2 ^ 31 → is_right l image n ≡ true → (P n → ⊥) → Visits l image at P → Visits l (put_in l at n image) at (λ w. P w ⊎ (w ≡ n))
+    → length image < 2 ^ 31 + 2 ^ 20 → is_right l image n ≡ true → (P n → ⊥) → Visits l image at P
+    → Visits l (put_in l at n image) at (λ w. P w ⊎ (w ≡ n))
 put_own l image at n P links few in_head long short is never v =
     let may : MayEnter l image n v.words = record { right = is; new = not_among P n v.words v.only never } in
     let names = right_names l image n is in record {
@@ -87,7 +89,7 @@ put_other_sort l m image at bt n ws vs links_l links_m others in_a in_b long is 
 -- the chains of one sort after a word came in front of that of a key
 pub put_keyed : (l : Links) (image : List ℕ) (place : ℕ → ℕ) (key n : ℕ) (M : ℕ → ℕ → Type 0) → AreLinks l → l.step ≤ 4
     → ((k : ℕ) → k < 256 → place k + 4 ≤ l.head) → ((a b : ℕ) → a ≢ b → AreApart (place a) (place b)) → l.head ≤ length image
-    → length image < 2 ^ 31 → is_right l image n ≡ true → ((k : ℕ) → M k n → ⊥) → key < 256
+    → length image < 2 ^ 31 + 2 ^ 20 → is_right l image n ≡ true → ((k : ℕ) → M k n → ⊥) → key < 256
     → ((k : ℕ) → k < 256 → Visits l image (place k) (M k))
     → (k : ℕ) → k < 256 → Visits l (put_in l (place key) n image) (place k) (λ w. M k w ⊎ ((k ≡ key) × (w ≡ n)))
 put_keyed l image place key n M links few in_head apart long short is never low all k below =

@@ -21,30 +21,30 @@ use Rattle.chained_records.specs.Chained.{HasFree, IsFree, Visits, blanked, unli
 
 -- ---- bytes laid beside one another
 
-laid_len : (image bytes : List ℕ) (at : ℕ) → at + length bytes ≤ length image → length (laid image at bytes) ≡ length image
+pub laid_len : (image bytes : List ℕ) (at : ℕ) → at + length bytes ≤ length image → length (laid image at bytes) ≡ length image
 unfolding laid
 laid_len image bytes at within = grind (arith, places)
 
-laid_out : (image bytes : List ℕ) (at i : ℕ) → at + length bytes ≤ length image → (i < at) ⊎ (at + length bytes ≤ i)
+pub laid_out : (image bytes : List ℕ) (at i : ℕ) → at + length bytes ≤ length image → (i < at) ⊎ (at + length bytes ≤ i)
     → slice_index (laid image at bytes) i ≡ slice_index image i
 unfolding laid
 laid_out image bytes at i within beside =
     ⊎_elim (λ (before : i < at). grind (arith, places)) (λ (behind : at + length bytes ≤ i). grind (arith, places)) beside
 
-laid_in : (image bytes : List ℕ) (at i : ℕ) → at + length bytes ≤ length image → at ≤ i → i < at + length bytes
+pub laid_in : (image bytes : List ℕ) (at i : ℕ) → at + length bytes ≤ length image → at ≤ i → i < at + length bytes
     → slice_index (laid image at bytes) i ≡ slice_index bytes (i - at)
 unfolding laid
 laid_in image bytes at i within from below = grind (arith, places)
 
 -- in a range, or beside it
-around : (at len i : ℕ) → ((at ≤ i) × (i < at + len)) ⊎ ((i < at) ⊎ (at + len ≤ i))
+pub around : (at len i : ℕ) → ((at ≤ i) × (i < at + len)) ⊎ ((i < at) ⊎ (at + len ≤ i))
 around at len i =
     ⊎_elim (λ (before : i < at). inr (inl before))
     (λ (from : at ≤ i). ⊎_elim (λ (below : i < at + len). inl (from, below)) (λ (behind : at + len ≤ i). inr (inr behind)) (cases_lt i
     (at + len)))
     (cases_lt i at)
 
-abbrev AreBeside : (p m q n : ℕ) → Type 0
+abbrev pub AreBeside : (p m q n : ℕ) → Type 0
 AreBeside p m q n = (p + m ≤ q) ⊎ (q + n ≤ p)
 
 beside : (p m q n i : ℕ) → AreBeside p m q n → p ≤ i → i < p + m → (i < q) ⊎ (q + n ≤ i)
@@ -83,10 +83,10 @@ swap xs b c p q in_b in_c apart =
     (laid_len (laid xs p b) c q (omega arith) ∙ size_b ∙ sym (laid_len (laid xs q c) b p (omega arith) ∙ size_c))
     (λ i below. swap_at xs b c p q i in_b in_c apart)
 
-blanked_laid : (at len : ℕ) (xs : List ℕ) → at + len ≤ length xs → blanked at len xs ≡ laid xs at (zeros len)
+pub blanked_laid : (at len : ℕ) (xs : List ℕ) → at + len ≤ length xs → blanked at len xs ≡ laid xs at (zeros len)
 blanked_laid at len xs within = changed_laid xs (zeros len) at (omega arith)
 
-blanked_swap : (xs b : List ℕ) (p at len : ℕ) → p + length b ≤ length xs → at + len ≤ length xs → AreBeside p (length b) at len
+pub blanked_swap : (xs b : List ℕ) (p at len : ℕ) → p + length b ≤ length xs → at + len ≤ length xs → AreBeside p (length b) at len
     → blanked at len (laid xs p b) ≡ laid (blanked at len xs) p b
 blanked_swap xs b p at len in_b in_z apart =
     let z : length (zeros len) ≡ len = length-zeros len in

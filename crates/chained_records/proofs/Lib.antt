@@ -5,4 +5,9 @@ pub mod Fields
 pub mod HeadSet
 pub mod HeadTold
 pub mod Held
+pub mod InsertClauses
+pub mod Inserted
 pub mod Lookups
+pub mod Stages
+pub mod Stays
+pub mod Taken

@@ -82,7 +82,7 @@ none_met test (v ∷ ws) w zero none below at = ap test (sym at) ∙ (cond_none 
 none_met test (v ∷ ws) w (suc i) none below at =
     none_met test ws w i (cond_none (test v) v (first_met test ws) none).1 (omega arith) at
 
-is_false : (b : Bool) → b ≡ true → b ≡ false → ⊥
+pub is_false : (b : Bool) → b ≡ true → b ≡ false → ⊥
 is_false b t f = cc
 
 not_so : (b : Bool) → (b ≡ true → ⊥) → b ≡ false

@@ -1,7 +1,9 @@
 -- The image after a change of an entry (own).
 use Rattle.std.specs.Prelude.{ℕ, ◌+◌, ◌*◌, ◌==◌, List, if◌then◌else◌}
 use Rattle.db_chains.specs.Changes.{put_in}
-use Rattle.db_chains.specs.Free.{next_number, with_taken}
+use Rattle.db_image.specs.Draft.{put_cost}
+use Rattle.db_image.specs.declared.services.Layout.{Layout}
+use Rattle.db_chains.specs.Free.{next_number, take_cost, with_taken}
 use Rattle.vldb_chains.specs.Keys.{id_chain, name_chain}
 use Rattle.vldb_chains.specs.Places.{free_blocks, id_links, name_links}
 use Rattle.vldb_records.specs.declared.entries.VlEntry.{VlEntry}
@@ -21,3 +23,14 @@ unfoldable pub after_insert : VlEntry → List ℕ → List ℕ
 after_insert e image =
     let old = whole image in
     entered (next_number free_blocks old) e (with_taken free_blocks (block_of (addresses_in old) e) old)
+
+-- How many bytes are read at most: where a word comes in front of a chain, where the words of an entry come in front of its chains, and
+-- where an entry is inserted, which reads the addresses and may write the first head.
+abbrev pub first_cost : Layout → ℕ
+first_cost layout = 4 + 2 * put_cost layout 4
+
+abbrev pub enter_cost : Layout → ℕ
+enter_cost layout = 4 * first_cost layout
+
+abbrev pub insert_cost : Layout → ℕ
+insert_cost layout = 1020 + put_cost layout 3132 + take_cost layout + enter_cost layout

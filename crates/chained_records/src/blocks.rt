@@ -17,7 +17,7 @@ use ubik_types::{NoMemory, bytes_of};
 use vldb_records::{PLACES, SiteList, VlEntry, VlSite};
 
 /// The first word of an entry's block.
-const ENTRY: u32 = 1;
+pub(crate) const ENTRY: u32 = 1;
 
 /// What a walk along a chain looks for.
 #[derive(Clone, Copy)]

@@ -2,9 +2,10 @@
 ghost use Rattle.std.specs.Prelude.{◌≡◌, ◌+◌, ◌<◌, ◌≤◌, ◌^◌, IfErr, IsErrOf, OnOk, OnErr, length, max};
 ghost use Rattle.ubik_types.specs.Image.{changed};
 ghost use Rattle.ubik_types.specs.declared.images.Change.TheVariants.{Put};
-ghost use Rattle.db_image.specs.Draft.{StaysAsItWas};
+ghost use Rattle.db_image.specs.Draft.{StaysAsItWas, put_cost};
 ghost use Rattle.db_image.specs.Images.{IsOfImage};
 ghost use Rattle.db_blocks.specs.Ends.{Becomes, OnlyDrafts};
+ghost use Rattle.db_chains.specs.Ends.{CostsAtMost};
 ghost use Rattle.vldb_records.specs.Ends.{HoldsTheSame};
 ghost use Rattle.vldb_records.specs.Location.{MayBePlaces, with_next_volume, with_places};
 ghost use Rattle.vldb_records.specs.Records.{after_set_next, after_set_places, whole};
@@ -20,7 +21,7 @@ use vldb_records::PLACES;
 
 /// Writes the first head where the draft is empty.
 #[tactic(auto, unfolding(vldb_records::specs::Records::whole))]
-fn make_whole<I: ImageRead>(alloc: Global, d: &mut Draft<I>) -> Result<(), RecordFault>
+pub(crate) fn make_whole<I: ImageRead>(alloc: Global, d: &mut Draft<I>) -> Result<(), RecordFault>
     ensures bytes { OnOk result (Becomes whole d.old d.new) }
     ensures empty { OnOk result (d.old.len ≡ 0 → d.new.len ≡ HEAD_LEN) }
     ensures stays { OnOk result (0 < d.old.len → d.new.len ≡ d.old.len) }
@@ -28,6 +29,7 @@ fn make_whole<I: ImageRead>(alloc: Global, d: &mut Draft<I>) -> Result<(), Recor
     ensures same { OnErr result (StaysAsItWas d.old d.new) }
     ensures fault { IfErr result IsOfImage }
     ensures frame { OnlyDrafts I.ImageRead d.old d.new (IsErrOf result RecordFault.DiskFault) }
+    ensures cost { CostsAtMost I.ImageRead (put_cost d.old.layout HEAD_LEN) d.old d.new }
 {
     if d.len() > 0 {
         return Ok(());

@@ -7,10 +7,12 @@ mod changes;
 mod finds;
 mod forms;
 mod heads;
+mod inserts;
 mod laws;
 mod layout;
 
 pub use changes::{set_addresses, set_next_volume};
 pub use finds::{find_id, find_name};
 pub use heads::{addresses, next_volume};
+pub use inserts::insert;
 pub use laws::law_empty_image_holds_the_first;
