@@ -7,7 +7,7 @@ ghost use Rattle.ubik_log.specs.Reading.{IsStateOf};
 use crate::opcodes::{LOGEND, LOGNEW};
 use crate::readers::{behind, edit_at, end_at};
 use crate::states::LogState;
-use crate::writers::{push_change, push_end, push_fields};
+use crate::writers::{log_len, push_change, push_end, push_fields};
 use std::alloc::Global;
 use ubik_types::{Bytes, Changes, NoMemory, Version, changes_new, changes_push};
 
@@ -16,7 +16,7 @@ pub fn encode_log(alloc: Global, changes: &Changes, version: Version) -> Result<
     requires { IsTold changes.now version }
     ensures { IfOk result (λ log. IsCommitted log changes.now version) }
 {
-    let mut log = Vec::new(alloc);
+    let mut log = Vec::with_capacity(alloc, log_len(changes.as_slice()))?;
     push_fields(&mut log, &[LOGNEW])?;
     for change in changes.as_slice() {
         push_change(&mut log, change)?;

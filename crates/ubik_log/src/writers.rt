@@ -18,6 +18,23 @@ pub fn push_fields(log: &mut Vec<u8>, numbers: &[u32]) -> Result<(), AllocError>
     Ok(())
 }
 
+/// How many bytes the record of a change takes.
+fn record_len(change: &Change) -> usize {
+    match change {
+        Change::Put { bytes, .. } => bytes.as_slice().len().saturating_add(16),
+        Change::Cut { .. } => 12,
+    }
+}
+
+/// How many bytes the log of these changes takes: what is reserved for it at once.
+pub fn log_len(changes: &[Change]) -> usize {
+    let mut len: usize = 16;
+    for change in changes {
+        len = len.saturating_add(record_len(change));
+    }
+    len
+}
+
 /// Writes the record of a change at the end.
 pub fn push_change(log: &mut Vec<u8>, change: &Change) -> Result<(), AllocError>
     requires { IsWithinImage change.now }
