@@ -4,3 +4,4 @@ mod ChangeReading
 mod ChangeTexts
 mod Patches
 mod PieceLists
+mod Searched

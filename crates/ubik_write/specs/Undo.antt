@@ -1,6 +1,7 @@
 -- The bytes of an image that changes overwrite or cut off, and how they lead back (own).
 use Rattle.std.specs.Prelude.{◌≡◌, ℕ, ◌+◌, ◌-◌, ◌<◌, ◌&&◌, nat_le, nat_lt, if◌then◌else◌, Bool, List, [], ◌∷◌, length, map, take, drop, min, slice_index}
 use Rattle.std.specs.List.{range_with_len}
+use Rattle.std.specs.List.Sorted.{IsNonDecreasingBy}
 use Rattle.ubik_types.specs.declared.images.Change.{Change}
 use Rattle.ubik_types.specs.declared.images.Change.TheVariants.{Put, Cut}
 use Rattle.ubik_write.specs.declared.undo.Patch.{Patch}
@@ -14,6 +15,15 @@ undo_of image (Cut len) = record { at = len; bytes = drop len image }
 abbrev pub touched : ℕ → Change → ℕ × ℕ
 touched size (Put at bytes) = (at, min (length bytes) (size - at))
 touched size (Cut len) = (len, size - len)
+
+-- where the bytes of a patch end
+abbrev pub patch_end : Patch → ℕ
+patch_end patch = patch.at + length patch.bytes
+
+-- neither the beginnings of patches nor their ends fall along the list
+pub record AreAscending (undo : List Patch) : Type 0 where
+  pub at : IsNonDecreasingBy (λ (patch : Patch). patch.at) undo
+  pub end : IsNonDecreasingBy patch_end undo
 
 -- bytes from a position on have one for a position
 abbrev pub covers : (from : ℕ) → List ℕ → (at : ℕ) → Bool

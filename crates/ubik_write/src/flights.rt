@@ -9,6 +9,7 @@ ghost use Rattle.cell_model.specs.Pieces.{piece_count, numbered_piece};
 ghost use Rattle.ubik_write.specs.Flight.{IsFlightOf, Undoes, kept_by};
 ghost use Rattle.ubik_write.specs.Undo.{ShowsWithin, IsUndone};
 
+use crate::searches::{are_ascending, between};
 use crate::texts::text_of;
 use crate::undo::{Patch, undo_of, undone};
 use db_image::ImageRead;
@@ -73,6 +74,8 @@ pub struct Flight {
     holders: [bool; MAXSERVERS],
     old_len: u32,
     undo: Vec<Patch>,
+    /// Whether the patches ascend, so that a read can search for those that it needs.
+    ascending: bool,
     text: Bytes,
 }
 
@@ -109,6 +112,7 @@ impl Flight {
         let text = text_of(alloc, changes)?;
         let old_len = image.len();
         let undo = undo_of(alloc, changes, image)?;
+        let ascending = are_ascending(&undo);
         Ok(Flight {
             id,
             began: now,
@@ -117,6 +121,7 @@ impl Flight {
             holders: [false; MAXSERVERS],
             old_len,
             undo,
+            ascending,
             text,
         })
     }
@@ -139,7 +144,12 @@ impl Flight {
         ensures image { (image : List ℕ) (changes : List Change) → Undoes self.now image changes
             → ShowsWithin at (effect image changes) buf.old → buf.new ≡ take (length buf.old) (drop at image) }
     {
-        undone(&self.undo, at, buf);
+        let undo = if self.ascending {
+            between(&self.undo, at, at as usize + buf.len())
+        } else {
+            self.undo.as_slice()
+        };
+        undone(undo, at, buf);
     }
 
     /// The length of the image before the changes.

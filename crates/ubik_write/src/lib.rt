@@ -5,6 +5,7 @@
 mod before_images;
 mod flights;
 mod pendings;
+mod searches;
 mod texts;
 mod undo;
 
