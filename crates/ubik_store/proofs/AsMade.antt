@@ -10,8 +10,9 @@ use Rattle.ubik_types.specs.declared.images.Change.{Change}
 use Rattle.ubik_types.specs.declared.images.Change.TheVariants.{Put, Cut}
 use Rattle.ubik_types.specs.Image.{extended, changed, effect}
 use Rattle.ubik_types.specs.Logged.{gap_before, logged}
+use Rattle.page_file.specs.declared.label.TheConstants.{MAX_DATABASE_LEN}
 use Rattle.ubik_log.specs.LogGrammar.{IsWithinImage}
-use Rattle.ubik_store.specs.Redo.{changed_len, IsSeamless}
+use Rattle.ubik_store.specs.Redo.{changed_len, Ends, IsSeamless}
 use Rattle.ubik_store.specs.Redo.Reaches.{begins}
 use Rattle.ubik_store.proofs.Redone.{length-changed, redone}
 
@@ -73,6 +74,11 @@ logged_is_within (Cut to ∷ changes) len short within =
     let here : to ≤ 16777216 = All-head IsWithinImage (Cut to) changes within in
     All-cons IsWithinImage (Cut (min to len)) (logged (min to len) changes) (omega arith)
     (logged_is_within changes (min to len) (omega arith) (All-tail IsWithinImage (Cut to) changes within))
+
+-- a change within the longest image ends within the longest database file
+pub within_ends : (change : Change) → IsWithinImage change → Ends change MAX_DATABASE_LEN
+within_ends (Put at bytes) within = omega (arith, within)
+within_ends (Cut to) within = tt
 
 -- an image with a gap filled
 fills : (image : List ℕ) (at : ℕ) → changed image (Put (length image) (replicate (at - length image) 0)) ≡ extended image at

@@ -1,7 +1,7 @@
 -- How a durable call of a store ends, by how the call over its files did.
 use Rattle.std.proofs.Common.{◌≡◌, ◌≤◌, ◌⊎◌, ⊎_elim, ℕ, ◌+◌, ◌-◌, ◌^◌, min, true, false, List, [], length, Option, Some, None, IfSome, refl, sym, ap, subst, ◌∙◌, arith}
 use Rattle.std.proofs.lemmas.Bool.{false≢true}
-use Rattle.std.specs.Prelude.{Result, Ok, Err, OnOk, IfErr, IsErrOf}
+use Rattle.std.specs.Prelude.{Result, Ok, Err, OnOk, IfErr, IsErrOf, MatchResult}
 use Rattle.std.specs.Option.{option_map}
 use Rattle.ubik_types.specs.declared.images.Change.{Change}
 use Rattle.ubik_types.specs.declared.limits.TheConstants.{MAX_IMAGE}
@@ -12,18 +12,20 @@ use Rattle.disk_base.specs.Crash.{LeavesOnly}
 use Rattle.disk_base.specs.Files.{Files}
 use Rattle.disk_base.specs.Runs.{OnlyReserves}
 use Rattle.disk_base.specs.Stops.{IsStopped}
+use Rattle.disk_base.proofs.Runs.{reserve_reads}
 use Rattle.page_file.specs.Label.{version_of_database}
 use Rattle.page_file.specs.Pages.{Known, AgreesIn, image_of}
 use Rattle.ubik_store.specs.declared.faults.StoreFault.{StoreFault}
 use Rattle.ubik_store.specs.declared.faults.StoreFault.TheVariants.{DiskFault, BadLabel, TooLarge, NotNewer, NoMemory}
 use Rattle.ubik_store.specs.declared.stores.Store.{Store}
 use Rattle.ubik_store.specs.Commit.{RewritesFiles, IsDurableOver}
-use Rattle.ubik_store.specs.DurableCall.{IsDurableIn}
+use Rattle.ubik_store.specs.DurableCall.{EndsAs, IsDurableIn, Rewrites}
 use Rattle.ubik_store.specs.Files.{StandsForEither}
 use Rattle.ubik_store.specs.Gaps.{IsPlain}
+use Rattle.ubik_store.specs.Measures.{AreTooLarge}
 use Rattle.ubik_store.specs.Rest.{IsAtRest, RestsAs}
 use Rattle.ubik_store.specs.Rewrite.{Rewrite, rewritten, len_rewritten, files_rewritten}
-use Rattle.ubik_store.specs.Store.{IsReady, IsSound, IsForbidden, taken_over}
+use Rattle.ubik_store.specs.Store.{IsReady, IsSound, IsForbidden, image_in, taken_over}
 use Rattle.ubik_store.proofs.Applied.{no_calls, calls_as}
 use Rattle.ubik_store.proofs.Committing.{settled_at, settled_narrow, stands_at_rest, unmoved}
 use Rattle.ubik_store.proofs.Durable.{FewRewritten, KeepsPlain}
@@ -154,6 +156,62 @@ module _ {D : Type 0} (g : Ghosts D) (rewrite : Rewrite) (v : Version) (s : Stor
       let P : Store D → Type 0 = λ x. IsDurableIn g rewrite v s x (IsErrOf said DiskFault) in
       let Q : Result (Unit {0}) StoreFault → Type 0 = λ x. IsDurableIn g rewrite v s (taken_over v (record s { disk = disk; pages = pages }) r) (IsErrOf x DiskFault) in
       subst P (sym is) (subst Q (sym same) (durable_ended r sound went newer durable))
+
+-- the image, by the files in the end
+image_after : (rewrite : Rewrite) (v : Version) (old new : Option Files) → new ≡ option_map (files_rewritten rewrite v) old
+    → IfSome old (λ fs. RestsAs v (rewritten rewrite (image_of fs.database)) new) → image_in new ≡ option_map (rewritten rewrite) (image_in old)
+image_after rewrite v None new is rests = ap image_in is
+image_after rewrite v (Some fs) new is rests = ap image_in rests.1 ∙ ap (λ (xs : List ℕ). Some xs) rests.2.content
+
+module _ {D : Type 0} (g : Ghosts D) (rewrite : Rewrite) (v : Version) (s : Store D) (disk : D) (pages : Known)
+    (sound : IsSound g s) (went : s.failed ≡ false) (newer : version_lt s.version v ≡ true) (fits : len_rewritten rewrite s.len ≤ MAX_IMAGE)
+    (long : ℕ → Type 0) where
+  ended_done : RewritesFiles g rewrite v s.disk disk s.pages pages
+      → Rewrites g rewrite v s (record s { disk = disk; pages = pages; version = v; len = min pages.len (2 ^ 32 - 1); begun = None })
+  ended_done done =
+      let len : pages.len ≡ len_rewritten rewrite s.len = done.len ∙ ap (len_rewritten rewrite) (sound.ready went).len in
+      record {
+        newer = newer;
+        version = refl;
+        len = omega (arith, len, fits);
+        image = image_after rewrite v (g.files s.disk) (g.files disk) done.files done.rests;
+        begun = refl;
+        failed = went;
+        steps = done.steps;
+        room = done.room;
+      }
+
+  ended_by : (r : Result (Unit {0}) StoreFault) → EndsFiles g rewrite v s disk pages r
+      → MatchResult r (λ _. Rewrites g rewrite v s (taken_over v (record s { disk = disk; pages = pages }) r))
+      (EndsAs g long v s (taken_over v (record s { disk = disk; pages = pages }) r))
+  ended_by (Ok done) is = ended_done is.done
+  ended_by (Err DiskFault) is = record { version = refl; len = refl; failed = refl }
+  ended_by (Err (BadLabel len head)) is = absurd (⊎_elim (λ e. cc) (λ e. cc) is.fault)
+  ended_by (Err (TooLarge bytes)) is = absurd (⊎_elim (λ e. cc) (λ e. cc) is.fault)
+  ended_by (Err (NotNewer own given)) is = absurd (⊎_elim (λ e. cc) (λ e. cc) is.fault)
+  ended_by (Err NoMemory) is = (
+    newer,
+    record {
+      store = record { version = refl; len = refl; begun = refl; failed = refl };
+      disk = reserve_reads (is.unchanged refl).0;
+    },
+  )
+
+  pub ended_taken : (r said : Result (Unit {0}) StoreFault) (after : Store D) → after ≡ taken_over v (record s { disk = disk; pages = pages }) r
+      → said ≡ r → EndsFiles g rewrite v s disk pages r → MatchResult said (λ _. Rewrites g rewrite v s after) (EndsAs g long v s after)
+  ended_taken r said after is same ends =
+      let P : Store D → Type 0 = λ x. MatchResult said (λ _. Rewrites g rewrite v s x) (EndsAs g long v s x) in
+      let last : Store D = taken_over v (record s { disk = disk; pages = pages }) r in
+      let Q : Result (Unit {0}) StoreFault → Type 0 = λ x. MatchResult x (λ _. Rewrites g rewrite v s last) (EndsAs g long v s last) in
+      subst P (sym is) (subst Q (sym same) (ended_by r ends))
+
+-- what is too large is no fault of the disk
+pub not_too_large : (sum len : ℕ) (changes : List Change) (fault : StoreFault) → AreTooLarge sum len changes fault → ¬ (fault ≡ DiskFault)
+not_too_large sum len changes DiskFault large is = large
+not_too_large sum len changes (BadLabel bytes head) large is = large
+not_too_large sum len changes (TooLarge bytes) large is = absurd cc
+not_too_large sum len changes (NotNewer own given) large is = large
+not_too_large sum len changes NoMemory large is = large
 
 -- where a version is not newer, the disk is not at fault
 pub not_forbidden : {D : Type 0} (s : Store D) (v : Version) (fault : StoreFault) → s.failed ≡ false → IsForbidden s v fault → ¬ (fault ≡ DiskFault)

@@ -10,7 +10,7 @@ pub mod Ended
 pub mod Ending
 pub mod Gaps
 pub mod Heads
-pub mod Kept
+pub mod Measured
 pub mod Opened
 pub mod Once
 pub mod Plain

@@ -6,7 +6,7 @@ use Rattle.ubik_types.specs.declared.images.Change.{Change}
 use Rattle.ubik_types.specs.declared.images.Change.TheVariants.{Put, Cut}
 use Rattle.ubik_types.specs.declared.limits.TheConstants.{MAX_CHANGES, MAX_IMAGE}
 use Rattle.ubik_types.specs.declared.versions.Version.{Version}
-use Rattle.ubik_types.specs.Logged.{logged, passed_limit, too_large}
+use Rattle.ubik_types.specs.Logged.{logged, too_large}
 use Rattle.ubik_types.specs.Version.{IsVersion, version_lt}
 use Rattle.disk_base.specs.declared.disks.Disk.{Ghosts}
 use Rattle.disk_base.specs.Crash.{IsSettled}
@@ -67,14 +67,6 @@ pub record StaysAsItWas {D : Type 0} (old new : Store D) : Type 0 where
   pub len : new.len ≡ old.len
   pub begun : changes_begun new.begun ≡ changes_begun old.begun
   pub failed : new.failed ≡ old.failed
-
--- so many bytes put, or an image that ends there, pass a limit by this number
-abbrev pub IsPassed : (sum end : ℕ) → StoreFault → Type 0
-IsPassed sum end DiskFault = ⊥
-IsPassed sum end (BadLabel len head) = ⊥
-IsPassed sum end (TooLarge bytes) = passed_limit sum end ≡ Some bytes
-IsPassed sum end (NotNewer own given) = ⊥
-IsPassed sum end NoMemory = ⊥
 
 -- a put is refused: with the number of bytes with which it passes a limit or, where it passes none, for want of memory
 abbrev pub IsPutFault : (sum len : ℕ) → Change → StoreFault → Type 0

@@ -1,9 +1,10 @@
 //! A durable call: a log is kept and its gate opened, and then its changes are made.
-ghost use Rattle.std.specs.Prelude.{◌≡◌, ◌+◌, ◌<◌, ◌≤◌, ◌⊎◌, ℕ, true, List, [], length, All, IfSome, Some, None, OnOk, IfErr, IsErrOf};
+ghost use Rattle.std.specs.Prelude.{◌≡◌, ◌+◌, ◌<◌, ◌≤◌, ◌⊎◌, ℕ, true, List, [], length, All, IfSome, Some, None, OnOk, IfErr, IsErrOf, IsTrue};
 ghost use Rattle.std.specs.Option.{option_map};
 ghost use Rattle.ubik_types.specs.declared.versions.Version.{Version};
 ghost use Rattle.ubik_types.specs.Version.{IsVersion, version_lt, zero_version};
 ghost use Rattle.ubik_types.specs.Image.{effect};
+ghost use Rattle.ubik_types.specs.Logged.{logged, too_large};
 ghost use Rattle.disk_base.specs.Crash.{LeavesOnly, IsSettled, RisesAtMost};
 ghost use Rattle.disk_base.specs.Runs.{OnlyReserves};
 ghost use Rattle.page_file.specs.Label.{version_of_database};
@@ -19,6 +20,7 @@ ghost use Rattle.ubik_store.specs.Moments.{head_calls, ended};
 ghost use Rattle.ubik_store.specs.Redo.{len_after, IsSeamless, Ends};
 
 use crate::faults::StoreFault;
+use crate::logged::copy_as_made;
 use crate::redo::redo;
 use disk_base::{Disk, FileNo};
 use page_file::Pages;
@@ -121,6 +123,37 @@ pub(crate) fn commit_changes<D: Disk>(
     let log = encode_log(alloc, changes, v)?;
     pages.reserve(disk, reach(changes.as_slice()))?;
     keep_and_redo(alloc, disk, pages, log.as_slice(), changes.as_slice(), v)
+}
+
+/// Makes changes one durable call, over an image of `len` bytes: without a gap, and no cut past the end. They are copied only where it is
+/// not said that they are so as they stand.
+pub(crate) fn commit_as_made<D: Disk>(
+    alloc: Global,
+    disk: &mut D,
+    pages: &mut Pages,
+    changes: &Changes,
+    len: u32,
+    seamless: bool,
+    v: Version,
+) -> Result<(), StoreFault>
+    requires version { IsVersion v }
+    requires fits { too_large 0 len changes.now ≡ None }
+    requires seamless { IsTrue seamless → IsSeamless len changes.now }
+    requires agrees { AgreesIn pages.old (D.files disk.old) }
+    requires len_is { pages.old.len ≡ len }
+    requires not_long { len ≤ MAX_IMAGE }
+    requires empty { IfSome (D.files disk.old) AreEmpty }
+    requires settled { IsSettled (D.files disk.old) (D.may_leave disk.old) }
+    ensures done { OnOk result (RewritesFiles D.Disk (Changed (logged len changes.now)) v disk.old disk.new pages.old pages.new) }
+    ensures durable { IsDurableOver D.Disk (Changed (logged len changes.now)) v disk.old disk.new (IsErrOf result StoreFault.DiskFault) }
+    ensures fault { IfErr result (λ fault. (fault ≡ StoreFault.DiskFault) ⊎ (fault ≡ StoreFault.NoMemory)) }
+    ensures unchanged { IsErrOf result StoreFault.NoMemory → OnlyReserves D.Disk disk.old disk.new × (pages.new ≡ pages.old) }
+{
+    if seamless {
+        return commit_changes(alloc, disk, pages, changes, v);
+    }
+    let made = copy_as_made(alloc, len, changes.as_slice())?;
+    commit_changes(alloc, disk, pages, &made, v)
 }
 
 /// Gives the image a version, in one durable call: a log of no change. Where there is room for that log and a label it takes no memory.

@@ -6,6 +6,7 @@ mod commits;
 mod faults;
 mod installs;
 mod logged;
+mod measures;
 mod opening;
 mod redo;
 mod stores;

@@ -1,5 +1,6 @@
 //! The store of a server.
 ghost use Rattle.std.specs.Prelude.{◌≡◌, ◌≢◌, ◌+◌, ◌<◌, ◌≤◌, ◌⊎◌, ◌^◌, ◌↔◌, ℕ, List, [], ◌∷◌, ◌++◌, length, take, drop, true, false, IsTrue, Some, None, IsSome, IfOk, IfErr, IfSome, IsErrOf, IsOk, OnOk, OnErr, MatchResult};
+ghost use Rattle.ubik_types.specs.Logged.{logged, too_large};
 ghost use Rattle.ubik_types.specs.Version.{IsVersion, version_lt};
 ghost use Rattle.ubik_types.specs.declared.images.Change.TheVariants as change;
 ghost use Rattle.disk_base.specs.Crash.{IsSettled, LeavesSame, Only};
@@ -14,15 +15,16 @@ ghost use Rattle.ubik_store.specs.Rest.{RestsAs, CanRelabel};
 ghost use Rattle.ubik_store.specs.Rewrite.Rewrite.{Replaced};
 ghost use Rattle.ubik_store.specs.Store.{Adds, IsForbidden, IsPutRefused, IsSound, IsTooLong, SameButBegun, StaysAsItWas, changes_begun, image_in, taken_over};
 
-use crate::commits::{commit_changes, relabel_files};
+use crate::commits::{commit_as_made, commit_changes, relabel_files};
 use crate::faults::StoreFault;
 use crate::installs::install_files;
+use crate::measures::measure;
 use crate::opening::open_files;
 use crate::transactions::Transaction;
 use disk_base::{Disk, Fill, Refused, StopDisk};
 use page_file::Pages;
 use std::alloc::Global;
-use ubik_types::{MAX_IMAGE, Version};
+use ubik_types::{Changes, MAX_IMAGE, Version};
 
 /// A version and an image on a disk, and the changes that were begun over them. After a fault of the disk each call that may
 /// fail answers `DiskFault`, until the disk is closed and opened anew; version and length are then those from before that call.
@@ -207,6 +209,41 @@ impl<D: Disk> Store<D> {
             }
             None => Err(StoreFault::DiskFault),
         }
+    }
+
+    /// Makes these changes one durable call under a newer version, where none are begun: a put that leaves a gap goes behind one of zero
+    /// bytes, a cut past the end to the present one. They are copied only where one of them leaves such a gap or goes past the end. They
+    /// are too large where their puts have more than 1,048,576 bytes, or the image would have more than 16,777,216.
+    pub fn commit_all(&mut self, changes: &Changes, v: Version) -> Result<(), StoreFault>
+        requires sound { IsSound D.Disk self.old }
+        requires version { IsVersion v }
+        requires none { self.old.begun ≡ None }
+        ensures sound { IsSound D.Disk self.new }
+        ensures ended { MatchResult result (λ _. Commits D.Disk (logged self.old.len changes.now) v self.old self.new)
+            (EndsAs D.Disk (λ bytes. too_large 0 self.old.len changes.now ≡ Some bytes) v self.old self.new) }
+        ensures none { self.new.begun ≡ None }
+        ensures fits { OnOk result (too_large 0 self.old.len changes.now ≡ None) }
+        ensures too_large { self.old.failed ≡ false → (bytes : ℕ) → too_large 0 self.old.len changes.now ≡ Some bytes
+            → IsErrOf result (StoreFault.TooLarge bytes) }
+        ensures durable { self.old.failed ≡ false
+            → IsDurable D.Disk (logged self.old.len changes.now) v self.old self.new (IsErrOf result StoreFault.DiskFault) }
+        ensures rests { self.old.failed ≡ true → (self.new.disk ≡ self.old.disk) × IsErrOf result StoreFault.DiskFault }
+    {
+        if self.failed {
+            return Err(StoreFault::DiskFault);
+        }
+        let seamless = measure(self.len, changes.as_slice())?;
+        self.allow(v)?;
+        let ended = commit_as_made(
+            self.alloc,
+            &mut self.disk,
+            &mut self.pages,
+            changes,
+            self.len,
+            seamless,
+            v,
+        );
+        self.end(ended, v)
     }
 
     /// Gives the image a newer version, in one durable call. It makes no change of the image.

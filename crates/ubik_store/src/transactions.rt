@@ -1,14 +1,15 @@
 //! The changes of a transaction, from its beginning to its commit.
 ghost use Rattle.std.specs.Prelude.{◌≡◌, ◌+◌, ◌-◌, ◌<◌, ◌≤◌, ◌^◌, ℕ, [], ◌∷◌, ◌++◌, length, min, Some, None, IsSome, IfOk, IfErr, IfSome, IsErrOf, OnOk, OnErr};
-ghost use Rattle.ubik_types.specs.Logged.{logged, passed_limit, too_large};
+ghost use Rattle.ubik_types.specs.Logged.{logged, too_large};
 ghost use Rattle.ubik_types.specs.declared.images.Change.TheVariants as change;
-ghost use Rattle.ubik_store.specs.Store.{IsBegunOver, IsPassed, IsPutFault};
+ghost use Rattle.ubik_store.specs.Store.{IsBegunOver, IsPutFault};
 
 use crate::faults::StoreFault;
+use crate::measures::Measures;
 use std::alloc::Global;
 use std::mem;
 use ubik_types::{
-    Bytes, Change, Changes, MAX_CHANGES, MAX_IMAGE, NoMemory, bytes_of, changes_new, changes_push,
+    Bytes, Change, Changes, MAX_IMAGE, NoMemory, bytes_of, changes_new, changes_push,
 };
 
 /// Adds changes at the end: all of them or, for want of memory, none.
@@ -41,20 +42,6 @@ fn kept_put(alloc: Global, len: u32, at: u32, bytes: &[u8]) -> Result<Changes, N
     let bytes = bytes_of(alloc, bytes)?;
     changes_push(&mut changes, Change::Put { at, bytes })?;
     Ok(changes)
-}
-
-/// Refuses a put after which so many bytes are put in all, or which ends there, by the limit that it passes.
-fn allow(sum: u64, end: u64) -> Result<(), StoreFault>
-    ensures ok { OnOk result (passed_limit sum end ≡ None) }
-    ensures fault { IfErr result (λ fault. IsPassed sum end fault) }
-{
-    if sum > MAX_CHANGES as u64 {
-        Err(StoreFault::TooLarge { bytes: sum })
-    } else if end > MAX_IMAGE as u64 {
-        Err(StoreFault::TooLarge { bytes: end })
-    } else {
-        Ok(())
-    }
 }
 
 /// Changes that were begun over an image, none of which leaves a gap or goes past the longest image.
@@ -102,16 +89,15 @@ impl Transaction {
         ensures same { OnErr result (self.new.changes ≡ self.old.changes) }
         ensures fault { IfErr result (λ fault. IsPutFault self.old.sum self.old.len (change.Put at bytes.now) fault) }
     {
-        let gap_end = self.len.max(at);
-        let sum = u64::from(self.sum) + u64::from(gap_end - self.len);
-        allow(sum, u64::from(gap_end))?;
-        let end = u64::from(self.len).max(u64::from(at) + bytes.len() as u64);
-        let sum = sum + bytes.len() as u64;
-        allow(sum, end)?;
+        let measures = Measures {
+            sum: self.sum,
+            len: self.len,
+        };
+        let after = measures.after_put(at, bytes)?;
         let put = kept_put(self.alloc, self.len, at, bytes)?;
         append(self.alloc, &mut self.changes, put)?;
-        self.sum = sum as u32;
-        self.len = end as u32;
+        self.sum = after.sum;
+        self.len = after.len;
         Ok(())
     }
 

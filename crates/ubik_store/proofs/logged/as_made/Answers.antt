@@ -6,7 +6,7 @@ use Rattle.ubik_types.specs.declared.images.Change.{Change}
 use Rattle.ubik_types.specs.Logged.{logged}
 use Rattle.ubik_log.specs.LogGrammar.{IsWithinImage}
 use Rattle.ubik_store.specs.Redo.{changed_len}
-use Rattle.ubik_store.proofs.AsMade.{logged_more}
+use Rattle.ubik_store.proofs.AsMade.{logged_more, within_ends}
 use Rattle.ubik_store.proofs.logged.as_made.Goals as goal
 
 nothing_left : {X : Type 0} (xs : List X) → length xs ≡ 0 → xs ≡ []
@@ -15,7 +15,8 @@ nothing_left (x ∷ xs) none = absurd (omega arith)
 
 pub push_made-requires : goal.push_made-requires
 push_made-requires c = record {
-  within = All-head IsWithinImage c.in-Some.change (into_iter_items c.next.new.self) (subst (All IsWithinImage) c.in-Some.ensures.steps.0 c.loop-change.invariant.within);
+  ends = within_ends c.in-Some.change
+      (All-head IsWithinImage c.in-Some.change (into_iter_items c.next.new.self) (subst (All IsWithinImage) c.in-Some.ensures.steps.0 c.loop-change.invariant.within));
 }
 
 pub loop-change-preserved : goal.loop-change-preserved
