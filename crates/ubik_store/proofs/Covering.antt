@@ -11,7 +11,6 @@ use Rattle.ubik_types.specs.declared.versions.Version.{Version}
 use Rattle.ubik_types.specs.Logged.{logged}
 use Rattle.disk_base.specs.Files.{Files}
 use Rattle.page_file.specs.Pages.{image_of}
-use Rattle.ubik_log.specs.LogGrammar.{IsCommitted}
 use Rattle.ubik_store.specs.Files.{IsLogged}
 use Rattle.ubik_store.specs.Gaps.{LeaveNoGap}
 use Rattle.ubik_store.specs.Moments.{LeadsTo}

@@ -1,8 +1,8 @@
 -- A durable call over files at rest: what went before its first changing call shows in nothing.
-use Rattle.std.proofs.Common.{◌≡◌, inl, ℕ, Some, IfSome, subst, sym, ap, ◌∙◌, arith}
+use Rattle.std.proofs.Common.{◌≡◌, inl, ℕ, Some, IfSome, subst, sym, ◌∙◌, arith}
 use Rattle.ubik_types.specs.declared.versions.Version.{Version}
 use Rattle.disk_base.specs.declared.disks.Disk.{Ghosts}
-use Rattle.disk_base.specs.Crash.{Narrows, LeavesOnly, Only, IsSettled, RisesAtMost}
+use Rattle.disk_base.specs.Crash.{Narrows, LeavesOnly, IsSettled, RisesAtMost}
 use Rattle.disk_base.specs.Files.{Files}
 use Rattle.disk_base.specs.Runs.{OnlyReserves}
 use Rattle.disk_base.specs.Stops.{IsStopped}
@@ -14,11 +14,12 @@ use Rattle.ubik_store.specs.Calls.{CallsAtMost}
 use Rattle.ubik_store.specs.Commit.{IsDurableOver}
 use Rattle.ubik_store.specs.Files.{StandsForEither}
 use Rattle.ubik_store.specs.Gaps.{IsPlain}
-use Rattle.ubik_store.specs.Rest.{AreEmpty}
+use Rattle.ubik_store.specs.Rest.{AreEmpty, HasNoLog}
 use Rattle.ubik_store.specs.Rewrite.{Rewrite, rewritten, rewrite_calls}
 use Rattle.ubik_store.proofs.Applied.{calls_joined, calls_as, no_calls}
 use Rattle.ubik_store.proofs.Committing.{settled_at, stands_at_rest, unmoved, room_made, room_first}
-use Rattle.ubik_store.proofs.Telling.{told, of_told}
+use Rattle.ubik_store.proofs.Telling.{told, of_told, of_some}
+use Rattle.ubik_store.proofs.Unlogged.{no_log_here}
 
 -- a run leaves the state before, or the one after
 abbrev pub LeavesRewritten : {D : Type 0} (g : Ghosts D) (old new : D) (v : Version) (rewrite : Rewrite) → Files → Type 0
@@ -60,11 +61,16 @@ module _ {D : Type 0} (g : Ghosts D) where
     plain_here : (fs : Files) → g.files disk ≡ Some fs → IsPlain fs → Narrows IsPlain (g.may_leave disk)
     plain_here fs is plain = λ c here. subst IsPlain (sym (settled_at (g.files disk) fs (g.may_leave disk) is settled c here)) plain
 
+    no_log : (fs : Files) → g.files disk ≡ Some fs → Narrows HasNoLog (g.may_leave disk)
+    no_log fs is =
+        no_log_here fs (g.may_leave disk) (settled_at (g.files disk) fs (g.may_leave disk) is settled) (of_told (g.files disk) fs AreEmpty is empty).0
+
     -- no call of the disk at all
     pub durable_unmoved : {F : Type 0} → ¬ F → IsDurableOver g rewrite v disk disk F
     durable_unmoved {F} not = record {
       moments = told (g.files disk) (LeavesRewritten g disk disk v rewrite) (λ fs is own labelled. unmoved g disk _ (stands_here fs own is labelled));
       plain = λ _ _. told (g.files disk) (KeepsPlain g disk disk) (λ fs is plain. unmoved g disk IsPlain (plain_here fs is plain));
+      log = λ _. told (g.files disk) (λ _. LeavesOnly g.steps g.left_since disk disk HasNoLog) (λ fs is. unmoved g disk HasNoLog (no_log fs is));
       few = told (g.files disk) (FewRewritten g disk disk rewrite) (λ fs is. (omega arith, omega arith));
       calls = calls_as (omega arith) (λ failed. failed) (λ failed. failed) (no_calls disk F not);
     }
@@ -74,6 +80,7 @@ module _ {D : Type 0} (g : Ghosts D) where
     durable_reserved {new} {F} made not = record {
       moments = told (g.files disk) (LeavesRewritten g disk new v rewrite) (λ fs is own labelled. room_made g _ made (stands_here fs own is labelled));
       plain = λ _ _. told (g.files disk) (KeepsPlain g disk new) (λ fs is plain. room_made g IsPlain made (plain_here fs is plain));
+      log = λ _. told (g.files disk) (λ _. LeavesOnly g.steps g.left_since disk new HasNoLog) (λ fs is. room_made g HasNoLog made (no_log fs is));
       few = told (g.files disk) (FewRewritten g disk new rewrite) (λ fs is. (omega (arith, made.steps), omega (arith, made.steps)));
       calls = calls_as (omega arith) (λ failed. failed) (λ failed. failed) (calls_reserved made not);
     }
@@ -87,6 +94,9 @@ module _ {D : Type 0} (g : Ghosts D) where
       plain = λ newer cuts. told (g.files disk) (KeepsPlain g disk new) (λ fs is plain.
           room_first g IsPlain made (plain_here fs is plain)
           (of_told (g.files mid) fs (KeepsPlain g mid new) (made.files ∙ is) (rest.plain newer cuts) plain));
+      log = λ unlogged. told (g.files disk) (λ _. LeavesOnly g.steps g.left_since disk new HasNoLog) (λ fs is.
+          room_first g HasNoLog made (no_log fs is)
+          (of_some (g.files mid) fs (LeavesOnly g.steps g.left_since mid new HasNoLog) (made.files ∙ is) (rest.log unlogged)));
       few = told (g.files disk) (FewRewritten g disk new rewrite) (λ fs is.
           let last = of_told (g.files mid) fs (FewRewritten g mid new rewrite) (made.files ∙ is) rest.few in
           (omega (arith, made.steps, last.0), omega (arith, made.steps, last.1)));

@@ -1,5 +1,5 @@
 -- How a durable call of a store ends, by how the call over its files did.
-use Rattle.std.proofs.Common.{◌≡◌, ◌≤◌, ◌⊎◌, ⊎_elim, ℕ, ◌+◌, ◌-◌, ◌^◌, min, true, false, List, [], length, Option, Some, None, IfSome, refl, sym, ap, subst, ◌∙◌, arith}
+use Rattle.std.proofs.Common.{◌≡◌, ◌≤◌, ◌⊎◌, ⊎_elim, ℕ, ◌-◌, ◌^◌, min, true, false, List, Option, Some, None, IfSome, refl, sym, ap, subst, ◌∙◌, arith}
 use Rattle.std.proofs.lemmas.Bool.{false≢true}
 use Rattle.std.specs.Prelude.{Result, Ok, Err, OnOk, IfErr, IsErrOf, MatchResult}
 use Rattle.std.specs.Option.{option_map}
@@ -23,7 +23,7 @@ use Rattle.ubik_store.specs.DurableCall.{EndsAs, IsDurableIn, Rewrites}
 use Rattle.ubik_store.specs.Files.{StandsForEither}
 use Rattle.ubik_store.specs.Gaps.{IsPlain}
 use Rattle.ubik_store.specs.Measures.{AreTooLarge}
-use Rattle.ubik_store.specs.Rest.{IsAtRest, RestsAs}
+use Rattle.ubik_store.specs.Rest.{HasNoLog, IsAtRest, RestsAs}
 use Rattle.ubik_store.specs.Rewrite.{Rewrite, rewritten, len_rewritten, files_rewritten}
 use Rattle.ubik_store.specs.Store.{IsReady, IsSound, IsForbidden, image_in, taken_over}
 use Rattle.ubik_store.proofs.Applied.{no_calls, calls_as}
@@ -31,6 +31,7 @@ use Rattle.ubik_store.proofs.Committing.{settled_at, settled_narrow, stands_at_r
 use Rattle.ubik_store.proofs.Durable.{FewRewritten, KeepsPlain}
 use Rattle.ubik_store.proofs.Rests.{AllAtRest, rests_here}
 use Rattle.ubik_store.proofs.Telling.{told, of_told}
+use Rattle.ubik_store.proofs.Unlogged.{no_log_here}
 use Rattle.ubik_store.proofs.Versions.{after_first}
 
 -- what is said of the files under the version of their label, is said under the version of files at rest
@@ -57,6 +58,9 @@ module _ {D : Type 0} (g : Ghosts D) where
     plain = λ cuts. told (g.files s.disk) (KeepsPlain g s.disk s.disk) (λ fs is plain.
         let only = settled_at (g.files s.disk) fs (g.may_leave s.disk) is ready.settled in
         unmoved g s.disk IsPlain (λ c here. subst IsPlain (sym (only c here)) plain));
+    log = λ _. told (g.files s.disk) (λ _. LeavesOnly g.steps g.left_since s.disk s.disk HasNoLog) (λ fs is.
+        let rest = of_told (g.files s.disk) fs (λ fs. IsAtRest s.version (image_of fs.database) fs) is ready.rests in
+        unmoved g s.disk HasNoLog (no_log_here fs (g.may_leave s.disk) (settled_at (g.files s.disk) fs (g.may_leave s.disk) is ready.settled) rest.log));
     few = told (g.files s.disk) (FewRewritten g s.disk s.disk rewrite) (λ fs is. (omega arith, omega arith));
     calls = calls_as (omega arith) (λ failed. failed) (λ failed. failed) (no_calls s.disk F not);
   }
@@ -132,6 +136,7 @@ module _ {D : Type 0} (g : Ghosts D) (rewrite : Rewrite) (v : Version) (s : Stor
         (λ w fs. LeavesOnly g.steps g.left_since s.disk after.disk (StandsForEither w (image_of fs.database) v (rewritten rewrite (image_of fs.database))))
         ready.rests durable.moments;
     plain = durable.plain (after_first s.version v newer);
+    log = durable.log;
     few = durable.few;
     calls = durable.calls;
   }

@@ -22,7 +22,7 @@ use Rattle.page_file.specs.Pages.{Known, image_of, LabelledAs, Agrees, AgreesIn}
 use Rattle.page_file.proofs.Labels.{version_by_again, version_of_filled}
 use Rattle.ubik_log.specs.Gate.{IsOpen}
 use Rattle.ubik_log.specs.LogFile.{with_log, HasLogOrNone}
-use Rattle.ubik_log.specs.LogGrammar.{IsCommitted, IsDiscarded}
+use Rattle.ubik_log.specs.LogGrammar.{IsDiscarded}
 use Rattle.incoming_file.specs.Incoming.{IsIgnored}
 use Rattle.ubik_store.specs.Files.{StandsFor}
 use Rattle.ubik_store.specs.Files.StandsFor.{by_log, by_label}

@@ -22,4 +22,5 @@ pub mod Rests
 pub mod Taking
 pub mod Telling
 pub mod Treating
+pub mod Unlogged
 pub mod Versions

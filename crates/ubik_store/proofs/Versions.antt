@@ -1,5 +1,5 @@
 -- The first version comes before each version that comes after another one.
-use Rattle.std.proofs.Common.{◌≡◌, ℕ, true, ◌==◌, sym, subst}
+use Rattle.std.proofs.Common.{◌≡◌, ℕ, true, ◌==◌, subst}
 use Rattle.std.proofs.lemmas.Bool.{false≢true}
 use Rattle.std.proofs.lemmas.Bool.Decides.{nat_tests}
 use Rattle.std.proofs.Common.{arith}

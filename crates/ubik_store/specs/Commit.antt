@@ -10,8 +10,8 @@ use Rattle.page_file.specs.Pages.{Known, AgreesIn, image_of}
 use Rattle.ubik_store.specs.Calls.{CallsAtMost}
 use Rattle.ubik_store.specs.Files.{StandsForEither}
 use Rattle.ubik_store.specs.Gaps.{IsPlain}
-use Rattle.ubik_store.specs.Rest.{RestsAs, CanRelabel}
-use Rattle.ubik_store.specs.Rewrite.{Rewrite, rewritten, len_rewritten, rewrite_calls, most_calls, KeepsPuts, files_rewritten}
+use Rattle.ubik_store.specs.Rest.{RestsAs, CanRelabel, HasNoLog}
+use Rattle.ubik_store.specs.Rewrite.{Rewrite, rewritten, len_rewritten, rewrite_calls, most_calls, KeepsPuts, IsUnlogged, files_rewritten}
 
 -- The image is rewritten under this version, in so many changing calls. Files at rest are left, with which the pages agree, and room for a
 -- relabelling.
@@ -26,12 +26,13 @@ pub record RewritesFiles {D : Type 0} (g : Ghosts D) (rewrite : Rewrite) (v : Ve
   pub room : CanRelabel g new
 
 -- Done or not, a crash at any moment of the call leaves files that stand for the version and image before it or for those after it. Where
--- no cut goes to before an earlier put, and the version is not the first one, plain files stay plain. It makes no more changing calls than
--- one that is done.
+-- no cut goes to before an earlier put, and the version is not the first one, plain files stay plain. Where it does not go through the log,
+-- none is there at any moment. It makes no more changing calls than one that is done.
 pub record IsDurableOver {D : Type 0} (g : Ghosts D) (rewrite : Rewrite) (v : Version) (old new : D) (failed : Type 0) : Type 0 where
   pub moments : IfSome (g.files old) (λ fs. (own : Version) → version_of_database fs.database ≡ Some own
       → LeavesOnly g.steps g.left_since old new (StandsForEither own (image_of fs.database) v (rewritten rewrite (image_of fs.database))))
   pub plain : version_lt zero_version v ≡ true → KeepsPuts rewrite
       → IfSome (g.files old) (λ fs. IsPlain fs → LeavesOnly g.steps g.left_since old new IsPlain)
+  pub log : IsUnlogged rewrite → IfSome (g.files old) (λ _. LeavesOnly g.steps g.left_since old new HasNoLog)
   pub few : IfSome (g.files old) (λ fs. RisesAtMost (rewrite_calls rewrite fs.database) (g.steps old) (g.steps new))
   pub calls : CallsAtMost g (most_calls rewrite) old new failed

@@ -14,8 +14,8 @@ use Rattle.ubik_store.specs.declared.stores.Store.{Store}
 use Rattle.ubik_store.specs.Calls.{CallsAtMost}
 use Rattle.ubik_store.specs.Files.{StandsForEither}
 use Rattle.ubik_store.specs.Gaps.{IsPlain}
-use Rattle.ubik_store.specs.Rest.{CanRelabel}
-use Rattle.ubik_store.specs.Rewrite.{Rewrite, rewritten, len_rewritten, rewrite_calls, most_calls, KeepsPuts}
+use Rattle.ubik_store.specs.Rest.{CanRelabel, HasNoLog}
+use Rattle.ubik_store.specs.Rewrite.{Rewrite, rewritten, len_rewritten, rewrite_calls, most_calls, KeepsPuts, IsUnlogged}
 use Rattle.ubik_store.specs.Rewrite.Rewrite.{Changed}
 use Rattle.ubik_store.specs.Store.{StaysAsItWas, image_in}
 
@@ -64,11 +64,13 @@ abbrev pub IsNeverLong : ℕ → Type 0
 IsNeverLong bytes = ⊥
 
 -- Of a store that had not failed: at each moment of the call a crash leaves files that stand for the version and image before it or for
--- those after it, and plain files stay plain. It makes no more changing calls than one that is done.
+-- those after it, and plain files stay plain; no log, where it does not go through it. It makes no more changing calls than one that is
+-- done.
 pub record IsDurableIn {D : Type 0} (g : Ghosts D) (rewrite : Rewrite) (v : Version) (old new : Store D) (failed : Type 0) : Type 0 where
   pub moments : IfSome (g.files old.disk) (λ fs. LeavesOnly g.steps g.left_since old.disk new.disk
       (StandsForEither old.version (image_of fs.database) v (rewritten rewrite (image_of fs.database))))
   pub plain : KeepsPuts rewrite → IfSome (g.files old.disk) (λ fs. IsPlain fs → LeavesOnly g.steps g.left_since old.disk new.disk IsPlain)
+  pub log : IsUnlogged rewrite → IfSome (g.files old.disk) (λ _. LeavesOnly g.steps g.left_since old.disk new.disk HasNoLog)
   pub few : IfSome (g.files old.disk) (λ fs. RisesAtMost (rewrite_calls rewrite fs.database) (g.steps old.disk) (g.steps new.disk))
   pub calls : CallsAtMost g (most_calls rewrite) old.disk new.disk failed
 

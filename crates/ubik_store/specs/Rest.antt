@@ -33,6 +33,10 @@ EndedAs version image incoming files = (fs : Files) × (files ≡ Some fs) × Is
 abbrev pub AreEmpty : Files → Type 0
 AreEmpty fs = (fs.log ≡ []) × (fs.incoming ≡ [])
 
+-- the log has no byte
+abbrev pub HasNoLog : Files → Type 0
+HasNoLog fs = fs.log ≡ []
+
 -- the disk has room for a log of no change, and for a label
 abbrev pub CanRelabel : {D : Type 0} → Ghosts D → D → Type 0
 CanRelabel g disk = (16 ≤ g.room disk Log) × (LABEL_LEN ≤ g.room disk Database)

@@ -41,6 +41,11 @@ abbrev pub KeepsPuts : Rewrite → Type 0
 KeepsPuts (Changed changes) = CutsNoPut changes
 KeepsPuts (Replaced image) = Unit {0}
 
+-- it does not go through the log
+abbrev pub IsUnlogged : Rewrite → Type 0
+IsUnlogged (Changed changes) = ⊥
+IsUnlogged (Replaced image) = Unit {0}
+
 -- the files after it, under the label of a version
 abbrev pub files_rewritten : Rewrite → Version → Files → Files
 files_rewritten (Changed changes) version fs = ended changes version fs

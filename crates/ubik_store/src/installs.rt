@@ -14,7 +14,7 @@ ghost use Rattle.ubik_store.specs.Calls.{CallsAtMost};
 ghost use Rattle.ubik_store.specs.Commit.{RewritesFiles, IsDurableOver};
 ghost use Rattle.ubik_store.specs.Files.{StandsFor, StandsForEither};
 ghost use Rattle.ubik_store.specs.Gaps.{IsPlain};
-ghost use Rattle.ubik_store.specs.Rest.{AreEmpty};
+ghost use Rattle.ubik_store.specs.Rest.{AreEmpty, HasNoLog};
 ghost use Rattle.ubik_store.specs.Rewrite.Rewrite.{Replaced};
 
 use crate::faults::StoreFault;
@@ -38,7 +38,7 @@ pub(crate) fn take_incoming<D: Disk>(
 ) -> Result<(), StoreFault>
     requires is_text { IsText text.now v }
     requires is_open { IfSome (D.files disk.old) (λ fs. IsIncoming fs.incoming v (drop LABEL_LEN text.now)) }
-    requires no_log { IfSome (D.files disk.old) (λ fs. fs.log ≡ []) }
+    requires no_log { IfSome (D.files disk.old) HasNoLog }
     requires not_long { IfSome (D.files disk.old) (λ fs. length fs.database ≤ MAX_DATABASE_LEN) }
     requires agrees { AgreesIn pages.old (D.files disk.old) }
     requires fits { length text.now ≤ D.room disk.old FileNo.Database }
@@ -49,6 +49,7 @@ pub(crate) fn take_incoming<D: Disk>(
         LeavesOnly D.steps D.left_since disk.old disk.new (λ c. StandsFor c v (drop LABEL_LEN text.now))) }
     ensures plain { version_lt zero_version v ≡ true → IfSome (D.files disk.old) (λ _.
         LeavesOnly D.steps D.left_since disk.old disk.new IsPlain) }
+    ensures log { IfSome (D.files disk.old) (λ _. LeavesOnly D.steps D.left_since disk.old disk.new HasNoLog) }
     ensures settled { OnOk result (IsSettled (D.files disk.new) (D.may_leave disk.new)) }
     ensures steps { OnOk result (D.steps disk.new ≡ D.steps disk.old + 7) }
     ensures label { OnOk result (pages.new.version ≡ Some v) }
@@ -147,6 +148,7 @@ fn keep_and_take<D: Disk>(
         → LeavesOnly D.steps D.left_since disk.old disk.new (StandsForEither own (image_of fs.database) v (drop LABEL_LEN text.now))) }
     ensures plain { version_lt zero_version v ≡ true → IfSome (D.files disk.old) (λ fs.
         IsPlain fs → LeavesOnly D.steps D.left_since disk.old disk.new IsPlain) }
+    ensures log { IfSome (D.files disk.old) (λ _. LeavesOnly D.steps D.left_since disk.old disk.new HasNoLog) }
     ensures settled { OnOk result (IsSettled (D.files disk.new) (D.may_leave disk.new)) }
     ensures steps { OnOk result (D.steps disk.new ≡ D.steps disk.old + 15) }
     ensures label { OnOk result (pages.new.version ≡ Some v) }

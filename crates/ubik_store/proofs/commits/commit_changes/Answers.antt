@@ -22,5 +22,5 @@ returns-clause-durable g c =
     let kept = c.keep_and_redo.ensures in
     let F = IsErrOf c.keep_and_redo.result faults.DiskFault in
     let Durable : List Change → Type 0 = λ cs. IsDurableOver g.D.Disk (Changed cs) c.args.v c.reserve.new.disk c.keep_and_redo.new.disk F in
-    let rest : Durable c.as_slice-3.result.now = record { moments = kept.moments; plain = kept.plain; few = kept.few; calls = kept.calls } in
+    let rest : Durable c.as_slice-3.result.now = record { moments = kept.moments; plain = kept.plain; log = λ none. absurd none; few = kept.few; calls = kept.calls } in
     durable_first g.D.Disk (Changed c.args.changes.now) c.args.v c.args.disk.now c.requires.empty c.requires.settled c.in_ok-reserve.ensures.reserves (subst Durable c.as_slice-3.ensures rest)

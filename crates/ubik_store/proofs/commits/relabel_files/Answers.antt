@@ -15,5 +15,5 @@ pub returns-clause-durable : goal.returns-clause-durable
 returns-clause-durable g c =
     let kept = c.keep_and_redo.ensures in
     let rest : IsDurableOver g.D.Disk (Changed []) c.args.v c.reserve.new.disk c.keep_and_redo.new.disk (IsErrOf c.keep_and_redo.result faults.DiskFault) =
-    record { moments = kept.moments; plain = kept.plain; few = kept.few; calls = kept.calls } in
+    record { moments = kept.moments; plain = kept.plain; log = λ none. absurd none; few = kept.few; calls = kept.calls } in
     durable_first g.D.Disk (Changed []) c.args.v c.args.disk.now c.requires.empty c.requires.settled c.in_ok-reserve.ensures.reserves rest

@@ -66,6 +66,7 @@ returns-clause-durable g c =
     let rest : Durable (drop 64 c.as_slice.result.now) = record {
       moments = kept.moments;
       plain = λ newer _. kept.plain newer;
+      log = λ _. kept.log;
       few = told (g.D.Disk.files mid) (λ _. RisesAtMost 15 (g.D.Disk.steps mid) (g.D.Disk.steps new)) (λ fs is. kept.calls.at_most);
       calls = calls_as (omega arith) (err_of c.keep_and_take.result _ kept.fault) (err_any c.keep_and_take.result _) kept.calls;
     } in

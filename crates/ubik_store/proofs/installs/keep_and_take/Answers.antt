@@ -7,9 +7,11 @@ use Rattle.page_file.specs.Pages.{image_of}
 use Rattle.incoming_file.specs.Incoming.{opened, with_incoming}
 use Rattle.ubik_store.specs.Files.{StandsFor, StandsForEither}
 use Rattle.ubik_store.specs.Gaps.{IsPlain}
+use Rattle.ubik_store.specs.Rest.{HasNoLog}
 use Rattle.ubik_store.proofs.Applied.{calls_of, calls_joined, calls_as}
-use Rattle.ubik_store.proofs.Taking.{text_zero, keeps_stands, keeps_plain, kept_there, files_from, run_after}
+use Rattle.ubik_store.proofs.Taking.{text_zero, keeps_stands, keeps_plain, kept_there, files_from, run_after, runs_after}
 use Rattle.ubik_store.proofs.Telling.{told, ok_map}
+use Rattle.ubik_store.proofs.Unlogged.{no_log_of, unlogged_kept}
 use Rattle.ubik_store.proofs.installs.keep_and_take.Goals as goal
 
 pub keep_incoming-requires-clause-zero : goal.keep_incoming-requires-clause-zero
@@ -52,6 +54,15 @@ returns-in-Done-clause-plain g c = λ newer.
     (keeps_plain text c.args.v is.is_text g.D.Disk old mid is.empty c.keep_incoming.ensures.moments newer fs there plain)
     (c.take_incoming.ensures.plain newer))
 
+pub returns-in-Done-clause-log : goal.returns-in-Done-clause-log
+returns-in-Done-clause-log g c =
+    let text = c.args.text.now in
+    let old = c.args.disk.now in
+    let mid = c.keep_incoming.new.disk in
+    runs_after g.D.Disk (with_incoming (opened text)) old mid c.take_incoming.new.disk c.in-Done.ensures.files HasNoLog
+    (unlogged_kept g.D.Disk old (no_log_of _ c.requires.empty) (λ _. opened text) mid c.keep_incoming.ensures.moments)
+    c.take_incoming.ensures.log
+
 pub returns-in-Done-clause-calls : goal.returns-in-Done-clause-calls
 returns-in-Done-clause-calls g c =
     calls_as (omega arith) (λ failed. failed) (λ failed. failed)
@@ -74,3 +85,8 @@ returns-in-Failed-clause-plain g c = λ newer.
     let mid = c.keep_incoming.new.disk in
     told (g.D.Disk.files old) (λ fs. IsPlain fs → LeavesOnly g.D.Disk.steps g.D.Disk.left_since old mid IsPlain)
     (keeps_plain c.args.text.now c.args.v c.requires.is_text g.D.Disk old mid c.requires.empty c.keep_incoming.ensures.moments newer)
+
+pub returns-in-Failed-clause-log : goal.returns-in-Failed-clause-log
+returns-in-Failed-clause-log g c =
+    unlogged_kept g.D.Disk c.args.disk.now (no_log_of _ c.requires.empty) (λ _. opened c.args.text.now) c.keep_incoming.new.disk
+    c.keep_incoming.ensures.moments
