@@ -23,7 +23,6 @@ pub mod Logging
 pub mod Made
 pub mod MadeOver
 pub mod Places
-pub mod Putting
 pub mod ReadImages
 pub mod Reading
 pub mod Received

@@ -203,7 +203,7 @@ impl<D: Disk, V: DraftService> Node<D, V> {
         ensures line { length (waiting_of self.new.state.writes) ≤ length (waiting_of self.old.state.writes) }
     {
         let next = self.next_version();
-        commit_all(&mut self.store, changes.as_slice(), next)?;
+        commit_all(&mut self.store, changes, next)?;
         let image = HeldImage::of(&self.store);
         self.state.take_commit(next, image);
         out.put(Output::Announce { version: next });

@@ -103,7 +103,7 @@ impl<D: Disk, V: DraftService> Node<D, V> {
         };
         self.state
             .spread_write(self.alloc, &flight, next, &nobody, out)?;
-        commit_all(&mut self.store, changes.as_slice(), next)?;
+        commit_all(&mut self.store, changes, next)?;
         let image = HeldImage::of(&self.store);
         let write = own_write(flight, answer, call, changes, &image);
         self.state.begin_flight(next, image, write);

@@ -65,7 +65,7 @@ impl<D: Disk, V: DraftService> Node<D, V> {
             (followed (committed_by (up_server self.old) new changes.now) (answers_version_kept (own_member self.old) to))
             (up_server self.new) out.old out.new) }
     {
-        commit_all(&mut self.store, changes.as_slice(), new)?;
+        commit_all(&mut self.store, changes, new)?;
         self.state.take_over(new, HeldImage::of(&self.store));
         self.state.send(to, Body::VersionKept { version: new }, out);
         Ok(())

@@ -39,8 +39,8 @@ returns-in_err-commit_all-clause-ends g c = λ now call image.
     let kept = logged (length st.image) given in
     let only = is_alone st.cell st.me c.requires.alone st.place in
     let leads = written_alone (server_of st) (announced st) st.recovery now c.args.id call c.args.answer image given c.requires.serving (member_of st) only v c.next_version-next.ensures (no_own _ c.requires.free) (st.of_cell.servers ∙ c.requires.alone) in
-    let same : logged n.store.len c.as_slice.result.now ≡ kept = ap (λ (cs : List Change). logged n.store.len cs) c.as_slice.ensures ∙ ap (λ (k : ℕ). logged k given) (c.args.self.now.stored.len c.requires.not_halted) in
-    let fits : too_large 0 n.store.len c.as_slice.result.now ≡ None = ap (λ (cs : List Change). too_large 0 n.store.len cs) c.as_slice.ensures ∙ ap (λ (k : ℕ). too_large 0 k given) (c.args.self.now.stored.len c.requires.not_halted) ∙ c.requires.within in
+    let same : logged n.store.len c.args.changes.now ≡ kept = ap (λ (k : ℕ). logged k given) (c.args.self.now.stored.len c.requires.not_halted) in
+    let fits : too_large 0 n.store.len c.args.changes.now ≡ None = ap (λ (k : ℕ). too_large 0 k given) (c.args.self.now.stored.len c.requires.not_halted) ∙ c.requires.within in
     let newer = ap (λ (own : Version). version_lt own v) (c.args.self.now.stored.version c.requires.not_halted) ∙ ap (version_lt st.version) c.next_version-next.ensures ∙ next_is_newer st.version in
     handed_ends g.D.Disk c.from_residual.result e c.from_residual.ensures.1
     (known_call_failed g.D.Disk (held n) c.args.self.now.stored c.requires.not_halted n.store (reads_none g.D.Disk n.store.disk) (λ none. none) c.args.self.now.stored c.requires.not_halted later
@@ -61,7 +61,7 @@ returns-clause-ends g c = λ now call image.
     let kept = logged (length st.image) given in
     let only = is_alone st.cell st.me c.requires.alone st.place in
     let leads = written_alone (server_of st) (announced st) st.recovery now c.args.id call c.args.answer image given c.requires.serving (member_of st) only v c.next_version-next.ensures (no_own _ c.requires.free) (st.of_cell.servers ∙ c.requires.alone) in
-    let same : logged n.store.len c.as_slice.result.now ≡ kept = ap (λ (cs : List Change). logged n.store.len cs) c.as_slice.ensures ∙ ap (λ (k : ℕ). logged k given) (c.args.self.now.stored.len c.requires.not_halted) in
+    let same : logged n.store.len c.args.changes.now ≡ kept = ap (λ (k : ℕ). logged k given) (c.args.self.now.stored.len c.requires.not_halted) in
     let done : Commits g.D.Disk kept v n.store later = subst (λ (cs : List Change). Commits g.D.Disk cs v n.store later) same c.in_ok-commit_all.ensures.done in
     known_call_made g.D.Disk (held n) c.args.self.now.stored c.requires.not_halted n.store (reads_none g.D.Disk n.store.disk) (λ none. none) c.args.self.now.stored c.requires.not_halted later
     (Changed kept) v image (own_commit v given image (record { moment = now; call = call }))

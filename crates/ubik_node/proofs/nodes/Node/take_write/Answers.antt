@@ -31,8 +31,8 @@ returns-in_err-commit_all-clause-ends g c =
     let e = c.in_err-commit_all.field-0.0 in
     let later = c.commit_all.new.store in
     let kept = logged (length st.image) c.args.changes.now in
-    let same : logged n.store.len c.as_slice.result.now ≡ kept = ap (λ (cs : List Change). logged n.store.len cs) c.as_slice.ensures ∙ ap (λ (k : ℕ). logged k c.args.changes.now) (c.args.self.now.stored.len c.requires.not_halted) in
-    let fits : too_large 0 n.store.len c.as_slice.result.now ≡ None = ap (λ (cs : List Change). too_large 0 n.store.len cs) c.as_slice.ensures ∙ ap (λ (k : ℕ). too_large 0 k c.args.changes.now) (c.args.self.now.stored.len c.requires.not_halted) ∙ c.requires.fits in
+    let same : logged n.store.len c.args.changes.now ≡ kept = ap (λ (k : ℕ). logged k c.args.changes.now) (c.args.self.now.stored.len c.requires.not_halted) in
+    let fits : too_large 0 n.store.len c.args.changes.now ≡ None = ap (λ (k : ℕ). too_large 0 k c.args.changes.now) (c.args.self.now.stored.len c.requires.not_halted) ∙ c.requires.fits in
     let newer = ap (λ (own : Version). version_lt own v) (c.args.self.now.stored.version c.requires.not_halted) ∙ c.requires.may.newer in
     handed_ends g.D.Disk c.from_residual.result e c.from_residual.ensures.1
     (call_failed g.D.Disk (held n) c.args.self.now.stored c.requires.not_halted n.store (reads_none g.D.Disk n.store.disk) (λ none. none) c.args.self.now.stored c.requires.not_halted later
@@ -49,7 +49,7 @@ returns g c =
     let later = c.commit_all.new.store in
     let last = c.take_over.new.self in
     let kept = logged (length st.image) c.args.changes.now in
-    let same : logged n.store.len c.as_slice.result.now ≡ kept = ap (λ (cs : List Change). logged n.store.len cs) c.as_slice.ensures ∙ ap (λ (k : ℕ). logged k c.args.changes.now) (c.args.self.now.stored.len c.requires.not_halted) in
+    let same : logged n.store.len c.args.changes.now ≡ kept = ap (λ (k : ℕ). logged k c.args.changes.now) (c.args.self.now.stored.len c.requires.not_halted) in
     let done : Commits g.D.Disk kept v n.store later = subst (λ (cs : List Change). Commits g.D.Disk cs v n.store later) same c.in_ok-commit_all.ensures.done in
     let told_so = c.send.ensures.sent ∙ ap (λ (m : Member). c.args.out.now ++ outputs_of (sends_to m c.args.to (body.VersionKept v))) c.take_over.ensures.place in
     let long : length (effect st.image kept) ≡ length c.of.result =
