@@ -1,20 +1,23 @@
 -- A draft with the entries of the first image, and what is read of it in place of an empty one.
-use Rattle.std.proofs.Common.{◌≡◌, ℕ, ℤ, pos, negsuc, ◌+◌, ◌<◌, false, Bool, ◌&&◌, List, [], ◌∷◌, ◌++◌, length, take, drop, Option, Some, None, IfSome, IsSomeAnd, Result, Ok, Err, IfOk, IfErr, refl, sym, ap, subst, ◌∙◌, arith}
+use Rattle.std.proofs.Common.{◌≡◌, ℕ, ℤ, pos, negsuc, ◌+◌, ◌-◌, ◌/◌, ◌<◌, ◌≤◌, false, Bool, ◌&&◌, ltb, inl, inr, List, [], ◌∷◌, ◌++◌, length, take, drop, Option, Some, None, IfSome, IsSomeAnd, Result, Ok, Err, IfOk, IfErr, refl, sym, ap, subst, ◌∙◌, arith}
 use Rattle.std.specs.Option.{option_map}
 use Rattle.std.specs.Ordering.{int_eq}
+use Rattle.std.proofs.lemmas.Bool.{cases_Bool, ltb-false, ltb-true}
 use Rattle.std.proofs.lemmas.Int.{ints}
-use Rattle.std.proofs.lemmas.List.{length-append}
+use Rattle.std.proofs.lemmas.List.{drop_all, length-append}
 use Rattle.ubik_types.specs.Image.{changed, extended}
 use Rattle.ubik_types.specs.declared.images.Change.TheVariants.{Put}
 use Rattle.db_image.specs.declared.faults.RecordFault.{RecordFault}
 use Rattle.db_image.specs.declared.faults.RecordFault.TheVariants.{DiskFault, BadRecord, NoMemory}
+use Rattle.prdb_entries.specs.Blocks.{block_count}
 use Rattle.prdb_entries.specs.Bytes.{bits, word}
 use Rattle.prdb_entries.specs.RecordEnds.{HasCause}
-use Rattle.prdb_entries.specs.Records.{Holds, after_set_maxima, maxima_in, whole}
+use Rattle.prdb_entries.specs.Records.{Holds, after_set_maxima, block_in, block_place, maxima_in, whole}
 use Rattle.prdb_entries.specs.Registry.{Registry, AreMaxima, first_registry, with_maxima}
+use Rattle.prdb_entries.proofs.BlockPlaces.{put_maxima}
 use Rattle.prdb_entries.proofs.FirstImage.{empty_holds}
 use Rattle.prdb_entries.proofs.Held.{holds_maxima, maxima_of}
-use Rattle.entry_scans.specs.First.{HasTheFirst}
+use Rattle.entry_scans.specs.First.{HasFirstBlocks, HasTheFirst}
 
 -- ---- the first image with other maxima
 
@@ -53,10 +56,44 @@ one_some =
 one_has : HasTheFirst (after_set_maxima (pos 1) (negsuc 0) [])
 one_has = (one_some, λ r holds. (pos 1, negsuc 0, holds_maxima [] r (pos 1) (negsuc 0) holds one_max))
 
+-- and with its blocks
+no_block : (image : List ℕ) (k : ℕ) → length image ≡ block_place (block_count image) → block_count image ≤ k → block_in image k ≡ []
+unfolding block_in
+no_block image k size behind = ap (take 192) (drop_all (block_place k) image (omega (arith, size)))
+
+same_blocks : (old new : List ℕ) → length new ≡ length old → length old ≡ block_place (block_count old)
+    → ((j : ℕ) → j < block_count old → block_in new j ≡ block_in old j) → (k : ℕ) → block_in new k ≡ block_in old k
+same_blocks old new len size others k =
+    let count : block_count new ≡ block_count old = ap (λ (n : ℕ). (n - 2112) / 192) len in
+    elim (cases_Bool (ltb k (block_count old))) [
+      | inl below ↦ others k (ltb-true k (block_count old) below)
+      | inr not ↦
+          let behind = ltb-false k (block_count old) not in
+          no_block new k (omega (arith, len, size, count)) (omega (arith, behind, count)) ∙ sym (no_block old k size behind)
+    ]
+
+one_blocks : HasFirstBlocks (after_set_maxima (pos 1) (negsuc 0) [])
+one_blocks =
+    let laid = empty_holds.laid in
+    let first : maxima_in (whole []) ≡ (pos 0, negsuc 204) = maxima_of (whole []) first_registry laid empty_holds.valid.maxima in
+    let put = put_maxima (whole []) (pos 0) (negsuc 204) (pos 1) (negsuc 0) (block_count (whole [])) laid.size laid.head in
+    subst HasFirstBlocks (sym (set_others [] (pos 1) (negsuc 0) (pos 0) (negsuc 204) first refl)) (
+      put.size,
+      same_blocks (whole []) (changed (whole []) (Put 8 (word (bits (pos 1)) ++ word (bits (negsuc 0))))) put.size laid.size
+          put.others,
+    )
+
+made_of : (P : List ℕ → Type 0) (a b : Option (List ℕ)) → P (after_set_maxima (pos 1) (negsuc 0) []) → a ≡ Some []
+    → b ≡ option_map (after_set_maxima (pos 1) (negsuc 0)) a → IsSomeAnd b P
+made_of P a b is none one =
+    subst (λ (o : Option (List ℕ)). IsSomeAnd o P) (sym (one ∙ ap (option_map (after_set_maxima (pos 1) (negsuc 0))) none)) is
+
+pub first_blocks_has : (a b : Option (List ℕ)) → a ≡ Some [] → b ≡ option_map (after_set_maxima (pos 1) (negsuc 0)) a
+    → IsSomeAnd b HasFirstBlocks
+first_blocks_has a b none one = made_of HasFirstBlocks a b one_blocks none one
+
 pub first_has : (a b : Option (List ℕ)) → a ≡ Some [] → b ≡ option_map (after_set_maxima (pos 1) (negsuc 0)) a → IsSomeAnd b HasTheFirst
-first_has a b none one =
-    subst (λ (o : Option (List ℕ)). IsSomeAnd o HasTheFirst)
-    (sym (one ∙ ap (option_map (after_set_maxima (pos 1) (negsuc 0))) none)) one_has
+first_has a b none one = made_of HasTheFirst a b one_has none one
 
 -- it comes but for want of memory
 pub first_fault : (a : Option (List ℕ)) (fault : RecordFault) → a ≡ Some [] → HasCause a Holds fault → (fault ≡ DiskFault → ⊥)
@@ -77,7 +114,7 @@ pub first_some : (first : Option (List ℕ)) → IsSomeAnd first HasTheFirst →
 first_some None has = tt
 first_some (Some image) has = has.0
 
-empty_is : (image : List ℕ) → length image ≡ 0 → image ≡ []
+pub empty_is : (image : List ℕ) → length image ≡ 0 → image ≡ []
 empty_is [] none = refl
 empty_is (b ∷ image) none = absurd (omega arith)
 

@@ -19,11 +19,12 @@ laid_at image r some holds = subst (λ (i : List ℕ). IsLaidOut i r) (whole_sam
 
 -- ---- a block
 
-sought_parts : (test : PrEntry → Bool) (block : List ℕ) → is_sought test block ≡ true → (kind_of block ≡ 1) × (test (entry_in block) ≡ true)
+pub sought_parts : (test : PrEntry → Bool) (block : List ℕ) → is_sought test block ≡ true
+    → (kind_of block ≡ 1) × (test (entry_in block) ≡ true)
 sought_parts test block met =
     let p = and_parts (eqb (kind_of block) 1) (test (entry_in block)) met in (eqb-true (kind_of block) 1 p.0, p.1)
 
-sought_from : (test : PrEntry → Bool) (block : List ℕ) → kind_of block ≡ 1 → test (entry_in block) ≡ true → is_sought test block ≡ true
+pub sought_from : (test : PrEntry → Bool) (block : List ℕ) → kind_of block ≡ 1 → test (entry_in block) ≡ true → is_sought test block ≡ true
 sought_from test block kind met = and_from (eqb (kind_of block) 1) (test (entry_in block)) (eq-eqb (kind_of block) 1 kind) met
 
 -- the entry of a block that is sought is there

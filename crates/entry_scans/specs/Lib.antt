@@ -1,5 +1,6 @@
 pub mod First
 pub mod Found
 pub mod Lists
+pub mod Pages
 pub mod Sought
 pub mod Views

@@ -5,7 +5,7 @@ ghost use Rattle.prdb_entries.specs.RecordEnds.{HasCause, OnlyLooks};
 ghost use Rattle.prdb_entries.specs.Records.{Holds, block_in, block_place, kind_of};
 ghost use Rattle.prdb_entries.specs.Registry.{Registry};
 ghost use Rattle.prdb_entries.specs.State.{PrEntry};
-ghost use Rattle.entry_scans.specs.First.{HasTheFirst};
+ghost use Rattle.entry_scans.specs.First.{HasFirstBlocks, HasTheFirst};
 ghost use Rattle.entry_scans.specs.Found.{IsMetAt, TellsWhether};
 ghost use Rattle.entry_scans.specs.Lists.{IsAscending, IsListOf};
 ghost use Rattle.entry_scans.specs.Sought.{is_sought};
@@ -18,13 +18,13 @@ use prdb_entries::{draft_over, set_maxima};
 use std::alloc::Global;
 
 /// The length of an image's head, in bytes.
-const HEAD_LEN: u32 = 2112;
+pub(crate) const HEAD_LEN: u32 = 2112;
 
 /// The first word of an entry's block.
 const ENTRY: u32 = 1;
 
 /// The greatest first word of a block, which a continuation of an entry's pairs has.
-const MORE: u32 = 2;
+pub(crate) const MORE: u32 = 2;
 
 /// What is looked for among the entries.
 pub trait Sought {
@@ -36,7 +36,7 @@ pub trait Sought {
 }
 
 /// Whether a block is that of an entry which is looked for.
-fn is_sought<S: Sought>(sought: &S, block: &Block) -> bool
+pub(crate) fn is_sought<S: Sought>(sought: &S, block: &Block) -> bool
     ensures { result ≡ is_sought (S.test sought.now) block.now }
 {
     kind_of(block) == ENTRY && sought.is_met(entry_in(block))
@@ -115,8 +115,9 @@ fn scan_ids<I: ImageRead, S: Sought>(
 }
 
 /// A draft with the entries of the first image. Maxima that are set to what they are change nothing, so others are set.
-fn first_draft(alloc: Global) -> Result<Draft<VecImage>, RecordFault>
+pub(crate) fn first_draft(alloc: Global) -> Result<Draft<VecImage>, RecordFault>
     ensures entries { IfOk result (λ d. IsSomeAnd d.bytes HasTheFirst) }
+    ensures blocks { IfOk result (λ d. IsSomeAnd d.bytes HasFirstBlocks) }
     ensures len { IfOk result (λ d. d.len < 2 ^ 31) }
     ensures fault { IfErr result (λ fault. fault ≡ RecordFault.NoMemory) }
 {

@@ -3,6 +3,7 @@ ghost use Rattle.std.specs.Prelude.{◌≡◌, ◌+◌, ◌≤◌, ◌==◌, len
 ghost use Rattle.std.specs.List.{position, position_or_len};
 ghost use Rattle.prdb_entries.specs.Blocks.{block_name};
 ghost use Rattle.prdb_entries.specs.Records.{entry_in, kind_of, signed_at};
+ghost use Rattle.entry_scans.specs.Pages.{pair_count_in};
 ghost use Rattle.entry_scans.specs.Views.{viewed};
 
 use db_blocks::{Block, word_at};
@@ -19,6 +20,8 @@ const OWNER_AT: usize = 12;
 const CREATOR_AT: usize = 16;
 
 const QUOTA_AT: usize = 20;
+
+const PAIR_COUNT_AT: usize = 24;
 
 const NAME_AT: usize = 32;
 
@@ -76,7 +79,7 @@ fn block_name(block: &Block) -> &[u8]
 }
 
 /// The entry whose fields stand in a block.
-pub(crate) fn entry_in(block: &Block) -> EntryView<'_>
+pub fn entry_in(block: &Block) -> EntryView<'_>
     ensures { viewed result ≡ entry_in block.now }
 {
     EntryView {
@@ -87,4 +90,11 @@ pub(crate) fn entry_in(block: &Block) -> EntryView<'_>
         creator: signed_at(block, CREATOR_AT),
         quota: signed_at(block, QUOTA_AT),
     }
+}
+
+/// How many pairs an entry's block tells.
+pub fn pair_count_in(block: &Block) -> u32
+    ensures { result ≡ pair_count_in block.now }
+{
+    word_at(block, PAIR_COUNT_AT)
 }
