@@ -1,4 +1,3 @@
-pub mod Above
 pub mod Counted
 pub mod Ended
 pub mod Many

@@ -1,8 +1,11 @@
 -- A page of the entries that a call lists.
-use Rattle.std.specs.Prelude.{ℕ, ℤ, ◌≤◌, List, filter, length, map, take}
+use Rattle.std.specs.Prelude.{ℕ, ℤ, ◌≤◌, Bool, List, filter, length, map, take}
+use Rattle.prdb_entries.specs.Records.{entry_in}
 use Rattle.prdb_entries.specs.State.{PrEntry}
+use Rattle.entry_scans.specs.Pages.{pair_count_in}
 use Rattle.pt_calls.specs.declared.answers.PtEntry.{PtEntry}
-use Rattle.pt_service.specs.Meaning.{is_listed, told_of}
+use Rattle.pt_service.specs.Fitting.{entry_fits}
+use Rattle.pt_service.specs.Meaning.{is_listed, told, told_of}
 use Rattle.pt_service.specs.State.{State, entries}
 
 -- the entries of these kinds above an id, ascending
@@ -16,3 +19,11 @@ page_of s kinds after = map (told_of s) (take 100 (above s kinds after))
 -- an entry of an answer, whose name is that of an entry
 abbrev pub HasShortName : PtEntry → Type 0
 HasShortName e = length e.name ≤ 63
+
+-- the entry in a block, as an answer has it
+abbrev pub told_in : List ℕ → PtEntry
+told_in block = told (pair_count_in block) (entry_in block)
+
+-- a database may hold it
+abbrev pub fits_in : List ℕ → Bool
+fits_in block = entry_fits (entry_in block)

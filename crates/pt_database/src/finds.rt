@@ -1,8 +1,7 @@
 //! Entries and pairs as calls look for them, over a draft whose image may hold a state.
-ghost use Rattle.std.specs.Prelude.{◌≡◌, ◌≤◌, ◌<ℤ◌, IfSome, IfOk, IfErr, IsErrOf};
+ghost use Rattle.std.specs.Prelude.{◌≡◌, ◌≤◌, IfOk, IfErr, IsErrOf};
 ghost use Rattle.std.specs.Option.{option_map};
 ghost use Rattle.prdb_entries.specs.RecordEnds.{OnlyLooks, seen};
-ghost use Rattle.prdb_entries.specs.Registry.{IsNext};
 ghost use Rattle.prdb_members.specs.Ends.{HasItsCause};
 ghost use Rattle.pt_service.specs.Meaning.{told, told_of};
 ghost use Rattle.pt_service.specs.State.{pair_count};
@@ -29,22 +28,6 @@ pub fn entry_of<I: ImageRead>(
     ensures frame { OnlyLooks I.ImageRead d.old d.new (IsErrOf result RecordFault.DiskFault) }
 {
     pt_service::entry_of_id(alloc, d, id)
-}
-
-/// The entry with the least id above one.
-pub fn entry_behind<I: ImageRead>(
-    alloc: Global,
-    d: &mut Draft<I>,
-    after: i32,
-) -> Result<Option<PrEntry>, RecordFault>
-    requires { d.old.len ≤ 16777216 }
-    ensures found { IfOk result (λ found. OfStates d.old.bytes (λ s. IsNext s.registry after (option_map seen found))) }
-    ensures good { IfOk result IsGood }
-    ensures above { IfOk result (λ found. IfSome found (λ e. after <ℤ e.id)) }
-    ensures fault { IfErr result (HasItsCause d.old.bytes) }
-    ensures frame { OnlyLooks I.ImageRead d.old d.new (IsErrOf result RecordFault.DiskFault) }
-{
-    pt_service::entry_after(alloc, d, after)
 }
 
 /// Whether a user is in a group.
@@ -101,7 +84,6 @@ pub(crate) fn told_of<I: ImageRead>(
     requires len { d.old.len ≤ 16777216 }
     requires good { IsGood (Some e) }
     ensures found { IfOk result (λ told. OfStates d.old.bytes (λ s. told ≡ told_of s (seen e))) }
-    ensures id { IfOk result (λ told. told.id ≡ e.id) }
     ensures short { IfOk result HasShortName }
     ensures fault { IfErr result (HasItsCause d.old.bytes) }
     ensures frame { OnlyLooks I.ImageRead d.old d.new (IsErrOf result RecordFault.DiskFault) }

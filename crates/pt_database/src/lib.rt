@@ -5,7 +5,7 @@ mod finds;
 mod looks;
 mod pages;
 
-pub use finds::{entry_behind, entry_of, is_in};
+pub use finds::{entry_of, is_in};
 pub use looks::{
     get_cps, is_member_of, is_unknown, list_elements, list_entry, list_owned, pair_fault,
 };

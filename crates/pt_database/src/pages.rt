@@ -1,20 +1,24 @@
 //! The call that lists entries of a kind, over a draft.
-ghost use Rattle.std.specs.Prelude.{◌≡◌, ◌≤◌, IfOk, IfErr, IsErrOf, length};
+ghost use Rattle.std.specs.Prelude.{◌≡◌, ◌≤◌, true, IfOk, IfErr, IsErrOf, length, map};
 ghost use Rattle.std.specs.List.{AllByRecursion};
 ghost use Rattle.db_image.specs.Ends.{IsDecided};
-ghost use Rattle.prdb_entries.specs.RecordEnds.{OnlyLooks, seen};
+ghost use Rattle.prdb_entries.specs.RecordEnds.{OnlyLooks};
+ghost use Rattle.entry_scans.specs.Views.{viewed};
 ghost use Rattle.prdb_members.specs.Ends.{HasItsCause};
 ghost use Rattle.pt_calls.specs.declared.limits.TheConstants.{MAX_PAGE};
+ghost use Rattle.pt_service.specs.Fitting.{entry_fits};
 ghost use Rattle.pt_service.specs.Meaning.{are_kinds, is_of_kinds, page};
-ghost use Rattle.pt_database.specs.Pages.{HasShortName, page_of};
+ghost use Rattle.pt_database.specs.Ends.{IsUnless};
+ghost use Rattle.pt_database.specs.Pages.{HasShortName, fits_in, page_of, told_in};
 ghost use Rattle.pt_database.specs.States.{IsToldOf, OfStates};
 
-use crate::finds::{entry_behind, told_of};
+use db_blocks::Block;
 use db_image::{CallEnd, Draft, ImageRead, RecordFault};
-use prdb_entries::PrEntry;
+use entry_scans::{EntryView, Sought, entry_in, first_where, pair_count_in};
 use pt_calls::{Entries, Items, MAX_PAGE, PtAnswer, PtEntry};
-use pt_service::{BAD_ARGUMENT, is_group, tell};
+use pt_service::{BAD_ARGUMENT, is_group, is_id, is_name_of, tell};
 use std::alloc::Global;
+use ubik_types::bytes_of;
 
 /// What stands for users where kinds are asked for.
 const USERS: u32 = 1;
@@ -33,11 +37,71 @@ fn are_kinds(kinds: u32) -> bool
 }
 
 /// Whether an entry is of the kinds that a number names.
-fn is_of_kinds(kinds: u32, e: &PrEntry) -> bool
-    ensures { result ≡ is_of_kinds kinds (seen e.now) }
+fn is_of_kinds(kinds: u32, e: EntryView<'_>) -> bool
+    ensures { result ≡ is_of_kinds kinds (viewed e.entry) }
 {
     let kind = if is_group(e.id) { GROUPS } else { USERS };
     kinds & kind != 0
+}
+
+/// What a page lists: the entries of these kinds with an id above one.
+#[derive(Clone, Copy)]
+struct Listed {
+    kinds: u32,
+    after: i32,
+}
+
+impl Sought for Listed {
+    ghost use Rattle.pt_service.specs.Meaning.{is_listed};
+
+    ghost test = { λ s e. is_listed s.kinds s.after e };
+
+    fn is_met(&self, e: EntryView<'_>) -> bool {
+        e.id > self.after && is_of_kinds(self.kinds, e)
+    }
+}
+
+/// Whether an entry is one that a database may hold: its id is one, and its name has the form that the id wants.
+fn entry_fits(e: EntryView<'_>) -> bool
+    ensures { result ≡ entry_fits (viewed e.entry) }
+{
+    let group = is_group(e.id);
+    is_id(group, e.id) && is_name_of(group, e.name)
+}
+
+/// The entry in a block as an answer has it; a bad record at this position, where no database may hold it.
+fn told_in(alloc: Global, block: &Block, at: u32) -> Result<PtEntry, RecordFault>
+    ensures told { IfOk result (λ e. e ≡ told_in block.now) }
+    ensures short { IfOk result HasShortName }
+    ensures fault { IfErr result (IsUnless (fits_in block.now ≡ true)) }
+{
+    let e = entry_in(block);
+    if !entry_fits(e) {
+        return Err(RecordFault::BadRecord { at });
+    }
+    Ok(PtEntry {
+        flags: e.flags,
+        id: e.id,
+        owner: e.owner,
+        creator: e.creator,
+        quota: e.quota,
+        count: pair_count_in(block),
+        name: bytes_of(alloc, e.name)?,
+    })
+}
+
+/// The entries in blocks as an answer has them.
+fn entries_in(alloc: Global, blocks: &[Block], at: u32) -> Result<Vec<PtEntry>, RecordFault>
+    ensures told { IfOk result (λ entries. entries.items ≡ map told_in blocks.now) }
+    ensures short { IfOk result (λ entries. AllByRecursion HasShortName entries.items) }
+    ensures fault { IfErr result (IsUnless (AllByRecursion (λ b. fits_in b ≡ true) blocks.now)) }
+{
+    let mut entries = Vec::new(alloc);
+    for block in blocks {
+        let entry = told_in(alloc, block, at)?;
+        entries.push(entry)?;
+    }
+    Ok(entries)
 }
 
 /// The first hundred entries of these kinds with an id above one, ascending by it.
@@ -54,18 +118,9 @@ fn page<I: ImageRead>(
     ensures fault { IfErr result (HasItsCause d.old.bytes) }
     ensures frame { OnlyLooks I.ImageRead d.old d.new (IsErrOf result RecordFault.DiskFault) }
 {
-    let mut entries: Vec<PtEntry> = Vec::new(alloc);
-    let mut last = after;
-    while entries.len() < MAX_PAGE as usize {
-        let Some(e) = entry_behind(alloc, d, last)? else {
-            break;
-        };
-        last = e.id;
-        if is_of_kinds(kinds, &e) {
-            let entry = told_of(alloc, d, e)?;
-            entries.push(entry)?;
-        }
-    }
+    let wanted = Listed { kinds, after };
+    let blocks = first_where(alloc, d, &wanted, MAX_PAGE as usize)?;
+    let entries = entries_in(alloc, &blocks, d.len())?;
     Ok(Items::new(entries))
 }
 
