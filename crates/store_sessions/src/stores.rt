@@ -10,7 +10,7 @@ use disk_base::{Fill, MemDisk, Refused, StopDisk};
 use session_rows::{Fault, number_in};
 use std::alloc::Global;
 use ubik_store::{Store, StoreFault};
-use ubik_types::Version;
+use ubik_types::{Bytes, Change, Changes, Version, changes_new, changes_push};
 
 /// In which changing call a disk is to stop, and what is left.
 #[derive(Clone, Copy)]
@@ -130,6 +130,27 @@ fn call_begun(
     }
 }
 
+/// A change: `AT=BYTES` for a put, `cut=LEN` for a cut.
+fn change_of(names: &Names, word: &str) -> Result<Change, Fault> {
+    match word.split_once('=').ok_or(Fault::Form)? {
+        ("cut", len) => Ok(Change::Cut {
+            len: number_in(len)?,
+        }),
+        (at, bytes) => Ok(Change::Put {
+            at: number_in(at)?,
+            bytes: Bytes::new(names.bytes_of(bytes)?),
+        }),
+    }
+}
+
+fn changes_of(alloc: Global, names: &Names, words: &[&str]) -> Result<Changes, Fault> {
+    let mut changes = changes_new(alloc);
+    for word in words {
+        changes_push(&mut changes, change_of(names, word)?)?;
+    }
+    Ok(changes)
+}
+
 /// Makes a call of a store where none were.
 fn call_at_rest(
     alloc: Global,
@@ -143,6 +164,10 @@ fn call_at_rest(
         ["begin"] => {
             held.store.begin();
             Answer::text(alloc, "done")
+        }
+        ["commit", version, changes @ ..] => {
+            let changes = changes_of(alloc, names, changes)?;
+            ended(alloc, held.store.commit_all(&changes, version_of(version)?))
         }
         ["relabel", version] => ended(alloc, held.store.relabel(version_of(version)?)),
         ["install", bytes, version] => {
