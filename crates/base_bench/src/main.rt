@@ -7,6 +7,7 @@ mod frame_text;
 mod log_text;
 mod measures;
 mod store_commits;
+mod store_reads;
 mod xdr_text;
 
 use measures::{FIXED, Fault, HELP, Measure};

@@ -1,7 +1,7 @@
 //! What the program measures: by which words each measure is asked, and what is done for it.
 ghost use Rattle.std.specs.Prelude.{◌≢◌, IfErr};
 
-use crate::{disk_writes, frame_text, log_text, store_commits, xdr_text};
+use crate::{disk_writes, frame_text, log_text, store_commits, store_reads, xdr_text};
 use std::alloc::Global;
 use std::env::Args;
 use std::fmt;
@@ -24,6 +24,9 @@ one of
                                  with an image of at least 64 KiB, 200 a round
   openings KIBIBYTES TIMES       a store is opened over a committed log of
                                  blocks of at most 1024 KiB
+  reads ROUNDS                   64 pages of 1024 bytes, which a store keeps,
+                                 are read from it, once a round
+  copies ROUNDS                  as many bytes are copied, once a round
   --help                         tells this
 
 Without words it does each once at a small size. Each that is done is a line.
@@ -64,10 +67,18 @@ pub enum Measure {
         kibibytes: u16,
         times: u16,
     },
+    /// Reads of pages that a store keeps.
+    Reads {
+        rounds: u16,
+    },
+    /// Copies of as many bytes.
+    Copies {
+        rounds: u16,
+    },
 }
 
 /// Each measure at a small size.
-pub const FIXED: [Measure; 6] = [
+pub const FIXED: [Measure; 8] = [
     Measure::Xdr { kibibytes: 1 },
     Measure::Frame {
         kibibytes: 1,
@@ -91,6 +102,8 @@ pub const FIXED: [Measure; 6] = [
         kibibytes: 1,
         times: 1,
     },
+    Measure::Reads { rounds: 2 },
+    Measure::Copies { rounds: 2 },
 ];
 
 /// Why a measure was not done.
@@ -137,31 +150,33 @@ fn number(words: &mut Args) -> Option<u16> {
 impl Measure {
     /// The measure of this name, whose sizes are the next words; none where it has none of them.
     pub fn read(name: &str, words: &mut Args) -> Option<Measure> {
-        let kibibytes = number(words)?;
+        let first = number(words)?;
         match name {
-            "xdr" => Some(Measure::Xdr { kibibytes }),
+            "xdr" => Some(Measure::Xdr { kibibytes: first }),
             "frame" => Some(Measure::Frame {
-                kibibytes,
+                kibibytes: first,
                 writes: number(words)?,
                 reads: number(words)?,
             }),
             "log" => Some(Measure::Log {
-                kibibytes,
+                kibibytes: first,
                 writes: number(words)?,
                 reads: number(words)?,
             }),
             "disk" => Some(Measure::Disk {
-                kibibytes,
+                kibibytes: first,
                 rounds: number(words)?,
             }),
             "commits" => Some(Measure::Commits {
-                kibibytes,
+                kibibytes: first,
                 rounds: number(words)?,
             }),
             "openings" => Some(Measure::Openings {
-                kibibytes,
+                kibibytes: first,
                 times: number(words)?,
             }),
+            "reads" => Some(Measure::Reads { rounds: first }),
+            "copies" => Some(Measure::Copies { rounds: first }),
             _ => None,
         }
     }
@@ -188,17 +203,34 @@ impl Measure {
                 disk_writes::worn_disk(alloc, kibibytes, rounds)?;
                 true
             }
-            Measure::Commits { kibibytes, rounds } if kibibytes >= store_commits::LEAST => {
-                store_commits::commits(alloc, kibibytes, rounds).map_err(|_| Fault::Store)?;
-                true
-            }
-            Measure::Openings { kibibytes, times } if kibibytes <= store_commits::MOST => {
-                store_commits::openings(alloc, kibibytes, times).map_err(|_| Fault::Store)?;
+            Measure::Commits { .. }
+            | Measure::Openings { .. }
+            | Measure::Reads { .. }
+            | Measure::Copies { .. } => {
+                self.run_store(alloc)?;
                 true
             }
             _ => return Err(Fault::Words),
         };
         if same { Ok(()) } else { Err(Fault::Different) }
+    }
+
+    /// Does the work of a measure of stores.
+    fn run_store(self, alloc: Global) -> Result<(), Fault>
+        ensures { IfErr result (λ fault. fault ≢ Fault.Different) }
+    {
+        let ended = match self {
+            Measure::Commits { kibibytes, rounds } if kibibytes >= store_commits::LEAST => {
+                store_commits::commits(alloc, kibibytes, rounds)
+            }
+            Measure::Openings { kibibytes, times } if kibibytes <= store_commits::MOST => {
+                store_commits::openings(alloc, kibibytes, times)
+            }
+            Measure::Reads { rounds } => store_reads::reads(alloc, rounds),
+            Measure::Copies { rounds } => return Ok(store_reads::copies(alloc, rounds)?),
+            _ => return Err(Fault::Words),
+        };
+        ended.map_err(|_| Fault::Store)
     }
 }
 
@@ -237,6 +269,11 @@ impl fmt::Display for Measure {
             Measure::Openings { kibibytes, times } => {
                 write!(f, "openings over a log of {kibibytes} KiB: {times}")
             }
+            Measure::Reads { rounds } => write!(
+                f,
+                "reads of 64 KiB that are kept: rounds {rounds}"
+            ),
+            Measure::Copies { rounds } => write!(f, "copies of 64 KiB: rounds {rounds}"),
         }
     }
 }

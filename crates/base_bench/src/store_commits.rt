@@ -87,14 +87,18 @@ fn commit_often<D: Disk>(store: &mut Store<D>, times: u32) -> Result<(), StoreFa
 }
 
 /// So many zero bytes.
-fn zero_bytes(alloc: Global, len: usize) -> Result<Vec<u8>, NoMemory>
+pub fn zero_bytes(alloc: Global, len: usize) -> Result<Vec<u8>, NoMemory>
     ensures { IfOk result (λ bytes. bytes.items ≡ replicate len 0) }
 {
     Ok(vec![in alloc; 0u8; len]?)
 }
 
 /// A store on an empty disk, of an image of so many zero bytes.
-fn filled_store<D: Disk + Drop>(alloc: Global, disk: D, len: usize) -> Result<Store<D>, StoreFault>
+pub fn filled_store<D: Disk + Drop>(
+    alloc: Global,
+    disk: D,
+    len: usize,
+) -> Result<Store<D>, StoreFault>
     requires settled { IsSettled (D.files disk) (D.may_leave disk) }
     ensures sound { IfOk result (IsSound D.Disk) }
     ensures none { IfOk result (λ store. store.begun ≡ None) }
