@@ -16,7 +16,7 @@ use Rattle.chained_records.specs.Chained.{Visits}
 
 -- ---- lists
 
-not_among : (P : ℕ → Type 0) (n : ℕ) (ws : List ℕ) → ((w : ℕ) → Contains ws w → P w) → (P n → ⊥) → AllByRecursion (λ v. v ≢ n) ws
+pub not_among : (P : ℕ → Type 0) (n : ℕ) (ws : List ℕ) → ((w : ℕ) → Contains ws w → P w) → (P n → ⊥) → AllByRecursion (λ v. v ≢ n) ws
 not_among P n [] all never = tt
 not_among P n (w ∷ ws) all never = (
   λ same. never (subst P same (all w (0, omega arith, refl))),

@@ -31,7 +31,7 @@ use Rattle.chained_records.proofs.Taken.{IsBase, is_base}
 has_own : (a b c : ℕ) → 0 < a → (not (eqb a 0) && (eqb a a || eqb b a || eqb c a)) ≡ true
 has_own a b c low = rw (not_zero a low, eq-eqb a a refl) refl
 
-own_id : (e : VlEntry) → IsRecord e → has_id e.rw e ≡ true
+pub own_id : (e : VlEntry) → IsRecord e → has_id e.rw e ≡ true
 own_id e is = has_own e.rw e.ro e.backup is.rw_low
 
 -- no entry has the read-write id of one that may come in
@@ -61,18 +61,18 @@ entry_back s e f x at =
 
 -- ---- blocks
 
-unlinked_form : (addresses : List ℕ) (e : VlEntry) → IsRecord e → unlinked (block_of addresses e) ≡ block_of addresses e
+pub unlinked_form : (addresses : List ℕ) (e : VlEntry) → IsRecord e → unlinked (block_of addresses e) ≡ block_of addresses e
 unfolding unlinked block_of words zeros laid
 unlinked_form addresses e is =
     let size = length-block addresses e is in
     changed_laid (block_of addresses e) (zeros 16) 36 (omega (arith, size)) ∙ refl
 
-form_same : (addresses : List ℕ) (e f : VlEntry) → IsRecord e → All (λ site. Contains addresses site.host) e.sites → IsRecord f
+pub form_same : (addresses : List ℕ) (e f : VlEntry) → IsRecord e → All (λ site. Contains addresses site.host) e.sites → IsRecord f
     → All (λ site. Contains addresses site.host) f.sites → block_of addresses e ≡ block_of addresses f → e ≡ f
 form_same addresses e f is_e in_e is_f in_f same =
     sym (entry_again addresses e is_e in_e) ∙ ap (entry_in addresses) same ∙ entry_again addresses f is_f in_f
 
-not_free : (addresses image : List ℕ) (j : ℕ) (f : VlEntry) → IsWhole 3132 image → j < blocks_in image → IsFree (block_at image j)
+pub not_free : (addresses image : List ℕ) (j : ℕ) (f : VlEntry) → IsWhole 3132 image → j < blocks_in image → IsFree (block_at image j)
     → unlinked (block_at image j) ≡ block_of addresses f → ⊥
 not_free addresses image j f whole below free form =
     let size = block_len image j whole below in
@@ -435,7 +435,7 @@ laid_inserted s e old base n k valid is may lies b number next =
     (laid_after s e old base k n new b number done stage
     (stage.kept.head ∙ b.head ∙ head_entered s e (blocks_in base) ∙ ap (head_of (with_entered 0 e s)) count))
 
-whole_short : (image : List ℕ) → length image < 2 ^ 31 → length (whole image) < 2 ^ 31 + 2 ^ 19
+pub whole_short : (image : List ℕ) → length image < 2 ^ 31 → length (whole image) < 2 ^ 31 + 2 ^ 19
 whole_short [] short = omega (arith, ap length (whole_empty [] refl), length-head first_location 0 refl)
 whole_short (b ∷ bytes) short = omega (arith, ap length (whole_same (b ∷ bytes) (omega arith)))
 

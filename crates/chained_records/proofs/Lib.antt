@@ -7,7 +7,12 @@ pub mod HeadTold
 pub mod Held
 pub mod InsertClauses
 pub mod Inserted
+pub mod Kept
+pub mod Leaving
+pub mod Left
 pub mod Lookups
+pub mod RemoveClauses
+pub mod Removed
 pub mod Stages
 pub mod Stays
 pub mod Taken

@@ -12,18 +12,19 @@ use Rattle.db_image.specs.declared.images.ImageRead.{Ghosts}
 use Rattle.db_image.proofs.ReadSteps.{asks_none, asks_then}
 use Rattle.db_image.specs.declared.faults.RecordFault.{RecordFault}
 use Rattle.db_image.specs.declared.faults.RecordFault.TheVariants.{DiskFault, BadRecord, NoMemory}
-use Rattle.db_blocks.specs.Blocks.{block_in, word_at}
+use Rattle.db_blocks.specs.Blocks.{block_in, block_place, word_at}
 use Rattle.db_blocks.specs.Ends.{HasCause}
 use Rattle.db_chains.specs.declared.links.Links.{Links}
 use Rattle.db_chains.specs.declared.walks.Link.{Link}
 use Rattle.db_chains.specs.Chains.{HasChain}
 use Rattle.db_chains.specs.Changes.{IsPlaced}
 use Rattle.db_chains.specs.Ends.{CostsAtMost, HasSome}
-use Rattle.db_chains.specs.Links.{block_of}
+use Rattle.db_chains.specs.Free.{IsNumber}
+use Rattle.db_chains.specs.Links.{AreLinks, block_of}
 use Rattle.db_chains.specs.Walks.{IsFound, first_met, meets, stop_place}
 use Rattle.db_chains.proofs.Words.{right_names}
 use Rattle.vldb_chains.specs.Keys.{id_chain, id_key, name_chain, name_key}
-use Rattle.vldb_chains.specs.Places.{id_links, name_links}
+use Rattle.vldb_chains.specs.Places.{free_blocks, id_links, name_links}
 use Rattle.vldb_records.specs.declared.entries.VlEntry.{VlEntry}
 use Rattle.vldb_records.specs.Location.{Location, IsNamed, IsOfId, has_id}
 use Rattle.vldb_records.specs.Records.{addresses_in, block_at, blocks_in, entry_in, has_id_in, has_name, kind_of, name_in, whole}
@@ -152,10 +153,11 @@ named (Some image) name (Some e) is = λ s holds. name_some image s name is.0 e 
 
 -- ---- by id
 
-id_kind : (id : ℕ) (block : List ℕ) → has_id_in id block ≡ true → kind_of block ≡ 1
+pub id_kind : (id : ℕ) (block : List ℕ) → has_id_in id block ≡ true → kind_of block ≡ 1
 id_kind id block e = eqb-true (kind_of block) 1 (and_parts (eqb (kind_of block) 1) _ e).0
 
-id_again : (s : Location) (id rw_id : ℕ) (e : VlEntry) (image block : List ℕ) → Holds image s → s.entry rw_id ≡ Some e → length block ≡ 192
+pub id_again : (s : Location) (id rw_id : ℕ) (e : VlEntry) (image block : List ℕ) → Holds image s → s.entry rw_id ≡ Some e
+    → length block ≡ 192
     → unlinked block ≡ form_of s.addresses e → has_id_in id block ≡ has_id id e
 id_again s id rw_id e image block holds at size form =
     let valid = holds.valid.records rw_id e at in
@@ -265,6 +267,30 @@ ok_in_chain (Err fault) bytes l test at len told more found first = tt
 ok_in_chain (Ok link) None l test at len told more found first = tt
 ok_in_chain (Ok link) (Some image) l test at len told more found first =
     subst (λ (i : List ℕ). IsInChain l test at i link) (sym (whole_same image (omega arith))) (in_chain image l test at link found first)
+
+-- where a walk ended
+pub ok_exact : (r : Result (Option Link) RecordFault) (bytes : Option (List ℕ)) (l : Links) (test : ℕ → List ℕ → Bool) (at len : ℕ)
+    → IfSome bytes (λ image. length image ≡ len) → 0 < len
+    → IfOk r (λ link. IfSome bytes (λ image. IsFound l test image (stop_place l test image at) link))
+    → IfOk r (λ link. IfSome bytes (λ image. IfSome link (λ f. f.word ≡ word_at (whole image) (stop_place l test (whole image) at))))
+ok_exact (Err fault) bytes l test at len told more found = tt
+ok_exact (Ok link) None l test at len told more found = tt
+ok_exact (Ok None) (Some image) l test at len told more found = tt
+ok_exact (Ok (Some f)) (Some image) l test at len told more found =
+    subst (λ (i : List ℕ). f.word ≡ word_at i (stop_place l test i at)) (sym (whole_same image (omega arith))) found.0.word
+
+pub none_exact : (bytes : Option (List ℕ)) → IfSome bytes (λ image. Unit {0})
+none_exact None = tt
+none_exact (Some image) = tt
+
+-- the number of the block that a word names
+pub ok_number : (r : Result (Option Link) RecordFault) (l : Links) (len count : ℕ) → AreLinks l → l.head ≡ 3132
+    → len ≡ block_place l.head count → IfOk r (λ link. IfSome link (λ f. IsPlaced l len f.word))
+    → IfOk r (λ link. IfSome link (λ f. IsNumber free_blocks len (f.word / l.step)))
+ok_number (Err fault) l len count links head size placed = tt
+ok_number (Ok None) l len count links head size placed = tt
+ok_number (Ok (Some f)) l len count links head size placed =
+    record { some = placed.some; within = omega (arith, placed.some, placed.within, links.mark, head, size) }
 
 -- the empty image has nothing in a chain
 pub empty_none : (bytes : Option (List ℕ)) (len : ℕ) (l : Links) (test : ℕ → List ℕ → Bool) (at : ℕ)

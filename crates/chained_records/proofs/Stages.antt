@@ -79,19 +79,19 @@ right_here l k w base image own kept head mark block kind =
 
 -- ---- places of chains
 
-names_apart : (a b : ℕ) → a ≢ b → AreApart (name_place a) (name_place b)
+pub names_apart : (a b : ℕ) → a ≢ b → AreApart (name_place a) (name_place b)
 names_apart a b other =
     ⊎_elim (λ (same : a ≡ b). absurd (other same))
     (λ (order : (a < b) ⊎ (b < a)). ⊎_elim (λ (less : a < b). inl (omega arith)) (λ (more : b < a). inr (omega arith)) order)
     (cases_order a b)
 
-ids_apart : (a b : ℕ) → a ≢ b → AreApart (id_place a) (id_place b)
+pub ids_apart : (a b : ℕ) → a ≢ b → AreApart (id_place a) (id_place b)
 ids_apart a b other =
     ⊎_elim (λ (same : a ≡ b). absurd (other same))
     (λ (order : (a < b) ⊎ (b < a)). ⊎_elim (λ (less : a < b). inl (omega arith)) (λ (more : b < a). inr (omega arith)) order)
     (cases_order a b)
 
-names_ids : (a b : ℕ) → a < 256 → b < 256 → AreOtherSorts name_links id_links (name_place a) (id_place b)
+pub names_ids : (a b : ℕ) → a < 256 → b < 256 → AreOtherSorts name_links id_links (name_place a) (id_place b)
 names_ids a b low_a low_b = record {
   head = refl;
   next = inl (omega arith);
@@ -100,7 +100,7 @@ names_ids a b low_a low_b = record {
   second = inl (omega arith);
 }
 
-ids_names : (a b : ℕ) → a < 256 → b < 256 → AreOtherSorts id_links name_links (id_place a) (name_place b)
+pub ids_names : (a b : ℕ) → a < 256 → b < 256 → AreOtherSorts id_links name_links (id_place a) (name_place b)
 ids_names a b low_a low_b = record {
   head = refl;
   next = inr (omega arith);
@@ -109,7 +109,7 @@ ids_names a b low_a low_b = record {
   second = inl (omega arith);
 }
 
-names_free : (a : ℕ) → a < 256 → AreOtherSorts name_links (free_links free_blocks) (name_place a) 16
+pub names_free : (a : ℕ) → a < 256 → AreOtherSorts name_links (free_links free_blocks) (name_place a) 16
 names_free a low = record {
   head = refl;
   next = inr (omega arith);
@@ -118,7 +118,7 @@ names_free a low = record {
   second = inl (omega arith);
 }
 
-ids_free : (a : ℕ) → a < 256 → AreOtherSorts id_links (free_links free_blocks) (id_place a) 16
+pub ids_free : (a : ℕ) → a < 256 → AreOtherSorts id_links (free_links free_blocks) (id_place a) 16
 ids_free a low = record {
   head = refl;
   next = inr (omega arith);

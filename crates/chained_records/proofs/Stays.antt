@@ -59,7 +59,7 @@ unfolding unlinked_head
 unlinked_first xs b size len = ap (blanked 1084 2048) (covered xs b 16 16 4 (omega arith) (omega arith) (omega arith))
 
 -- two blocks with the same bytes but for the words of chains
-unlinked_same : (a b : List ℕ) → length a ≡ 192 → length b ≡ 192
+pub unlinked_same : (a b : List ℕ) → length a ≡ 192 → length b ≡ 192
     → ((i : ℕ) → i < 192 → (i < 36) ⊎ (52 ≤ i) → slice_index a i ≡ slice_index b i) → unlinked a ≡ unlinked b
 unfolding unlinked
 unlinked_same a b size_a size_b same =
@@ -117,7 +117,7 @@ keeps_then k a b c first second =
       forms = λ j less. second.forms j (omega arith) ∙ first.forms j less;
     }
 
-keeps_head : (k p v : ℕ) (image : List ℕ) → IsWhole 3132 image → 1084 ≤ p → p + 4 ≤ 3132 → KeepsForms k image (put_word p v image)
+pub keeps_head : (k p v : ℕ) (image : List ℕ) → IsWhole 3132 image → 1084 ≤ p → p + 4 ≤ 3132 → KeepsForms k image (put_word p v image)
 unfolding put_word
 keeps_head k p v image whole from below =
     let head = take 3132 image in
@@ -129,7 +129,7 @@ keeps_head k p v image whole from below =
       forms = λ j less. ap unlinked (put.others j less);
     }
 
-keeps_block : (k o v : ℕ) (image : List ℕ) → IsWhole 3132 image → k < blocks_in image → 36 ≤ o → o + 4 ≤ 52
+pub keeps_block : (k o v : ℕ) (image : List ℕ) → IsWhole 3132 image → k < blocks_in image → 36 ≤ o → o + 4 ≤ 52
     → KeepsForms k image (put_word (block_place 3132 k + o) v image)
 keeps_block k o v image whole within from below =
     let p = block_place 3132 k + o in

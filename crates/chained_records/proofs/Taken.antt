@@ -51,13 +51,13 @@ pub record IsBase (s : Location) (e : VlEntry) (old : List ℕ) (n : ℕ) (base 
 
 -- ---- the free blocks
 
-free_all : AreFree free_blocks
+pub free_all : AreFree free_blocks
 free_all = record { links = free_are; first = omega arith; count = omega arith; apart = inr (omega arith); mark = omega arith }
 
-names_not_free : AreNotFree free_blocks name_links
+pub names_not_free : AreNotFree free_blocks name_links
 names_not_free = record { links = name_are; head = refl; mark = λ same. omega arith }
 
-ids_not_free : AreNotFree free_blocks id_links
+pub ids_not_free : AreNotFree free_blocks id_links
 ids_not_free = record { links = ids_are; head = refl; mark = λ same. omega arith }
 
 -- the block of a word of their chain is free

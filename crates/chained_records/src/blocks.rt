@@ -79,7 +79,7 @@ fn text_len(field: &[u8]) -> usize
 
 /// The name in an entry's block.
 #[tactic(auto, unfolding(vldb_records::specs::Records::name_in))]
-fn name_in(block: &Block) -> &[u8]
+pub(crate) fn name_in(block: &Block) -> &[u8]
     ensures { result.now ≡ name_in block.now }
 {
     let field = &block[NAME_AT..NAME_AT + NAME_FIELD];

@@ -1,14 +1,16 @@
 //! Entries, found by the one chain of a name or an id.
-ghost use Rattle.std.specs.Prelude.{◌≡◌, ◌+◌, ◌*◌, ◌<◌, ◌≤◌, ◌^◌, ℕ, List, IfSome, IfOk, IfErr, IsErrOf, length};
+ghost use Rattle.std.specs.Prelude.{◌≡◌, ◌+◌, ◌*◌, ◌/◌, ◌<◌, ◌≤◌, ◌^◌, ℕ, List, IfSome, IfOk, IfErr, IsErrOf, length};
+ghost use Rattle.db_blocks.specs.Blocks.{word_at};
 ghost use Rattle.db_blocks.specs.Ends.{HasCause, OnlyLooks};
 ghost use Rattle.db_blocks.specs.declared.blocks.TheConstants.{BLOCK_LEN};
 ghost use Rattle.db_chains.specs.Chains.{HasChain};
-ghost use Rattle.db_chains.specs.Ends.{CostsAtMost, HasSome, IsBadWhere};
+ghost use Rattle.db_chains.specs.Ends.{CostsAtMost, HasSome, IsBadWhere, walk_cost};
+ghost use Rattle.db_chains.specs.Free.{IsNumber};
 ghost use Rattle.db_chains.specs.Links.{AreLinks};
-ghost use Rattle.db_chains.specs.Walks.{IsBad};
+ghost use Rattle.db_chains.specs.Walks.{IsBad, stop_place};
 ghost use Rattle.db_chains.specs.declared.links.Links.{Links};
 ghost use Rattle.vldb_chains.specs.Keys.{id_chain, name_chain};
-ghost use Rattle.vldb_chains.specs.Places.{id_links, name_links};
+ghost use Rattle.vldb_chains.specs.Places.{free_blocks, id_links, name_links};
 ghost use Rattle.vldb_records.specs.Location.{IsNamed, IsOfId, IsSmall, Location};
 ghost use Rattle.vldb_records.specs.Records.{has_id_in, has_name, whole};
 ghost use Rattle.chained_records.specs.Chained.{Holds};
@@ -27,7 +29,7 @@ use vldb_chains::{id_chain, id_links, name_chain, name_links};
 use vldb_records::VlEntry;
 
 /// The first block of a chain that is what is looked for; an empty draft has none.
-fn find_link<I: ImageRead>(
+pub(crate) fn find_link<I: ImageRead>(
     d: &mut Draft<I>,
     links: Links,
     at: u32,
@@ -38,6 +40,9 @@ fn find_link<I: ImageRead>(
     requires at { at + WORD_LEN ≤ HEAD_LEN }
     requires len { d.old.len < 2 ^ 31 }
     ensures found { IfOk result (λ link. IfSome d.old.bytes (λ image. IsInChain links (is_sought sought.entry) at (whole image) link)) }
+    ensures exact { IfOk result (λ link. IfSome d.old.bytes (λ image. IfSome link (λ f.
+        f.word ≡ word_at (whole image) (stop_place links (is_sought sought.entry) (whole image) at)))) }
+    ensures number { IfOk result (λ link. IfSome link (λ f. IsNumber free_blocks d.old.len (f.word / links.step))) }
     ensures told { IfSome d.old.bytes (λ image. length image ≡ d.old.len) }
     ensures within { IfOk result (λ link. IfSome link (λ f. HEAD_LEN ≤ d.old.len)) }
     ensures bad { IfErr result (IsBadWhere d.old.bytes (λ image. IsBad links (is_sought sought.entry) at (whole image))) }
@@ -45,6 +50,7 @@ fn find_link<I: ImageRead>(
     ensures frame { OnlyLooks I.ImageRead d.old d.new (IsErrOf result RecordFault.DiskFault) }
     ensures cost { IfSome d.old.bytes (λ image. (ws : List ℕ) → HasChain links (whole image) at ws
         → CostsAtMost I.ImageRead (WORD_LEN + BLOCK_LEN * length ws) d.old d.new) }
+    ensures most { CostsAtMost I.ImageRead (walk_cost links d.old.len) d.old d.new }
 {
     if d.len() == 0 {
         return Ok(None);

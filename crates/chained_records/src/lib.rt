@@ -10,9 +10,11 @@ mod heads;
 mod inserts;
 mod laws;
 mod layout;
+mod removes;
 
 pub use changes::{set_addresses, set_next_volume};
 pub use finds::{find_id, find_name};
 pub use heads::{addresses, next_volume};
 pub use inserts::insert;
 pub use laws::law_empty_image_holds_the_first;
+pub use removes::remove;

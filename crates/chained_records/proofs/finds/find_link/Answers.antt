@@ -1,4 +1,4 @@
-use Rattle.std.proofs.Common.{◌≡◌, ℕ, ◌+◌, ◌*◌, List, IfSome, length, refl, arith}
+use Rattle.std.proofs.Common.{◌≡◌, ℕ, ◌+◌, ◌*◌, List, IfSome, length, refl, sym, ◌∙◌, arith}
 use Rattle.std.proofs.lemmas.Result.{err_from_is_err_and}
 use Rattle.db_chains.specs.Chains.{HasChain}
 use Rattle.db_chains.specs.Ends.{CostsAtMost, HasSome}
@@ -6,13 +6,16 @@ use Rattle.db_chains.specs.Walks.{IsBad}
 use Rattle.db_chains.proofs.Ended.{bad_cause, bad_count}
 use Rattle.chained_records.specs.Sought.{is_sought}
 use Rattle.chained_records.proofs.HeadTold.{bad_whole, cause_whole, err_bad_whole, err_cause_whole, told_whole}
-use Rattle.chained_records.proofs.Lookups.{costs_free, empty_none, ok_in_chain, ok_within}
+use Rattle.chained_records.proofs.Lookups.{costs_free, empty_none, none_exact, ok_exact, ok_in_chain, ok_number, ok_within}
 use Rattle.chained_records.proofs.finds.find_link.Goals as goal
 
 pub returns-then-len-eq0-clause-found : goal.returns-then-len-eq0-clause-found
 returns-then-len-eq0-clause-found g c =
     empty_none c.args.d.now.bytes c.len.result c.args.links (is_sought c.args.sought) c.args.at (rw c.len.ensures.size c.len.ensures.told)
     c.if-len-eq0.true c.requires.head
+
+pub returns-then-len-eq0-clause-exact : goal.returns-then-len-eq0-clause-exact
+returns-then-len-eq0-clause-exact g c = none_exact c.args.d.now.bytes
 
 pub returns-then-len-eq0-clause-cost : goal.returns-then-len-eq0-clause-cost
 returns-then-len-eq0-clause-cost g c =
@@ -46,6 +49,16 @@ returns-clause-found g c =
     ok_in_chain c.find.result c.args.d.now.bytes c.args.links (is_sought c.args.sought) c.args.at c.len.result
     (rw c.len.ensures.size c.len.ensures.told) (omega arith)
     c.find.ensures.exact c.find.ensures.found
+
+pub returns-clause-exact : goal.returns-clause-exact
+returns-clause-exact g c =
+    ok_exact c.find.result c.args.d.now.bytes c.args.links (is_sought c.args.sought) c.args.at c.len.result
+    (rw c.len.ensures.size c.len.ensures.told) (omega arith) c.find.ensures.exact
+
+pub returns-clause-number : goal.returns-clause-number
+returns-clause-number g c =
+    ok_number c.find.result c.args.links c.args.d.now.len c.in_ok-block_count.field-0 c.requires.links c.requires.head
+    (sym c.len-2.ensures.size ∙ c.in_ok-block_count.ensures.count) c.find.ensures.placed
 
 pub returns-clause-within : goal.returns-clause-within
 returns-clause-within g c = ok_within c.find.result c.args.links _ c.requires.head c.find.ensures.placed
