@@ -48,7 +48,7 @@ abbrev pub AreInOne : (M : ℕ → ℕ → Type 0) → Type 0
 AreInOne M = (a b w : ℕ) → M a w → M b w → a ≡ b
 
 -- two words of ids stand apart
-words_apart : (v w : ℕ) → 0 < v / 4 → 0 < w / 4 → v % 4 < 3 → w % 4 < 3 → v ≢ w
+pub words_apart : (v w : ℕ) → 0 < v / 4 → 0 < w / 4 → v % 4 < 3 → w % 4 < 3 → v ≢ w
     → IsApart (next_place id_links v) 4 (next_place id_links w)
 words_apart v w some_v some_w kind_v kind_w other =
     blocks_apart 3132 (v / 4 - 1) (w / 4 - 1) (40 + 4 * (v % 4)) (40 + 4 * (w % 4)) (omega arith) (omega arith)

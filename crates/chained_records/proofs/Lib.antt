@@ -12,7 +12,12 @@ pub mod Leaving
 pub mod Left
 pub mod Lookups
 pub mod RemoveClauses
+pub mod Moves
+pub mod Moving
 pub mod Removed
+pub mod ReplaceClauses
+pub mod Replaced
 pub mod Stages
 pub mod Stays
 pub mod Taken
+pub mod Written

@@ -59,7 +59,7 @@ looks_on g most a b failed looks cost =
 
 -- ---- faults
 
-there : {X : Type 0} (o : Option X) → IsSome o → (x : X) × (o ≡ Some x)
+pub there : {X : Type 0} (o : Option X) → IsSome o → (x : X) × (o ≡ Some x)
 there None some = absurd cc
 there (Some x) some = (x, refl)
 
@@ -84,7 +84,7 @@ entry_chains : (n : ℕ) (block image : List ℕ) (h : HasEntry n block image)
     → IsIn (IsUnused h.state image) image (IsNameWord h.state image) (IsIdWord h.state image) n block
 entry_chains n block image h = is_in h.state image n h.entry block h.valid h.laid (omega (arith, h.short)) h.number h.bytes
 
-has_name : (n : ℕ) (block image : List ℕ) → HasEntry n block image → HasWord name_links (name_chain (name_in block)) n image
+pub has_name : (n : ℕ) (block image : List ℕ) → HasEntry n block image → HasWord name_links (name_chain (name_in block)) n image
 has_name n block image h =
     let i = entry_chains n block image h in
     name_there (IsUnused h.state image) h.laid.free.words image (IsNameWord h.state image) (IsIdWord h.state image) image
@@ -187,7 +187,7 @@ has_own : (image : List ℕ) (s : Location) (own : ℕ) (f : VlEntry) → Holds 
 has_own image s own f holds at =
     subst (λ (i : ℕ). has_id i f ≡ true) (holds.valid.ids own f at) (own_id f (holds.valid.records own f at))
 
-entry_of : (image : List ℕ) (s : Location) (own : ℕ) (f : VlEntry) (link : Link) → Holds image s → s.entry own ≡ Some f
+pub entry_of : (image : List ℕ) (s : Location) (own : ℕ) (f : VlEntry) (link : Link) → Holds image s → s.entry own ≡ Some f
     → IsFoundBy own image (Some link) → IsNumberOf s (whole image) (link.word / 4) f
 entry_of image s own f link holds at found =
     let old = whole image in

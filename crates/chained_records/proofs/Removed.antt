@@ -41,7 +41,7 @@ use Rattle.std.proofs.lemmas.Grind.{same_number_lists}
 
 -- ---- the words of a state's chains
 
-number_same : (s : Location) (old : List ℕ) (n : ℕ) (f g : VlEntry) → IsLocation s → IsNumberOf s old n f → IsNumberOf s old n g → f ≡ g
+pub number_same : (s : Location) (old : List ℕ) (n : ℕ) (f g : VlEntry) → IsLocation s → IsNumberOf s old n f → IsNumberOf s old n g → f ≡ g
 number_same s old n f g valid a b =
     form_same s.addresses f g (valid.records f.rw f a.block.0) (valid.hosts f.rw f a.block.0) (valid.records g.rw g b.block.0)
     (valid.hosts g.rw g b.block.0) (sym a.block.1 ∙ b.block.1)
@@ -59,7 +59,7 @@ unused_are s old lies short = record {
   kind = λ w u. u.2;
 }
 
-id_told : (s : Location) (e : VlEntry) (block : List ℕ) (kind : ℕ) → IsLocation s → s.entry e.rw ≡ Some e → length block ≡ 192
+pub id_told : (s : Location) (e : VlEntry) (block : List ℕ) (kind : ℕ) → IsLocation s → s.entry e.rw ≡ Some e → length block ≡ 192
     → unlinked block ≡ block_of s.addresses e → kind < 3 → id_in kind block ≡ id_of kind e
 id_told s e block zero valid at size form low =
     number_stays block 8 size (omega arith) ∙ ap (λ (b : List ℕ). word_at b 8) form

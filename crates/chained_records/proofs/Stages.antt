@@ -55,7 +55,7 @@ visits_as l image at P Q there back v = record {
 
 -- ---- a word of the block may stand in a chain
 
-right_from : (l : Links) (image : List ℕ) (count w : ℕ) → block_count l.head image ≡ count → 0 < w / l.step → w / l.step ≤ count
+pub right_from : (l : Links) (image : List ℕ) (count w : ℕ) → block_count l.head image ≡ count → 0 < w / l.step → w / l.step ≤ count
     → w % l.step < l.kinds → word_at image (mark_place l w) ≡ l.mark → is_right l image w ≡ true
 unfolding is_right
 right_from l image count w is some within kind mark =

@@ -1,6 +1,9 @@
 -- The image after a change of an entry (own).
-use Rattle.std.specs.Prelude.{ℕ, ◌+◌, ◌-◌, ◌*◌, ◌/◌, ◌==◌, List, if◌then◌else◌}
-use Rattle.db_blocks.specs.Blocks.{word_at}
+use Rattle.std.specs.Prelude.{ℕ, ◌+◌, ◌-◌, ◌*◌, ◌/◌, ◌==◌, List, take, drop, if◌then◌else◌}
+use Rattle.std.specs.Str.{bytes_eq}
+use Rattle.ubik_types.specs.Image.{changed}
+use Rattle.ubik_types.specs.declared.images.Change.TheVariants.{Put}
+use Rattle.db_blocks.specs.Blocks.{block_place, word_at}
 use Rattle.db_chains.specs.Changes.{put_in, without}
 use Rattle.db_chains.specs.Ends.{walk_cost}
 use Rattle.db_chains.specs.Walks.{stop_place}
@@ -12,6 +15,7 @@ use Rattle.vldb_chains.specs.Keys.{id_chain, name_chain}
 use Rattle.vldb_chains.specs.Places.{free_blocks, id_links, name_links}
 use Rattle.vldb_records.specs.declared.entries.VlEntry.{VlEntry}
 use Rattle.vldb_records.specs.Records.{addresses_in, block_at, block_of, has_id_in, name_in, whole}
+use Rattle.chained_records.specs.declared.layout.TheConstants.{HEAD_LEN}
 
 -- a word in front of the chain of an id; 0 is no entry's
 abbrev pub first_by_id : (id w : ℕ) → List ℕ → List ℕ
@@ -72,3 +76,46 @@ leave_cost layout len = out_cost name_links layout len + 3 * out_cost id_links l
 
 abbrev pub remove_cost : Layout → (len : ℕ) → ℕ
 remove_cost layout len = walk_cost id_links len + leave_cost layout len + free_cost free_blocks layout len
+
+-- ---- an entry gets other fields
+
+-- a word out of the chain of a name or of an id and in front of that of another one; where it is the same one, the word keeps its place
+abbrev pub name_moved : (old new : List ℕ) → (w : ℕ) → List ℕ → List ℕ
+name_moved old new w image =
+    if bytes_eq old new then image else put_in name_links (name_chain new) w (without name_links (name_chain old) w image)
+
+abbrev pub id_moved : (old new w : ℕ) → List ℕ → List ℕ
+id_moved old new w image = if old == new then image else first_by_id new w (without_id old w image)
+
+-- the block of a number from the chains of the entry whose fields it has to those of another one: of its name, then of its read-write,
+-- read-only and backup id
+unfoldable pub moved : (n : ℕ) → (block : List ℕ) → VlEntry → List ℕ → List ℕ
+moved n block e image =
+    id_moved (word_at block 16) e.backup (4 * n + 2) (id_moved (word_at block 12) e.ro (4 * n + 1)
+    (id_moved (word_at block 8) e.rw (4 * n) (name_moved (name_in block) e.name n image)))
+
+-- the block at a place with the fields of this one: all but its kind and its words of chains
+unfoldable pub with_fields : (k : ℕ) → (block image : List ℕ) → List ℕ
+with_fields k block image =
+    changed (changed image (Put (block_place HEAD_LEN k + 4) (take 32 (drop 4 block)))) (Put (block_place HEAD_LEN k + 52) (drop 52 block))
+
+-- another entry in the place of that of an id: its block goes to its chains, and then gets its fields
+unfoldable pub after_replace : (id : ℕ) → VlEntry → List ℕ → List ℕ
+after_replace id e image =
+    let old = whole image in
+    let n = word_of_id id old / 4 in
+    with_fields (n - 1) (block_of (addresses_in old) e) (moved n (block_at old (n - 1)) e old)
+
+-- How many bytes are read at most where a word moves, where those of an entry do, where its fields are written, and where an entry is
+-- replaced, in an image of this length: a walk along each of its chains, one to find the entry, and the addresses.
+abbrev pub move_cost : Links → Layout → (len : ℕ) → ℕ
+move_cost l layout len = out_cost l layout len + first_cost layout
+
+abbrev pub moves_cost : Layout → (len : ℕ) → ℕ
+moves_cost layout len = move_cost name_links layout len + 3 * move_cost id_links layout len
+
+abbrev pub fields_cost : Layout → ℕ
+fields_cost layout = put_cost layout 32 + put_cost layout 140
+
+abbrev pub replace_cost : Layout → (len : ℕ) → ℕ
+replace_cost layout len = walk_cost id_links len + 1020 + moves_cost layout len + fields_cost layout

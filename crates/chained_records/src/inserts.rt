@@ -22,7 +22,11 @@ use vldb_chains::{free_blocks, id_chain, id_links, name_chain, name_links};
 use vldb_records::VlEntry;
 
 /// Puts a word in front of the chain of an id; 0 is no entry's, and nothing is changed for it.
-fn enter_id<I: ImageRead>(d: &mut Draft<I>, id: u32, word: u32) -> Result<(), RecordFault>
+pub(crate) fn enter_id<I: ImageRead>(
+    d: &mut Draft<I>,
+    id: u32,
+    word: u32,
+) -> Result<(), RecordFault>
     requires len { d.old.len < 2 ^ 31 + 2 ^ 20 }
     requires head { HEAD_LEN ≤ d.old.len }
     requires word { IsPlaced id_links d.old.len word }

@@ -11,6 +11,7 @@ mod inserts;
 mod laws;
 mod layout;
 mod removes;
+mod replaces;
 
 pub use changes::{set_addresses, set_next_volume};
 pub use finds::{find_id, find_name};
@@ -18,3 +19,4 @@ pub use heads::{addresses, next_volume};
 pub use inserts::insert;
 pub use laws::law_empty_image_holds_the_first;
 pub use removes::remove;
+pub use replaces::replace;

@@ -17,7 +17,11 @@ use db_image::{Draft, ImageRead, RecordFault};
 use vldb_chains::{free_blocks, id_chain, id_links, name_chain, name_links};
 
 /// Takes a word out of the chain of an id; 0 is no entry's, and nothing is changed for it.
-fn leave_id<I: ImageRead>(d: &mut Draft<I>, id: u32, word: u32) -> Result<(), RecordFault>
+pub(crate) fn leave_id<I: ImageRead>(
+    d: &mut Draft<I>,
+    id: u32,
+    word: u32,
+) -> Result<(), RecordFault>
     requires len { d.old.len < 2 ^ 31 }
     requires head { HEAD_LEN ≤ d.old.len }
     ensures bytes { OnOk result (Becomes (without_id id word) d.old d.new) }
