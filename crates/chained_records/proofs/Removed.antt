@@ -25,19 +25,17 @@ use Rattle.vldb_records.specs.declared.entries.VlEntry.{VlEntry}
 use Rattle.vldb_records.specs.Location.{IsLocation, Location, without_entry}
 use Rattle.vldb_records.specs.Records.{block_at, block_of, blocks_in, head_of, kind_of, name_in}
 use Rattle.vldb_records.proofs.EntryAgain.{backup_again, kind_again, name_again, ro_again, rw_again}
-use Rattle.vldb_records.proofs.HeadRead.{length-zeros}
 use Rattle.vldb_records.proofs.Locations.{each_without}
 use Rattle.chained_records.specs.Chained.{HasFree, IsBlockOf, IsFree, IsIdWord, IsLaidOut, IsNameWord, IsNumberOf, Visits, id_of, id_place, name_place, unlinked, unlinked_free, unlinked_head}
 use Rattle.chained_records.proofs.Fields.{block_len, free_kind, name_stays, number_stays}
-use Rattle.chained_records.proofs.HeadSet.{around, blanked_laid, free_are, laid_in, laid_len, laid_out}
+use Rattle.chained_records.proofs.HeadSet.{free_are}
 use Rattle.chained_records.proofs.Inserted.{form_same, not_free}
 use Rattle.chained_records.proofs.Kept.{entries_stay, kind_stays}
 use Rattle.chained_records.proofs.Leaving.{all_of, among_all, among_this, place_kind}
 use Rattle.chained_records.proofs.Left.{AreUnused, IsIn, IsStep, Less, LessIds, id_in}
 use Rattle.chained_records.proofs.Stages.{visits_as}
-use Rattle.chained_records.proofs.Stays.{count_same, front_stays, unlinked_first, whole_on}
+use Rattle.chained_records.proofs.Stays.{blanked_same, count_same, front_stays, unlinked_first, whole_on}
 use Rattle.chained_records.proofs.Taken.{ids_not_free, names_not_free}
-use Rattle.std.proofs.lemmas.Grind.{same_number_lists}
 
 -- ---- the words of a state's chains
 
@@ -128,24 +126,7 @@ first_step s old lies = record {
 free_same_bytes : (a b : List ℕ) → length a ≡ 192 → length b ≡ 192
     → ((i : ℕ) → i < 192 → (i < 4) ⊎ (8 ≤ i) → slice_index a i ≡ slice_index b i) → unlinked_free a ≡ unlinked_free b
 unfolding unlinked_free
-free_same_bytes a b size_a size_b same =
-    let z = zeros 4 in
-    let z_len : length z ≡ 4 = length-zeros 4 in
-    let room_a : 4 + length z ≤ length a = omega arith in
-    let room_b : 4 + length z ≤ length b = omega arith in
-    let laid_a : length (laid a 4 z) ≡ length a = laid_len a z 4 room_a in
-    let laid_b : length (laid b 4 z) ≡ length b = laid_len b z 4 room_b in
-    blanked_laid 4 4 a (omega arith)
-    ∙ same_number_lists (laid a 4 z) (laid b 4 z) (laid_a ∙ size_a ∙ sym (laid_b ∙ size_b))
-    (λ i below. ⊎_elim
-    (λ (inside : (4 ≤ i) × (i < 4 + length z)).
-    laid_in a z 4 i room_a inside.0 inside.1 ∙ sym (laid_in b z 4 i room_b inside.0 inside.1))
-    (λ (out : (i < 4) ⊎ (4 + length z ≤ i)).
-    laid_out a z 4 i room_a out
-    ∙ same i (omega arith) (⊎_elim (λ (before : i < 4). inl before) (λ (behind : 4 + length z ≤ i). inr (omega arith)) out)
-    ∙ sym (laid_out b z 4 i room_b out))
-    (around 4 (length z) i))
-    ∙ sym (blanked_laid 4 4 b (omega arith))
+free_same_bytes a b size_a size_b same = blanked_same 4 4 a b (omega arith) size_a size_b same
 
 blank_free : IsFree (blank free_blocks)
 unfolding unlinked_free zeros laid

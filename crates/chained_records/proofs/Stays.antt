@@ -58,27 +58,32 @@ pub unlinked_first : (xs b : List ℕ) → length xs ≡ 3132 → length b ≡ 4
 unfolding unlinked_head
 unlinked_first xs b size len = ap (blanked 1084 2048) (covered xs b 16 16 4 (omega arith) (omega arith) (omega arith))
 
--- two blocks with the same bytes but for the words of chains
+-- two blocks with the same bytes but for so many from a place on
+pub blanked_same : (at len : ℕ) (a b : List ℕ) → at + len ≤ 192 → length a ≡ 192 → length b ≡ 192
+    → ((i : ℕ) → i < 192 → (i < at) ⊎ (at + len ≤ i) → slice_index a i ≡ slice_index b i) → blanked at len a ≡ blanked at len b
+blanked_same at len a b fits size_a size_b same =
+    let z = zeros len in
+    let z_len : length z ≡ len = length-zeros len in
+    let room_a : at + length z ≤ length a = omega arith in
+    let room_b : at + length z ≤ length b = omega arith in
+    let laid_a : length (laid a at z) ≡ length a = laid_len a z at room_a in
+    let laid_b : length (laid b at z) ≡ length b = laid_len b z at room_b in
+    blanked_laid at len a (omega arith)
+    ∙ same_number_lists (laid a at z) (laid b at z) (laid_a ∙ size_a ∙ sym (laid_b ∙ size_b))
+    (λ i below. ⊎_elim
+    (λ (here : (at ≤ i) × (i < at + length z)). laid_in a z at i room_a here.0 here.1 ∙ sym (laid_in b z at i room_b here.0 here.1))
+    (λ (out : (i < at) ⊎ (at + length z ≤ i)).
+    laid_out a z at i room_a out
+    ∙ same i (omega arith) (⊎_elim (λ (before : i < at). inl before) (λ (behind : at + length z ≤ i). inr (omega arith)) out)
+    ∙ sym (laid_out b z at i room_b out))
+    (around at (length z) i))
+    ∙ sym (blanked_laid at len b (omega arith))
+
+-- but for the words of chains
 pub unlinked_same : (a b : List ℕ) → length a ≡ 192 → length b ≡ 192
     → ((i : ℕ) → i < 192 → (i < 36) ⊎ (52 ≤ i) → slice_index a i ≡ slice_index b i) → unlinked a ≡ unlinked b
 unfolding unlinked
-unlinked_same a b size_a size_b same =
-    let z = zeros 16 in
-    let z_len : length z ≡ 16 = length-zeros 16 in
-    let room_a : 36 + length z ≤ length a = omega arith in
-    let room_b : 36 + length z ≤ length b = omega arith in
-    let laid_a : length (laid a 36 z) ≡ length a = laid_len a z 36 room_a in
-    let laid_b : length (laid b 36 z) ≡ length b = laid_len b z 36 room_b in
-    blanked_laid 36 16 a (omega arith)
-    ∙ same_number_lists (laid a 36 z) (laid b 36 z) (laid_a ∙ size_a ∙ sym (laid_b ∙ size_b))
-    (λ i below. ⊎_elim
-    (λ (here : (36 ≤ i) × (i < 36 + length z)). laid_in a z 36 i room_a here.0 here.1 ∙ sym (laid_in b z 36 i room_b here.0 here.1))
-    (λ (out : (i < 36) ⊎ (36 + length z ≤ i)).
-    laid_out a z 36 i room_a out
-    ∙ same i (omega arith) (⊎_elim (λ (before : i < 36). inl before) (λ (behind : 36 + length z ≤ i). inr (omega arith)) out)
-    ∙ sym (laid_out b z 36 i room_b out))
-    (around 36 (length z) i))
-    ∙ sym (blanked_laid 36 16 b (omega arith))
+unlinked_same a b size_a size_b same = blanked_same 36 16 a b (omega arith) size_a size_b same
 
 -- the head stays where a word behind it changes
 pub front_stays : (p : ℕ) (old new : List ℕ) → StaysBut p 4 old new → 3132 ≤ p → 3132 ≤ length old → take 3132 new ≡ take 3132 old
