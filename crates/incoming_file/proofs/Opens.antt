@@ -25,7 +25,8 @@ pub gate_open : (file : List ℕ) (v : Version) (image : List ℕ) → IsIncomin
 gate_open file v image opens = ap (λ (xs : List ℕ). get_or xs 63 0) opens.bytes
 
 -- a file with such a head is open, where it is not too long
-pub open_by_head : (file : List ℕ) (v : Version) → IsVersion v → take 64 file ≡ label_front v ++ 101 ∷ [] → length file ≤ MAX_DATABASE_LEN → IsIncoming file v (drop 64 file)
+pub open_by_head : (file : List ℕ) (v : Version) → IsVersion v → take 64 file ≡ label_front v ++ 101 ∷ []
+    → length file ≤ MAX_DATABASE_LEN → IsIncoming file v (drop 64 file)
 open_by_head file v is head fits = record {
   is_version = is;
   fits = omega (arith, fits, length-drop 64 file);
@@ -49,7 +50,8 @@ open_once file v w a b one two =
     let heads : label_front v ++ 101 ∷ [] ≡ label_front w ++ 101 ∷ [] = sym (head_open file v a one) ∙ head_open file w b two in
     let labels : label v ≡ label w = ap (λ (xs : List ℕ). take 63 xs ++ 0 ∷ []) heads in
     let same : Some v ≡ Some w =
-    sym (version_of_label_again v (omega (arith, one.is_version.epoch)) (omega (arith, one.is_version.counter))) ∙ ap version_of_label labels
+    sym (version_of_label_again v (omega (arith, one.is_version.epoch)) (omega (arith, one.is_version.counter)))
+    ∙ ap version_of_label labels
     ∙ version_of_label_again w (omega (arith, two.is_version.epoch)) (omega (arith, two.is_version.counter)) in
     (cc, sym (image_open file v a one) ∙ image_open file w b two)
 
@@ -113,6 +115,8 @@ front_ignored file c ignored shut (inl same) = subst IsIgnored (sym same) ignore
 front_ignored file c ignored shut (inr short) = λ v image opens.
     let long = long_open c v image opens in
     let fits : length c ≤ length file = omega (arith, ap length short.1, length-take (length c) file) in
-    let head : take 64 file ≡ take 64 c = sym (ap (take 64) short.1 ∙ take_front file (length c) (let is : length c ≡ length (take (length c) file) = ap length short.1 in omega (arith, long, is))) in
+    let head : take 64 file ≡ take 64 c = sym
+    (ap (take 64) short.1
+    ∙ take_front file (length c) (let is : length c ≡ length (take (length c) file) = ap length short.1 in omega (arith, long, is))) in
     let gate : IsGateOpen file = front_open file v (head ∙ head_open c v image opens) (omega (arith, long, fits)) in
     ignored v (drop 64 file) (open_by_head file v opens.is_version (head ∙ head_open c v image opens) (not_gated file gate shut))

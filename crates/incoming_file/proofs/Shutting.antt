@@ -20,7 +20,8 @@ rest_begins xs n is = ap (λ (k : ℕ). get_or (0 ∷ xs) k 0) is
 pub gate_zero : (file : List ℕ) → IsGateOpen file → get_or (laid file 63 (0 ∷ [])) 63 0 ≡ 0
 gate_zero file opens =
     let there = gate_there file opens in
-    ap (λ (xs : List ℕ). get_or xs 63 0) (laid_one file 0) ∙ get_or-append_right (take 63 file) (0 ∷ drop 64 file) 63 63 0 (omega (arith, there, length-take 63 file)) (omega arith)
+    ap (λ (xs : List ℕ). get_or xs 63 0) (laid_one file 0)
+    ∙ get_or-append_right (take 63 file) (0 ∷ drop 64 file) 63 63 0 (omega (arith, there, length-take 63 file)) (omega arith)
     ∙ rest_begins (drop 64 file) (63 - 63) (omega arith)
 
 -- what a write of the incoming file leaves is settled
@@ -36,14 +37,16 @@ settled_put change (Some fs) new before now settled is others whole =
     d.2 ∙ ap (with_incoming c.incoming) (settled d.0 d.1) ∙ ap (λ (xs : List ℕ). with_incoming xs fs) (whole c here))
 
 -- while the gate is closed, the file is as it was or ignored
-pub while_shut : (fs : Files) (before : Files → Type 0) → Only fs before → IsGateOpen fs.incoming → (c : Files) → After (InFile Incoming (Torn 63 1)) before c → HasThisOrIgnored fs.incoming fs c
+pub while_shut : (fs : Files) (before : Files → Type 0) → Only fs before → IsGateOpen fs.incoming → (c : Files)
+    → After (InFile Incoming (Torn 63 1)) before c → HasThisOrIgnored fs.incoming fs c
 while_shut fs before only opens c from =
     let is = only from.0 from.1 in
     let torn : Torn 63 1 fs.incoming c.incoming = subst (λ (d : Files). Torn 63 1 d.incoming c.incoming) is from.2.1 in
     (torn_gate fs.incoming c.incoming opens torn, from.2.0 ∙ ap (with_incoming c.incoming) is)
 
 -- and while it is cut then
-pub while_cut : (fs : Files) (before : Files → Type 0) → Only (with_incoming (laid fs.incoming 63 (0 ∷ [])) fs) before → IsGateOpen fs.incoming
+pub while_cut : (fs : Files) (before : Files → Type 0) → Only (with_incoming (laid fs.incoming 63 (0 ∷ [])) fs) before
+    → IsGateOpen fs.incoming
     → (c : Files) → After (InFile Incoming (CutShort 0)) before c → HasThisOrIgnored fs.incoming fs c
 while_cut fs before only opens c from =
     let is = only from.0 from.1 in
@@ -64,7 +67,8 @@ pub ignored_either : (fs c : Files) → IsIgnored fs.incoming → HasThisOrIgnor
 ignored_either fs c ignored (either, same) = (⊎_elim (λ is. subst IsIgnored (sym is) ignored) (λ none. none) either, same)
 
 -- the files once the gate is closed, and the file is cut
-pub emptied_files : (change : List ℕ → List ℕ) (old mid new : Option Files) → mid ≡ option_map (λ fs. with_incoming (change fs.incoming) fs) old
+pub emptied_files : (change : List ℕ → List ℕ) (old mid new : Option Files)
+    → mid ≡ option_map (λ fs. with_incoming (change fs.incoming) fs) old
     → new ≡ option_map (with_incoming []) mid → new ≡ option_map (with_incoming []) old
 emptied_files change None mid new a b = b ∙ ap (option_map (with_incoming [])) a
 emptied_files change (Some fs) mid new a b = b ∙ ap (option_map (with_incoming [])) a
@@ -75,7 +79,8 @@ gated_open file is = grind (arith, nat_tests)
 
 -- how many calls
 pub clear_none : (file : List ℕ) → length file ≡ 0 → clear_calls file ≡ 0
-clear_none file none = let is : eqb (length file) 0 ≡ true = grind (arith, nat_tests) in ap (λ (b : Bool). cond b 0 (cond (is_gated file) 4 2)) is
+clear_none file none =
+    let is : eqb (length file) 0 ≡ true = grind (arith, nat_tests) in ap (λ (b : Bool). cond b 0 (cond (is_gated file) 4 2)) is
 
 pub clear_some : (file : List ℕ) (gated : Bool) → ¬ (length file ≡ 0) → gated ≡ is_gated file → clear_calls file ≡ cond gated 4 2
 clear_some file gated some is =

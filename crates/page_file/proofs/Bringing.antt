@@ -18,7 +18,8 @@ module _ {V : Type 0} where
   lookup-removed page q (e ∷ es) differs =
       by (nat_eq page e.0) refl (lookup-removed page q es differs)
     where
-      by : (b : Bool) → nat_eq page e.0 ≡ b → lookup (nat_eq q) (remove_entry (nat_eq page) es) ≡ lookup (nat_eq q) es → lookup (nat_eq q) (cond b es (e ∷ remove_entry (nat_eq page) es)) ≡ lookup (nat_eq q) (e ∷ es)
+      by : (b : Bool) → nat_eq page e.0 ≡ b → lookup (nat_eq q) (remove_entry (nat_eq page) es) ≡ lookup (nat_eq q) es
+          → lookup (nat_eq q) (cond b es (e ∷ remove_entry (nat_eq page) es)) ≡ lookup (nat_eq q) (e ∷ es)
       by true same rest =
           let other : nat_eq q e.0 ≡ false = ne_eqb q e.0 (λ is. differs (is ∙ sym (same_page page e.0 same))) in
           sym (ap (λ (b : Bool). cond b (Some e.1) (lookup (nat_eq q) es)) other)
@@ -29,20 +30,25 @@ module _ {V : Type 0} where
   lookup-front page q es differs =
       by (lookup_entry (nat_eq page) es) refl
     where
-      by : (o : Option (ℕ × V)) → lookup_entry (nat_eq page) es ≡ o → lookup (nat_eq q) (option_map_or (λ e. e ∷ remove_entry (nat_eq page) es) o es) ≡ lookup (nat_eq q) es
+      by : (o : Option (ℕ × V)) → lookup_entry (nat_eq page) es ≡ o
+          → lookup (nat_eq q) (option_map_or (λ e. e ∷ remove_entry (nat_eq page) es) o es) ≡ lookup (nat_eq q) es
       by None none = refl
       by (Some e) found =
           let same = (Contains-lookup_entry (nat_eq page) es e found).1 in
           let other : nat_eq q e.0 ≡ false = ne_eqb q e.0 (λ is. differs (is ∙ sym (same_page page e.0 same))) in
           ap (λ (b : Bool). cond b (Some e.1) (lookup (nat_eq q) (remove_entry (nat_eq page) es))) other ∙ lookup-removed page q es differs
 
-  first_found : (page : ℕ) (es : List (ℕ × V)) → IsSome (lookup (nat_eq page) es) → IsSome (lookup (nat_eq page) (promoted (nat_eq page) es))
+  first_found : (page : ℕ) (es : List (ℕ × V)) → IsSome (lookup (nat_eq page) es)
+      → IsSome (lookup (nat_eq page) (promoted (nat_eq page) es))
   first_found page es some =
       by (lookup_entry (nat_eq page) es) refl
     where
-      by : (o : Option (ℕ × V)) → lookup_entry (nat_eq page) es ≡ o → IsSome (lookup (nat_eq page) (option_map_or (λ e. e ∷ remove_entry (nat_eq page) es) o es))
+      by : (o : Option (ℕ × V)) → lookup_entry (nat_eq page) es ≡ o
+          → IsSome (lookup (nat_eq page) (option_map_or (λ e. e ∷ remove_entry (nat_eq page) es) o es))
       by None none = some
-      by (Some e) found = subst (λ b. IsSome (cond b (Some e.1) (lookup (nat_eq page) (remove_entry (nat_eq page) es)))) (sym (Contains-lookup_entry (nat_eq page) es e found).1) refl
+      by (Some e) found =
+          subst (λ b. IsSome (cond b (Some e.1) (lookup (nat_eq page) (remove_entry (nat_eq page) es))))
+          (sym (Contains-lookup_entry (nat_eq page) es e found).1) refl
 
   found_before : (n q : ℕ) (es : List (ℕ × V)) → IsSome (lookup (nat_eq q) (take n es)) → IsSome (lookup (nat_eq q) es)
   found_before zero q es some = absurd (false≢true some)
@@ -50,7 +56,8 @@ module _ {V : Type 0} where
   found_before (suc n) q (e ∷ es) some =
       by (nat_eq q e.0) some (found_before n q es)
     where
-      by : (b : Bool) → IsSome (cond b (Some e.1) (lookup (nat_eq q) (take n es))) → (IsSome (lookup (nat_eq q) (take n es)) → IsSome (lookup (nat_eq q) es)) → IsSome (cond b (Some e.1) (lookup (nat_eq q) es))
+      by : (b : Bool) → IsSome (cond b (Some e.1) (lookup (nat_eq q) (take n es)))
+          → (IsSome (lookup (nat_eq q) (take n es)) → IsSome (lookup (nat_eq q) es)) → IsSome (cond b (Some e.1) (lookup (nat_eq q) es))
       by true some rest = some
       by false some rest = rest some
 
@@ -62,7 +69,8 @@ was_kept page q old new differs brought some =
     taken : (bytes : List ℕ) → TakesIn page bytes old new → IsKept old q
     taken bytes (inl is) =
         let there : IsKept (with_page page bytes old) q = subst (λ (c : Cached). IsKept c q) is some in
-        found_before 63 q old.pages (subst (λ b. IsSome (cond b (Some bytes) (lookup (nat_eq q) (take 63 old.pages)))) (ne_eqb q page differs) there)
+        found_before 63 q old.pages
+        (subst (λ b. IsSome (cond b (Some bytes) (lookup (nat_eq q) (take 63 old.pages)))) (ne_eqb q page differs) there)
     taken bytes (inr is) = subst (λ (c : Cached). IsKept c q) is some
 
     by : (o : Option (List ℕ)) → lookup (nat_eq page) old.pages ≡ o → IsKept old q
@@ -81,7 +89,8 @@ stays_kept page q old new brought there some =
     by false apart = subst (λ (o : Option (List ℕ)). IsSome o) (sym (lookup-front page q old.pages (eqb-false q page apart))) some
 
 -- so many pages were brought
-pub brought_all : (at n first end count : ℕ) (old new : Cached) → 0 < n → end ≡ first + count → first ≡ at / 1024 → end ≡ (at + n - 1) / 1024 + 1 → BringsPages first count old new → BringsPages (at / 1024) (pages_between at n) old new
+pub brought_all : (at n first end count : ℕ) (old new : Cached) → 0 < n → end ≡ first + count → first ≡ at / 1024
+    → end ≡ (at + n - 1) / 1024 + 1 → BringsPages first count old new → BringsPages (at / 1024) (pages_between at n) old new
 brought_all at n first end count old new some here start last brought =
     let is : count ≡ pages_between at n = counted in
     subst (λ k. BringsPages (at / 1024) k old new) is (subst (λ f. BringsPages f count old new) start brought)

@@ -35,7 +35,8 @@ unfolding labelled_as
 version_of_label_again v e c = ap (labelled_as v) (version_in_label v (omega arith) (omega arith)) ∙ labelled_as_itself v e c
 
 -- and so is that of a file that is long enough, and not too long
-pub version_by_again : (v : Version) (len : ℕ) → v.epoch ≤ 2147483647 → v.counter ≤ 2147483647 → 64 ≤ len → len ≤ 16777280 → version_by len (label v) ≡ Some v
+pub version_by_again : (v : Version) (len : ℕ) → v.epoch ≤ 2147483647 → v.counter ≤ 2147483647 → 64 ≤ len → len ≤ 16777280
+    → version_by len (label v) ≡ Some v
 version_by_again v len e c some most =
     let long : nat_lt len 64 ≡ false = grind (arith, nat_tests) in
     let fits : nat_lt 16777280 len ≡ false = grind (arith, nat_tests) in
@@ -53,7 +54,8 @@ version_by_label len head some most =
 
 pub front_of_head : (head file : List ℕ) → 64 ≤ length file → IsHeadOf head file → head ≡ take 64 file
 front_of_head head file long is =
-    let len = is.len in ext_get_or 0 head (take 64 file) (omega (arith, length-take 64 file)) (λ k below. is.bytes k (omega arith) ∙ sym (get_or-take 64 file k 0 (omega arith)))
+    let len = is.len in ext_get_or 0 head (take 64 file) (omega (arith, length-take 64 file))
+    (λ k below. is.bytes k (omega arith) ∙ sym (get_or-take 64 file k 0 (omega arith)))
 
 -- the version of a file is that of its head
 pub version_by_head : (head file : List ℕ) → IsHeadOf head file → version_by (length file) head ≡ version_by (length file) (take 64 file)

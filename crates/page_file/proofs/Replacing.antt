@@ -36,8 +36,10 @@ laid_alone : (text : List ℕ) → laid [] 0 text ≡ text
 laid_alone text = grind (arith, common_steps)
 
 -- what a read gives then
-pub files_anew : (before mid after : Option Files) (text : List ℕ) → mid ≡ option_map (λ fs. with_file fs Database (take 0 fs.database)) before
-    → after ≡ option_map (λ fs. with_file fs Database (laid fs.database 0 text)) mid → after ≡ option_map (λ fs. with_file fs Database text) before
+pub files_anew : (before mid after : Option Files) (text : List ℕ)
+    → mid ≡ option_map (λ fs. with_file fs Database (take 0 fs.database)) before
+    → after ≡ option_map (λ fs. with_file fs Database (laid fs.database 0 text)) mid
+    → after ≡ option_map (λ fs. with_file fs Database text) before
 files_anew None mid after text cut written = written ∙ ap (option_map (λ fs. with_file fs Database (laid fs.database 0 text))) cut
 files_anew (Some fs) mid after text cut written =
     written ∙ ap (option_map (λ fs. with_file fs Database (laid fs.database 0 text))) cut
@@ -66,7 +68,8 @@ module _ (n : ℕ) {before mid : Files → Type 0} (cut : Follows (InFile Databa
       let from = cut c left in
       (from.0, from.1, (from.2.0, cut_no_longer n from.0.database c.database from.2.1))
 
-  while_written : {now : Files → Type 0} → Follows (InFile Database (Torn 0 n)) mid now → (c : Files) → now c → After (InFile Database (IsNoLonger n)) before c
+  while_written : {now : Files → Type 0} → Follows (InFile Database (Torn 0 n)) mid now → (c : Files) → now c
+      → After (InFile Database (IsNoLonger n)) before c
   while_written written c left =
       let there = written c left in
       let from = while_cut there.0 there.1 in

@@ -1,8 +1,8 @@
 //! The pages of an image that are kept in memory.
-ghost use Rattle.std.specs.Prelude.{◌≡◌, ◌+◌, ◌-◌, [], ◌∷◌, ◌≤◌, ◌<◌, ◌||◌, true, false, None, IfSome, OnOk, OnErr, nat_eq, nat_lt, nat_le, is_some, length, take, drop};
+ghost use Rattle.std.specs.Prelude.{◌≡◌, ◌+◌, ◌-◌, [], ◌∷◌, ◌≤◌, ◌<◌, ◌||◌, true, false, Some, None, IfSome, OnOk, OnErr, nat_eq, nat_lt, nat_le, is_some, option_copied, slice_get, length, take, drop};
 ghost use Rattle.std.specs.List.{filter};
 ghost use Rattle.std.specs.Map.{lookup};
-ghost use Rattle.lru.specs.LruCache.{lru_cache};
+ghost use Rattle.lru.specs.LruCache.{lru_cache, promoted};
 ghost use Rattle.page_file.specs.Kept.{no_pages, to_front, with_page, TakesIn, apart_from};
 
 use crate::reads::PAGE_LEN;
@@ -76,14 +76,7 @@ impl Cache {
         ensures same { result ≡ false → self.new ≡ self.old }
     {
         match &mut self.pages {
-            Some(pages) => {
-                match pages.peek(&page) {
-                    Some(bytes) => out.copy_from_slice(&bytes[from..from + out.len()]),
-                    None => return false,
-                }
-                pages.promote(&page);
-                true
-            }
+            Some(pages) => copy_page(pages, page, from, out),
             None => false,
         }
     }
@@ -157,6 +150,38 @@ impl Cache {
         if let Some(pages) = &mut self.pages {
             pop_page(pages, page);
         }
+    }
+}
+
+/// Copies bytes of a page, and brings it to the front. The one that was used last is there, and is found without a hash: a scan asks for one
+/// page several times in a row.
+fn copy_page(pages: &mut LruCache<u64, PageBytes>, page: u64, from: usize, out: &mut [u8]) -> bool
+    requires within { from + length out.old ≤ PAGE_LEN }
+    ensures found { result ≡ is_some (lookup (nat_eq page) pages.old.entries) }
+    ensures bytes { IfSome (lookup (nat_eq page) pages.old.entries) (λ bytes. out.new ≡ take (length out.old) (drop from bytes)) }
+    ensures front { result ≡ true → pages.new ≡ lru_cache (promoted (nat_eq page) pages.old.entries) pages.old.cap }
+    ensures same { result ≡ false → pages.new ≡ pages.old }
+{
+    if let Some(bytes) = if_last(pages, page) {
+        out.copy_from_slice(&bytes[from..from + out.len()]);
+        return true;
+    }
+    match pages.get(&page) {
+        Some(bytes) => {
+            out.copy_from_slice(&bytes[from..from + out.len()]);
+            true
+        }
+        None => false,
+    }
+}
+
+/// The bytes of a page, if it is the one that was used last.
+fn if_last(pages: &LruCache<u64, PageBytes>, page: u64) -> Option<&PageBytes>
+    ensures { IfSome (option_copied result) (λ bytes. slice_get pages.now.entries 0 ≡ Some (page, bytes)) }
+{
+    match pages.peek_mru() {
+        Some((last, bytes)) if *last == page => Some(bytes),
+        _ => None,
     }
 }
 

@@ -7,7 +7,8 @@ use Rattle.incoming_file.proofs.Telling.{told, of_told, settled_at, on_done_both
 use Rattle.incoming_file.proofs.writes.clear_incoming.Goals as goal
 
 pub returns-then-len-eq0-clause-changes : goal.returns-then-len-eq0-clause-changes
-returns-then-len-eq0-clause-changes g c = changes_as (omega arith) (λ none. absurd none) (λ failed. absurd cc) (reads_change_none (reads_nothing c.args.disk.now))
+returns-then-len-eq0-clause-changes g c =
+    changes_as (omega arith) (λ none. absurd none) (λ failed. absurd cc) (reads_change_none (reads_nothing c.args.disk.now))
 
 pub returns-clause-settled : goal.returns-clause-settled
 returns-clause-settled g c =
@@ -16,7 +17,10 @@ returns-clause-settled g c =
     c.empty_incoming.ensures.files c.empty_incoming.ensures.durable
 
 pub returns-clause-moments : goal.returns-clause-moments
-returns-clause-moments g c = told _ (λ fs. LeavesOnly g.D.Disk.steps g.D.Disk.left_since c.args.disk.now c.empty_incoming.new.disk (HasIgnored fs)) (λ fs is.
-    let shut : is_gated fs.incoming ≡ false = sym (of_told _ fs (λ fs. c.args.gated ≡ is_gated fs.incoming) is c.requires.gated) ∙ c.if-gated.false in
+returns-clause-moments g c =
+    told _ (λ fs. LeavesOnly g.D.Disk.steps g.D.Disk.left_since c.args.disk.now c.empty_incoming.new.disk (HasIgnored fs)) (λ fs is.
+    let shut : is_gated fs.incoming ≡ false = sym (of_told _ fs (λ fs. c.args.gated ≡ is_gated fs.incoming) is c.requires.gated)
+    ∙ c.if-gated.false in
     widened g.D.Disk.steps g.D.Disk.left_since _ _ _ (HasIgnored fs)
-    (while_cleared fs _ (settled_at _ fs _ is c.requires.settled) (of_told _ fs (λ fs. IsIgnored fs.incoming) is c.requires.ignored) shut) c.empty_incoming.ensures.moments)
+    (while_cleared fs _ (settled_at _ fs _ is c.requires.settled)
+    (of_told _ fs (λ fs. IsIgnored fs.incoming) is c.requires.ignored) shut) c.empty_incoming.ensures.moments)

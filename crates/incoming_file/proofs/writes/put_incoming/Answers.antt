@@ -15,18 +15,22 @@ returns-in-Done-clause-moments g c =
     let torn = c.write_at.ensures.crash in
     let P = After (InFile Incoming (Torn c.args.at (length c.args.bytes.now))) (disk.may_leave old) in
     joined disk.steps disk.left_since old mid new P
-    (called disk.steps disk.left_since old mid P (disk.may_leave old) (disk.may_leave mid) c.write_at.ensures.steps c.write_at.ensures.time (disk.only_now old)
+    (called disk.steps disk.left_since old mid P (disk.may_leave old)
+    (disk.may_leave mid) c.write_at.ensures.steps c.write_at.ensures.time (disk.only_now old)
     (untouched Incoming c.args.at (length c.args.bytes.now) (disk.may_leave old)) torn)
-    (called disk.steps disk.left_since mid new P (disk.may_leave mid) (disk.may_leave new) c.sync.ensures.steps c.sync.ensures.time (disk.only_now mid)
+    (called disk.steps disk.left_since mid new P (disk.may_leave mid) (disk.may_leave new) c.sync.ensures.steps c.sync.ensures.time
+    (disk.only_now mid)
     torn (λ files left. torn files (c.sync.ensures.crash files left)))
 
 pub returns-in-Done-clause-changes : goal.returns-in-Done-clause-changes
 returns-in-Done-clause-changes g c =
-    let write : Writes g.D.Disk Incoming c.args.at c.args.bytes.now c.args.disk.now c.write_at.new.self (c.write_at.result ≡ Failed) = search rules in
+    let write : Writes g.D.Disk Incoming c.args.at c.args.bytes.now c.args.disk.now c.write_at.new.self
+    (c.write_at.result ≡ Failed) = search rules in
     let sync : Syncs g.D.Disk Incoming c.write_at.new.self c.sync.new.self (c.sync.result ≡ Failed) = search rules in
     changes_joined (write_changes write) (λ failed. absurd cc) (sync_changes sync)
 
 pub returns-in-Failed-clause-changes : goal.returns-in-Failed-clause-changes
 returns-in-Failed-clause-changes g c =
-    let write : Writes g.D.Disk Incoming c.args.at c.args.bytes.now c.args.disk.now c.write_at.new.self (c.write_at.result ≡ Failed) = search rules in
+    let write : Writes g.D.Disk Incoming c.args.at c.args.bytes.now c.args.disk.now c.write_at.new.self
+    (c.write_at.result ≡ Failed) = search rules in
     changes_as (omega arith) (λ failed. cc) (λ failed. cc) (write_changes write)

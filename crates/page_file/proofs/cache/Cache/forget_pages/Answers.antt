@@ -14,5 +14,8 @@ loop-page-preserved c =
     let left : ℕ = c.args.self.now.left_out in
     let page : ℕ = c.loop-page.page in
     c.forget_page.ensures
-    ∙ ap (λ (s : Cached). record { pages = filter (λ other. nat_lt other.0 page || nat_le (page + 1) other.0) s.pages; left_out = s.left_out }) c.loop-page.invariant
-    ∙ ap (λ (es : List (ℕ × List ℕ)). record { pages = es; left_out = left }) (outside_more c.args.first page c.args.self.now.pages c.loop-page.auto.page)
+    ∙ ap (λ (s : Cached).
+    record { pages = filter (λ other. nat_lt other.0 page || nat_le (page + 1) other.0) s.pages; left_out = s.left_out })
+    c.loop-page.invariant
+    ∙ ap (λ (es : List (ℕ × List ℕ)). record { pages = es; left_out = left })
+    (outside_more c.args.first page c.args.self.now.pages c.loop-page.auto.page)

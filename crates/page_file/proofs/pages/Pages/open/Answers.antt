@@ -16,7 +16,9 @@ returns-in-Some-clause-version g c =
 
 pub returns-in-Some-clause-agrees : goal.returns-in-Some-clause-agrees
 returns-in-Some-clause-agrees g c =
-    found_agrees _ _ _ _ _ _ c.new-in-Some.ensures (c.in_ok-head.ensures.reads.files false≢true ∙ c.in_ok-len.ensures.reads.files false≢true) (c.in-Some.ensures.labelled refl) (c.in-Some.ensures.fits refl) c.in_ok-len.ensures.len
+    found_agrees _ _ _ _ _ _ c.new-in-Some.ensures
+    (c.in_ok-head.ensures.reads.files false≢true ∙ c.in_ok-len.ensures.reads.files false≢true) (c.in-Some.ensures.labelled refl)
+    (c.in-Some.ensures.fits refl) c.in_ok-len.ensures.len
     (moved (λ fs. IsHeadOf c.in_ok-head.head fs.database) _ _ (c.in_ok-len.ensures.reads.files false≢true) c.in_ok-head.ensures.head)
     (sym c.in-Some.ensures.version)
 
@@ -28,8 +30,10 @@ returns-in-None-clause-refused g c =
 
 pub returns-in-Some-clause-reads : goal.returns-in-Some-clause-reads
 returns-in-Some-clause-reads g c =
-    reads_as (λ failed. absurd (false≢true failed)) (λ failed. absurd cc) (reads_joined c.in_ok-len.ensures.reads false≢true c.in_ok-head.ensures.reads)
+    reads_as (λ failed. absurd (false≢true failed)) (λ failed. absurd cc)
+    (reads_joined c.in_ok-len.ensures.reads false≢true c.in_ok-head.ensures.reads)
 
 pub returns-in-None-clause-reads : goal.returns-in-None-clause-reads
 returns-in-None-clause-reads g c =
-    reads_as (λ failed. absurd (false≢true failed)) (λ failed. absurd cc) (reads_joined c.in_ok-len.ensures.reads false≢true c.in_ok-head.ensures.reads)
+    reads_as (λ failed. absurd (false≢true failed)) (λ failed. absurd cc)
+    (reads_joined c.in_ok-len.ensures.reads false≢true c.in_ok-head.ensures.reads)

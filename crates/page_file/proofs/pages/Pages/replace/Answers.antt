@@ -15,23 +15,27 @@ returns-in-Done-write_at-clause-agrees g c =
 pub returns-in-Done-write_at-clause-moments : goal.returns-in-Done-write_at-clause-moments
 returns-in-Done-write_at-clause-moments g c =
     let cut : Cuts g.D.Disk Database 0 c.args.disk.now c.cut.new.self (c.cut.result ≡ Failed) = search rules in
-    let written : Writes g.D.Disk Database 0 c.args.text.now c.cut.new.self c.write_at.new.self (c.write_at.result ≡ Failed) = search rules in
+    let written : Writes g.D.Disk Database 0 c.args.text.now c.cut.new.self c.write_at.new.self
+    (c.write_at.result ≡ Failed) = search rules in
     replaced_moments cut written
 
 pub returns-in-Done-write_at-clause-changes : goal.returns-in-Done-write_at-clause-changes
 returns-in-Done-write_at-clause-changes g c =
     let cut : Cuts g.D.Disk Database 0 c.args.disk.now c.cut.new.self (c.cut.result ≡ Failed) = search rules in
-    let written : Writes g.D.Disk Database 0 c.args.text.now c.cut.new.self c.write_at.new.self (c.write_at.result ≡ Failed) = search rules in
+    let written : Writes g.D.Disk Database 0 c.args.text.now c.cut.new.self c.write_at.new.self
+    (c.write_at.result ≡ Failed) = search rules in
     changes_as (omega arith) (λ failed. absurd cc) (λ failed. absurd cc) (replaced_changes cut written (λ failed. absurd cc))
 
 pub returns-in-Failed-write_at-clause-moments : goal.returns-in-Failed-write_at-clause-moments
 returns-in-Failed-write_at-clause-moments g c =
     let cut : Cuts g.D.Disk Database 0 c.args.disk.now c.cut.new.self (c.cut.result ≡ Failed) = search rules in
-    let written : Writes g.D.Disk Database 0 c.args.text.now c.cut.new.self c.write_at.new.self (c.write_at.result ≡ Failed) = search rules in
+    let written : Writes g.D.Disk Database 0 c.args.text.now c.cut.new.self c.write_at.new.self
+    (c.write_at.result ≡ Failed) = search rules in
     replaced_moments cut written
 
 pub returns-in-Failed-write_at-clause-changes : goal.returns-in-Failed-write_at-clause-changes
 returns-in-Failed-write_at-clause-changes g c =
     let cut : Cuts g.D.Disk Database 0 c.args.disk.now c.cut.new.self (c.cut.result ≡ Failed) = search rules in
-    let written : Writes g.D.Disk Database 0 c.args.text.now c.cut.new.self c.write_at.new.self (c.write_at.result ≡ Failed) = search rules in
+    let written : Writes g.D.Disk Database 0 c.args.text.now c.cut.new.self c.write_at.new.self
+    (c.write_at.result ≡ Failed) = search rules in
     changes_as (omega arith) (λ failed. refl) (λ failed. cc) (replaced_changes cut written (λ failed. absurd cc))
