@@ -9,11 +9,13 @@ use Rattle.server_state.specs.Keeping.{IsKeptOver}
 use Rattle.ubik_write.specs.Pending.{with_piece_at}
 
 -- whether it was taken or memory lacked, the write is of the same version
-pub same_new : {E : Type 0} (r : Result (Unit {0}) E) (number : ℕ) (bytes : List ℕ) (before after : KeptWrite) → OnOk r (after ≡ with_piece_at number bytes before) → OnErr r (after ≡ before) → after.new ≡ before.new
+pub same_new : {E : Type 0} (r : Result (Unit {0}) E) (number : ℕ) (bytes : List ℕ) (before after : KeptWrite)
+    → OnOk r (after ≡ with_piece_at number bytes before) → OnErr r (after ≡ before) → after.new ≡ before.new
 same_new (Ok done) number bytes before after ok err = ap (λ (w : KeptWrite). w.new) ok
 same_new (Err e) number bytes before after ok err = ap (λ (w : KeptWrite). w.new) err
 
-pub still_over : (own : Version) (before after : KeptWrite) → after.new ≡ before.new → IsKeptOver own before → ForSome (Some after) (IsKeptOver own)
+pub still_over : (own : Version) (before after : KeptWrite) → after.new ≡ before.new → IsKeptOver own before
+    → ForSome (Some after) (IsKeptOver own)
 still_over own before after same over = λ w is.
     let it : after ≡ w = cc in
     let new : before.new ≡ w.new = sym same ∙ ap (λ (x : KeptWrite). x.new) it in

@@ -37,7 +37,15 @@ bounded_body (VersionKept version) plain = (plain, tt)
 short-piece : (bytes : List ℕ) → IsPiece bytes → length (spelled (field.Piece bytes ∷ [])) ≤ 8200
 unfolding spelled field.field_spelling
 short-piece bytes piece =
-    omega (arith, piece, length-append (opaque bytes) [], length-append (word (length bytes) ++ bytes) (replicate (padding (length bytes)) 0), length-append (word (length bytes)) bytes, length-replicate {A = ℕ} (padding (length bytes)) 0)
+    omega (
+      arith,
+      piece,
+      length-append (opaque bytes) [],
+      length-append (word (length bytes) ++ bytes)
+          (replicate (padding (length bytes)) 0),
+      length-append (word (length bytes)) bytes,
+      length-replicate {A = ℕ} (padding (length bytes)) 0,
+    )
 
 short-body : (body : Body) → IsPlainBody body → length (spelled (body_fields body)) ≤ 8300
 unfolding spelled field.field_spelling
@@ -59,7 +67,8 @@ short-body (VersionKept version) plain = omega arith
 -- a packet that says what is plain
 pub spelled_packet : (p : Packet) → IsPlainBody p.body → HasSpelling (frame.Packet p)
 unfolding spelled field.field_spelling
-spelled_packet p plain = record { bounded = (tt, (tt, (tt, (tt, bounded_body p.body plain)))); bound = omega (arith, short-body p.body plain) }
+spelled_packet p plain =
+    record { bounded = (tt, (tt, (tt, (tt, bounded_body p.body plain)))); bound = omega (arith, short-body p.body plain) }
 
 bounded_reply : (r : Reply) → AllByRecursion IsBounded (reply_fields r)
 bounded_reply (reply.Ok answer) = (tt, (tt, tt))
@@ -97,7 +106,8 @@ spelled_as r s is plain = subst IsSpelledReply (sym is) (spelled_reply s plain)
 -- what a server tells of itself
 pub spelled_debug : (is : DebugIs) → IsVersion is.version → (number : ℕ) → HasSpelling (frame.DebugIs number is)
 unfolding spelled field.field_spelling
-spelled_debug is version number = record { bounded = (tt, (tt, (tt, (tt, (version, (tt, (tt, (tt, (tt, (tt, tt)))))))))); bound = omega arith }
+spelled_debug is version number =
+    record { bounded = (tt, (tt, (tt, (tt, (version, (tt, (tt, (tt, (tt, (tt, tt)))))))))); bound = omega arith }
 
 -- the version of a server is one
 pub own_version : (s : State) → IsVersion s.version

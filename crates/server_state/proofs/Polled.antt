@@ -40,7 +40,8 @@ greater false v w one other = other
 best_is : (xs : List (Option Version)) (best : Version) → AreVersions xs → IsVersion best → IsVersion (best_version best xs)
 best_is [] best all is = is
 best_is (None ∷ xs) best all is = best_is xs best (λ i u. all (suc i) u) is
-best_is (Some v ∷ xs) best all is = best_is xs (cond (version_lt best v) v best) (λ i u. all (suc i) u) (greater (version_lt best v) v best (all zero v refl) is)
+best_is (Some v ∷ xs) best all is =
+    best_is xs (cond (version_lt best v) v best) (λ i u. all (suc i) u) (greater (version_lt best v) v best (all zero v refl) is)
 
 -- the best of answers that are versions is one
 pub version_best : (r : RecoveryRecord) → AreVersions r.answers → IsVersion (best_of r)
@@ -50,7 +51,8 @@ through : {P : ReceivedText → Type 0} (b : Bool) (text : Option ReceivedText) 
 through true text all t at = absurd cc
 through false text all t at = all t at
 
-pub of_begun : (n : ℕ) (r : RecoveryRecord) (now me : ℕ) (own : Version) → IsVersion own → IsOfCell n r → IsOfCell n (poll_begun r now me own)
+pub of_begun : (n : ℕ) (r : RecoveryRecord) (now me : ℕ) (own : Version) → IsVersion own → IsOfCell n r
+    → IsOfCell n (poll_begun r now me own)
 of_begun n r now me own is of = record {
   servers = of.servers;
   answers = versions_only r.servers me own is;
@@ -62,7 +64,8 @@ pub of_marks : (n : ℕ) (r : RecoveryRecord) → IsOfCell n r → IsOfCell n (w
 of_marks n r of = record { servers = of.servers; answers = of.answers; old = of.old; text = λ t at. absurd cc }
 
 -- where no calls are served the phase record names no announced version
-pub unannounced : (r : RecoveryRecord) (text : Option ReceivedText) (v w : Version) → ¬ (r.phase ≡ phase.Ready) → phase_record v (with_text r text) ≡ phase_record w r
+pub unannounced : (r : RecoveryRecord) (text : Option ReceivedText) (v w : Version) → ¬ (r.phase ≡ phase.Ready)
+    → phase_record v (with_text r text) ≡ phase_record w r
 unannounced r text v w rests = by_phase r.phase rests
   where
     by_phase : (p : Phase) → ¬ (p ≡ phase.Ready) → record_in p v (with_text r text) ≡ record_in p w r
@@ -77,7 +80,15 @@ pub ready_phase : (v : Version) (r : RecoveryRecord) → r.phase ≡ phase.Ready
 ready_phase v r is = ap (λ (p : Phase). is_ready (record_in p v r)) is
 
 pub of_answered : (n : ℕ) (r : RecoveryRecord) (k : ℕ) (v : Version) → IsVersion v → IsOfCell n r → IsOfCell n (answered_by r k v)
-of_answered n r k v is of = record { servers = of.servers; answers = versions_set r.answers k v of.answers is; old = of.old; text = of.text }
+of_answered n r k v is of =
+    record { servers = of.servers; answers = versions_set r.answers k v of.answers is; old = of.old; text = of.text }
 
 pub of_none : (n : ℕ) → IsOfCell n (no_recovery n)
-of_none n = record { servers = refl; answers = versions_none n; old = record { epoch = omega arith; counter = omega arith }; text = λ t at. absurd cc }
+of_none n =
+    record {
+      servers = refl;
+      answers = versions_none n;
+      old = record { epoch = omega arith; counter = omega arith };
+      text = λ t at.
+          absurd cc;
+    }

@@ -1,5 +1,5 @@
 -- How what the code keeps stands for a write in flight, and for a begun write of another server.
-use Rattle.std.specs.Prelude.{◌≡◌, ◌<◌, ◌^◌, IsTrue, length}
+use Rattle.std.specs.Prelude.{◌≡◌, ◌<◌, ◌^◌, ◌↔◌, IsTrue, length}
 use Rattle.ubik_types.specs.declared.limits.TheConstants.{MAXSERVERS}
 use Rattle.ubik_write.specs.declared.flights.Flight.TheInside as flight
 use Rattle.ubik_write.specs.Flight.{FlightRecord}
@@ -17,8 +17,8 @@ flight_of f = record {
   text = f.text;
 }
 
--- there is a mark for each server, the text is as long as a number can tell, and patches that are searched ascend
+-- there is a mark for each server, the text is as long as a number can tell, and patches are searched exactly where they ascend
 pub record IsInOrder (f : flight.Inside) : Type 0 where
   pub holders : length f.holders ≡ MAXSERVERS
   pub text : length f.text < 2 ^ 32
-  pub ascending : IsTrue f.ascending → AreAscending f.undo.items
+  pub ascending : IsTrue f.ascending ↔ AreAscending f.undo.items

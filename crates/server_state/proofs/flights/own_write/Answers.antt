@@ -17,4 +17,5 @@ new-requires-clause-len c =
 pub returns-clause-before : goal.returns-clause-before
 returns-clause-before c = λ old undoes is.
     let f = c.args.flight in
-    ap (λ (w : OwnRecord). w.flight.old_image) c.new.ensures ∙ c.of-old_image.ensures ∙ ap (image_before f.undo f.old_len) is ∙ c.law_before_image_holds_the_old_bytes.ensures f old c.args.changes.now undoes
+    ap (λ (w : OwnRecord). w.flight.old_image) c.new.ensures ∙ c.of-old_image.ensures ∙ ap (image_before f.undo f.old_len) is
+    ∙ c.law_before_image_holds_the_old_bytes.ensures f old c.args.changes.now undoes

@@ -31,10 +31,17 @@ loop-k-preserved c =
           w.out-is ∙ w.put.ensures ∙ ap (λ (p : Packet). c.loop-k.out ++ Send p ∷ []) w.packet_to-question.ensures.packet in
           let none : w.is_in.result ≡ false = search rules in
           record {
-            few = omega (arith, ap length out, length-append c.loop-k.out (Send (packet_to m w.host.result (body.GetVersion c.args.poll)) ∷ []), c.loop-k.invariant.few);
+            few = omega (
+              arith,
+              ap length out,
+              length-append c.loop-k.out
+                  (Send (packet_to m w.host.result (body.GetVersion c.args.poll)) ∷ []),
+              c.loop-k.invariant.few,
+            );
             rest =
                 ap (λ (o : List Output). o ++ left_of m bodies (k + 1) (drop (k + 1) m.hosts)) out
-                ∙ gave_one m bodies k c.loop-k.out all inside c.loop-k.invariant.rest w.host.result (body.GetVersion c.args.poll) w.host.ensures (ne_eqb _ _ w.if-k-self.true)
+                ∙ gave_one m bodies k c.loop-k.out all inside c.loop-k.invariant.rest w.host.result
+                (body.GetVersion c.args.poll) w.host.ensures (ne_eqb _ _ w.if-k-self.true)
                 (ap (λ (b : Bool). asks b c.args.poll) (sym (w.is_in.ensures n inside) ∙ none));
           }
       | else-k-self w ↦ record {
@@ -42,8 +49,10 @@ loop-k-preserved c =
         rest = ap (λ (o : List Output). o ++ left_of m bodies (k + 1) (drop (k + 1) m.hosts)) w.out-is ∙ elim w.else-k-self.branch [
           | else-k-self-via-then-k-self+else-not-is_in v ↦
               let some : v.is_in.result ≡ true = search rules in
-              gave_none m bodies k c.loop-k.out all inside c.loop-k.invariant.rest (ne_eqb _ _ v.if-k-self.true) (ap (λ (b : Bool). asks b c.args.poll) (sym (v.is_in.ensures n inside) ∙ some))
-          | else-k-self-via-else-k-self v ↦ gave_own m bodies k c.loop-k.out all inside c.loop-k.invariant.rest (eq-eqb _ _ v.if-k-self.false)
+              gave_none m bodies k c.loop-k.out all inside c.loop-k.invariant.rest (ne_eqb _ _ v.if-k-self.true)
+              (ap (λ (b : Bool). asks b c.args.poll) (sym (v.is_in.ensures n inside) ∙ some))
+          | else-k-self-via-else-k-self v ↦ gave_own m bodies k c.loop-k.out all inside c.loop-k.invariant.rest
+              (eq-eqb _ _ v.if-k-self.false)
         ];
       }
     ]

@@ -11,5 +11,6 @@ invariant-loop-k l =
     let bodies = λ (k : ℕ). if is_marked (marked (length l.self.cell) l.but.set) k then [] else body.GetVersion l.poll ∷ [] in
     record {
       few : length l.out ≤ length l.fn.out + l.k;
-      rest : l.out ++ left_of (member_of l.self) bodies l.k (drop l.k l.self.cell) ≡ l.fn.out ++ left_of (member_of l.self) bodies 0 l.self.cell;
+      rest : l.out ++ left_of (member_of l.self) bodies l.k (drop l.k l.self.cell) ≡ l.fn.out
+          ++ left_of (member_of l.self) bodies 0 l.self.cell;
     }

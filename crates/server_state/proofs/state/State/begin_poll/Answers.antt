@@ -8,4 +8,5 @@ pub invariant_of-self-clause-of_cell : goal.invariant_of-self-clause-of_cell
 invariant_of-self-clause-of_cell c =
     let st = c.args.self.now in
     subst (λ (r : RecoveryRecord). IsOfCell (length st.cell) r) (sym c.begin.ensures)
-    (of_begun (length st.cell) st.recovery c.args.now st.me st.version (record { epoch = omega (arith, st.epoch_fits); counter = omega (arith, st.counter_fits) }) st.of_cell)
+    (of_begun (length st.cell) st.recovery c.args.now st.me st.version
+    (record { epoch = omega (arith, st.epoch_fits); counter = omega (arith, st.counter_fits) }) st.of_cell)

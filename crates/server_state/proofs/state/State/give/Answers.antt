@@ -20,7 +20,9 @@ loop-k-preserved-then-k-self c =
     let inside : c.loop-k.k < length st.cell = omega arith in
     record {
       few = omega (arith, c.loop-k.invariant.few);
-      rest = gave_own m bodies c.loop-k.k c.loop-k.out (c.args.out.now ++ left_of m bodies 0 st.cell) inside c.loop-k.invariant.rest (eq-eqb _ _ c.if-k-self.true);
+      rest =
+          gave_own m bodies c.loop-k.k c.loop-k.out (c.args.out.now ++ left_of m bodies 0 st.cell) inside c.loop-k.invariant.rest
+          (eq-eqb _ _ c.if-k-self.true);
     }
 
 pub loop-k-preserved : goal.loop-k-preserved
@@ -38,9 +40,16 @@ loop-k-preserved c =
           let body = given_body given w.in-Some.answer in
           let out : c.match-answered_version.out ≡ c.loop-k.out ++ Send (packet_to m w.host.result body) ∷ [] =
           w.out-is ∙ w.put.ensures
-          ∙ ap (λ (p : Packet). c.loop-k.out ++ Send p ∷ []) (w.packet_to.ensures.packet ∙ ap (λ (b : Body). packet_to m w.host.result b) w.in_ok-body.ensures.body) in
+          ∙ ap (λ (p : Packet). c.loop-k.out ++ Send p ∷ [])
+          (w.packet_to.ensures.packet ∙ ap (λ (b : Body). packet_to m w.host.result b) w.in_ok-body.ensures.body) in
           record {
-            few = omega (arith, ap length out, length-append c.loop-k.out (Send (packet_to m w.host.result body) ∷ []), c.loop-k.invariant.few);
+            few = omega (
+              arith,
+              ap length out,
+              length-append c.loop-k.out
+                  (Send (packet_to m w.host.result body) ∷ []),
+              c.loop-k.invariant.few,
+            );
             rest =
                 ap (λ (o : List Output). o ++ left_of m bodies (k + 1) (drop (k + 1) m.hosts)) out
                 ∙ gave_one m bodies k c.loop-k.out all inside c.loop-k.invariant.rest w.host.result body w.host.ensures other
@@ -50,6 +59,7 @@ loop-k-preserved c =
         few = omega (arith, ap length w.out-is, c.loop-k.invariant.few);
         rest =
             ap (λ (o : List Output). o ++ left_of m bodies (k + 1) (drop (k + 1) m.hosts)) w.out-is
-            ∙ gave_none m bodies k c.loop-k.out all inside c.loop-k.invariant.rest other (ap (λ (a : Option Version). given_bodies given a) (sym c.answered_version.ensures ∙ w.in_default.is));
+            ∙ gave_none m bodies k c.loop-k.out all inside c.loop-k.invariant.rest other
+            (ap (λ (a : Option Version). given_bodies given a) (sym c.answered_version.ensures ∙ w.in_default.is));
       }
     ]

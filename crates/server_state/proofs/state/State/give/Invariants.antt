@@ -10,5 +10,6 @@ invariant-loop-k l =
     let bodies = λ (k : ℕ). given_bodies l.given (entry_at l.next.answers k) in
     record {
       few : length l.out ≤ length l.fn.out + l.k;
-      rest : l.out ++ left_of (member_of l.self) bodies l.k (drop l.k l.self.cell) ≡ l.fn.out ++ left_of (member_of l.self) bodies 0 l.self.cell;
+      rest : l.out ++ left_of (member_of l.self) bodies l.k (drop l.k l.self.cell) ≡ l.fn.out
+          ++ left_of (member_of l.self) bodies 0 l.self.cell;
     }

@@ -16,7 +16,8 @@ invariant-loop-asked l =
       few : length l.out + length (waiting_of l.self.writes) < 200;
       kept : Keeps st l.self;
       server : server_of l.self ≡ record (server_of st) { waiting = waiting_of l.self.writes };
-      rest : l.out ++ refused_from (waiting_of l.self.writes) 0 refusal ≡ (l.fn.out ++ output.Reply l.id refusal ∷ []) ++ refused_from (waiting_of st.writes) 0 refusal;
+      rest : l.out ++ refused_from (waiting_of l.self.writes) 0 refusal ≡ (l.fn.out ++ output.Reply l.id refusal ∷ [])
+          ++ refused_from (waiting_of st.writes) 0 refusal;
     }
 
 abbrev pub decreases-loop-asked : goal.decreases-loop-asked

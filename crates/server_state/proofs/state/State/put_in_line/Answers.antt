@@ -9,8 +9,10 @@ use Rattle.server_state.proofs.state.State.put_in_line.Goals.{in-Err-LineFull, i
 pub invariant_of-self-2-clause-written : goal.invariant_of-self-2-clause-written
 invariant_of-self-2-clause-written c =
     let st = c.args.self.now in
-    written_waits c.wait.result (length st.cell) c.args.id c.args.call.now st.image c.in-Some.writes c.wait.new.self (subst (λ (w : Option SiteRecord). IsSome (own_of w)) c.in-Some.is c.requires.writing)
-    c.wait.ensures.ok c.wait.ensures.err c.wait.ensures.full (subst (λ (w : Option SiteRecord). AreOfCell (length st.cell) st.image w) c.in-Some.is st.written)
+    written_waits c.wait.result (length st.cell) c.args.id c.args.call.now st.image c.in-Some.writes c.wait.new.self
+    (subst (λ (w : Option SiteRecord). IsSome (own_of w)) c.in-Some.is c.requires.writing)
+    c.wait.ensures.ok c.wait.ensures.err c.wait.ensures.full
+    (subst (λ (w : Option SiteRecord). AreOfCell (length st.cell) st.image w) c.in-Some.is st.written)
 
 pub invariant_of-self-2-clause-line : goal.invariant_of-self-2-clause-line
 invariant_of-self-2-clause-line c = λ rests. absurd (rests (c.args.self.now.serving c.requires.writing))

@@ -26,10 +26,12 @@ loop-place-preserved c =
       | in-Some-waits_at w ↦
           let id = w.in-Some-waits_at.id in
           let out : c.match-waits_at.out ≡ c.loop-place.out ++ output.Reply id r ∷ [] =
-          w.out-is ∙ w.put-in-Some-waits_at.ensures ∙ ap (λ (x : Reply). c.loop-place.out ++ output.Reply id x ∷ []) w.no_quorum-reply-in-Some-waits_at.ensures.reply in
+          w.out-is ∙ w.put-in-Some-waits_at.ensures
+          ∙ ap (λ (x : Reply). c.loop-place.out ++ output.Reply id x ∷ []) w.no_quorum-reply-in-Some-waits_at.ensures.reply in
           record {
             few = omega (arith, ap length out, length-append c.loop-place.out (output.Reply id r ∷ []), c.loop-place.invariant.few);
-            rest = ap (λ (o : List Output). o ++ refused_from waiting (place + 1) r) out ∙ one_refused waiting place id r c.loop-place.out all inside (there ∙ w.in-Some-waits_at.is) c.loop-place.invariant.rest;
+            rest = ap (λ (o : List Output). o ++ refused_from waiting (place + 1) r) out
+                ∙ one_refused waiting place id r c.loop-place.out all inside (there ∙ w.in-Some-waits_at.is) c.loop-place.invariant.rest;
           }
       | in_default-waits_at w ↦ waits_there waiting place _ inside (there ∙ w.in_default-waits_at.is)
     ]

@@ -13,5 +13,6 @@ invariant-loop-place l =
     let s = server_of l.self in
     record {
       few : length l.out ≤ 1 + l.place;
-      rest : l.out ++ refused_from (waiting_of l.self.writes) l.place (no_quorum m s l.now l.phase applied.No) ≡ outputs_of (writes_refused m s l.now l.phase);
+      rest : l.out ++ refused_from (waiting_of l.self.writes) l.place (no_quorum m s l.now l.phase applied.No) ≡ outputs_of
+          (writes_refused m s l.now l.phase);
     }

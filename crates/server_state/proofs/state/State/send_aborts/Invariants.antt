@@ -8,5 +8,6 @@ use Rattle.server_state.proofs.state.State.send_aborts.Given as goal
 abbrev pub invariant-loop-k : goal.invariant-loop-k
 invariant-loop-k l = record {
   few : length l.out ≤ length l.fn.out + l.k;
-  rest : l.out ++ left (member_of l.self) (body.Abort l.self.version) l.k (drop l.k l.self.cell) ≡ l.fn.out ++ outputs_of (sends_to_all (member_of l.self) (body.Abort l.self.version));
+  rest : l.out ++ left (member_of l.self) (body.Abort l.self.version) l.k (drop l.k l.self.cell) ≡ l.fn.out
+      ++ outputs_of (sends_to_all (member_of l.self) (body.Abort l.self.version));
 }

@@ -20,14 +20,24 @@ loop-k-preserved c =
       | then-k-self w ↦
           let out : c.if-k-self.out ≡ c.loop-k.out ++ Send (packet_to m w.host.result body) ∷ [] =
           w.out-is ∙ w.put.ensures
-          ∙ ap (λ (p : Packet). c.loop-k.out ++ Send p ∷ []) (w.packet_to-beacon.ensures.packet ∙ ap (λ (b : Body). packet_to m w.host.result b) w.own_beacon.ensures.beacon) in
+          ∙ ap (λ (p : Packet). c.loop-k.out ++ Send p ∷ [])
+          (w.packet_to-beacon.ensures.packet ∙ ap (λ (b : Body). packet_to m w.host.result b) w.own_beacon.ensures.beacon) in
           record {
-            few = omega (arith, ap length out, length-append c.loop-k.out (Send (packet_to m w.host.result body) ∷ []), c.loop-k.invariant.few);
-            rest = ap (λ (o : List Output). o ++ left m body (c.loop-k.k + 1) (drop (c.loop-k.k + 1) m.hosts)) out ∙ one_sent m body c.loop-k.k w.host.result c.loop-k.out all inside w.host.ensures (ne_eqb _ _ w.if-k-self.true) c.loop-k.invariant.rest;
+            few = omega (
+              arith,
+              ap length out,
+              length-append c.loop-k.out
+                  (Send (packet_to m w.host.result body) ∷ []),
+              c.loop-k.invariant.few,
+            );
+            rest = ap (λ (o : List Output). o ++ left m body (c.loop-k.k + 1) (drop (c.loop-k.k + 1) m.hosts)) out
+                ∙ one_sent m body c.loop-k.k w.host.result c.loop-k.out all inside w.host.ensures
+                (ne_eqb _ _ w.if-k-self.true) c.loop-k.invariant.rest;
           }
       | else-k-self w ↦
           record {
             few = omega (arith, ap length w.out-is, c.loop-k.invariant.few);
-            rest = ap (λ (o : List Output). o ++ left m body (c.loop-k.k + 1) (drop (c.loop-k.k + 1) m.hosts)) w.out-is ∙ one_skipped m body c.loop-k.k c.loop-k.out all inside (eq-eqb _ _ w.if-k-self.false) c.loop-k.invariant.rest;
+            rest = ap (λ (o : List Output). o ++ left m body (c.loop-k.k + 1) (drop (c.loop-k.k + 1) m.hosts)) w.out-is
+                ∙ one_skipped m body c.loop-k.k c.loop-k.out all inside (eq-eqb _ _ w.if-k-self.false) c.loop-k.invariant.rest;
           }
     ]

@@ -8,5 +8,6 @@ use Rattle.server_state.proofs.state.State.send_beacons.Given as goal
 abbrev pub invariant-loop-k : goal.invariant-loop-k
 invariant-loop-k l = record {
   few : length l.out ≤ length l.fn.out + l.k;
-  rest : l.out ++ left (member_of l.self) (own_beacon (server_of l.self) l.now l.claim) l.k (drop l.k l.self.cell) ≡ l.fn.out ++ outputs_of (sends_to_all (member_of l.self) (own_beacon (server_of l.self) l.now l.claim));
+  rest : l.out ++ left (member_of l.self) (own_beacon (server_of l.self) l.now l.claim) l.k (drop l.k l.self.cell) ≡ l.fn.out
+      ++ outputs_of (sends_to_all (member_of l.self) (own_beacon (server_of l.self) l.now l.claim));
 }

@@ -17,15 +17,23 @@ loop-number-preserved c =
     let count = piece_count text in
     let old = c.args.out.now in
     let piece : List Output = Send (packet_to m c.args.to (body.PutPiece c.args.new number (numbered_piece text number))) ∷ [] in
-    let all : List Output = (old ++ Send (packet_to m c.args.to (body.Begin c.args.flight.now.old_version c.args.new count (length text))) ∷ []) ++ pieces_left m c.args.to c.args.new text 0 count in
+    let all : List Output =
+    (old ++ Send (packet_to m c.args.to (body.Begin c.args.flight.now.old_version c.args.new count (length text))) ∷ [])
+    ++ pieces_left m c.args.to c.args.new text 0 count in
     let inside : number < count = omega arith in
     let out : c.push-in-loop-number.new.self ≡ c.loop-number.out ++ piece =
     c.in_ok-push-2.ensures.ok
-    ∙ ap (λ (p : Packet). c.loop-number.out ++ Send p ∷ []) (c.packet_to-in-loop-number.ensures.packet ∙ ap (λ (bytes : List ℕ). packet_to m c.args.to (body.PutPiece c.args.new number bytes)) (c.in_ok-bytes.ensures ∙ c.piece.ensures)) in
+    ∙ ap (λ (p : Packet). c.loop-number.out ++ Send p ∷ [])
+    (c.packet_to-in-loop-number.ensures.packet
+    ∙ ap (λ (bytes : List ℕ). packet_to m c.args.to (body.PutPiece c.args.new number bytes)) (c.in_ok-bytes.ensures ∙ c.piece.ensures)) in
     record {
       long = omega (arith, ap length out, length-append c.loop-number.out piece, c.loop-number.invariant.long);
-      front = ap (λ (o : List Output). take (length old) o) out ∙ front_stays old c.loop-number.out piece c.loop-number.invariant.long c.loop-number.invariant.front;
-      rest = ap (λ (o : List Output). o ++ pieces_left m c.args.to c.args.new text (number + 1) (count - (number + 1))) out ∙ piece_put m c.args.to c.args.new text number count c.loop-number.out all inside c.loop-number.invariant.rest;
+      front =
+          ap (λ (o : List Output). take (length old) o) out
+          ∙ front_stays old c.loop-number.out piece c.loop-number.invariant.long c.loop-number.invariant.front;
+      rest =
+          ap (λ (o : List Output). o ++ pieces_left m c.args.to c.args.new text (number + 1) (count - (number + 1))) out
+          ∙ piece_put m c.args.to c.args.new text number count c.loop-number.out all inside c.loop-number.invariant.rest;
     }
 
 pub packet_to-requires-in-loop-number : goal.packet_to-requires-in-loop-number

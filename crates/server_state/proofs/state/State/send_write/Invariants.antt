@@ -15,5 +15,6 @@ invariant-loop-number l =
       long : length l.fn.out ≤ length l.out;
       front : take (length l.fn.out) l.out ≡ l.fn.out;
       rest : l.out ++ pieces_left m l.to l.new text l.number (piece_count text - l.number)
-          ≡ (l.fn.out ++ Send (packet_to m l.to (body.Begin l.flight.old_version l.new (piece_count text) (length text))) ∷ []) ++ pieces_left m l.to l.new text 0 (piece_count text);
+          ≡ (l.fn.out ++ Send (packet_to m l.to (body.Begin l.flight.old_version l.new (piece_count text) (length text))) ∷ [])
+          ++ pieces_left m l.to l.new text 0 (piece_count text);
     }

@@ -19,7 +19,8 @@ loop-k-preserved c =
     let m = member_of c.args.self.now in
     let n = length c.args.self.now.cell in
     let those : List Body = write_bodies c.args.flight.now.old_version c.args.new c.args.flight.now.text in
-    let bodies = λ (k : ℕ). if is_marked (marked n c.args.but.now.set) k then [] else write_bodies c.args.flight.now.old_version c.args.new c.args.flight.now.text in
+    let bodies = λ (k : ℕ). if is_marked
+    (marked n c.args.but.now.set) k then [] else write_bodies c.args.flight.now.old_version c.args.new c.args.flight.now.text in
     let k = c.loop-k.k in
     let old = c.args.out.now in
     let inside : k < n = omega arith in
@@ -31,10 +32,12 @@ loop-k-preserved c =
           let none : w.is_in.result ≡ false = search rules in
           record {
             long = omega (arith, ap length out, length-append c.loop-k.out sent, c.loop-k.invariant.long);
-            front = ap (λ (o : List Output). take (length old) o) out ∙ front_stays old c.loop-k.out sent c.loop-k.invariant.long c.loop-k.invariant.front;
+            front = ap (λ (o : List Output). take (length old) o) out
+                ∙ front_stays old c.loop-k.out sent c.loop-k.invariant.long c.loop-k.invariant.front;
             rest =
                 ap (λ (o : List Output). o ++ left_of m bodies (k + 1) (drop (k + 1) m.hosts)) out
-                ∙ gave_all m bodies k c.loop-k.out all inside c.loop-k.invariant.rest w.host.result those w.host.ensures (ne_eqb _ _ w.if-k-self.true) (ap (λ (b : Bool). but b those) (sym (w.is_in.ensures n inside) ∙ none));
+                ∙ gave_all m bodies k c.loop-k.out all inside c.loop-k.invariant.rest w.host.result those w.host.ensures
+                (ne_eqb _ _ w.if-k-self.true) (ap (λ (b : Bool). but b those) (sym (w.is_in.ensures n inside) ∙ none));
           }
       | else-k-self w ↦ record {
         long = omega (arith, ap length w.out-is, c.loop-k.invariant.long);
@@ -42,8 +45,10 @@ loop-k-preserved c =
         rest = ap (λ (o : List Output). o ++ left_of m bodies (k + 1) (drop (k + 1) m.hosts)) w.out-is ∙ elim w.else-k-self.branch [
           | else-k-self-via-then-k-self+else-not-is_in v ↦
               let some : v.is_in.result ≡ true = search rules in
-              gave_none m bodies k c.loop-k.out all inside c.loop-k.invariant.rest (ne_eqb _ _ v.if-k-self.true) (ap (λ (b : Bool). but b those) (sym (v.is_in.ensures n inside) ∙ some))
-          | else-k-self-via-else-k-self v ↦ gave_own m bodies k c.loop-k.out all inside c.loop-k.invariant.rest (eq-eqb _ _ v.if-k-self.false)
+              gave_none m bodies k c.loop-k.out all inside c.loop-k.invariant.rest (ne_eqb _ _ v.if-k-self.true)
+              (ap (λ (b : Bool). but b those) (sym (v.is_in.ensures n inside) ∙ some))
+          | else-k-self-via-else-k-self v ↦ gave_own m bodies k c.loop-k.out all inside c.loop-k.invariant.rest
+              (eq-eqb _ _ v.if-k-self.false)
         ];
       }
     ]

@@ -8,9 +8,11 @@ use Rattle.server_state.proofs.state.State.spread_write.Given as goal
 
 abbrev pub invariant-loop-k : goal.invariant-loop-k
 invariant-loop-k l =
-    let bodies = λ (k : ℕ). if is_marked (marked (length l.self.cell) l.but.set) k then [] else write_bodies l.flight.old_version l.new l.flight.text in
+    let bodies = λ (k : ℕ). if is_marked
+    (marked (length l.self.cell) l.but.set) k then [] else write_bodies l.flight.old_version l.new l.flight.text in
     record {
       long : length l.fn.out ≤ length l.out;
       front : take (length l.fn.out) l.out ≡ l.fn.out;
-      rest : l.out ++ left_of (member_of l.self) bodies l.k (drop l.k l.self.cell) ≡ l.fn.out ++ left_of (member_of l.self) bodies 0 l.self.cell;
+      rest : l.out ++ left_of (member_of l.self) bodies l.k (drop l.k l.self.cell) ≡ l.fn.out
+          ++ left_of (member_of l.self) bodies 0 l.self.cell;
     }
