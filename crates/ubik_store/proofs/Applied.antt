@@ -25,7 +25,8 @@ applied_none (Some fs) = refl
 
 -- and after the last
 pub applied_all : (rest whole : List Change) (start files : Option Files) → rest ≡ []
-    → option_map (with_database (applied rest)) files ≡ option_map (with_database (applied whole)) start → files ≡ option_map (with_database (applied whole)) start
+    → option_map (with_database (applied rest)) files ≡ option_map (with_database (applied whole)) start
+    → files ≡ option_map (with_database (applied whole)) start
 applied_all rest whole start files none so =
     sym (applied_none files) ∙ ap (λ (cs : List Change). option_map (with_database (applied cs)) files) (sym none) ∙ so
 
@@ -60,11 +61,14 @@ module _ {D : Type 0} {g : Ghosts D} where
   }
 
   -- calls of two runs, of which the first did not fail
-  pub calls_joined : {m n : ℕ} {old mid new : D} {F G : Type 0} → CallsAtMost g m old mid F → ¬ F → CallsAtMost g n mid new G → CallsAtMost g (m + n) old new G
+  pub calls_joined : {m n : ℕ} {old mid new : D} {F G : Type 0} → CallsAtMost g m old mid F → ¬ F → CallsAtMost g n mid new G
+      → CallsAtMost g (m + n) old new G
   calls_joined {m} {n} {old} {mid} {new} {F} {G} first went second = record {
     at_most = (omega (arith, first.at_most.0, second.at_most.0), omega (arith, first.at_most.1, second.at_most.1));
     advances = advances_joined first.advances second.advances;
-    stopped = λ is. ⊎_elim (λ was. ⊎_elim (λ before. inl before) (λ failed. absurd (went failed)) (first.stopped was)) (λ failed. inr failed) (second.stopped is);
+    stopped =
+        λ is. ⊎_elim (λ was. ⊎_elim (λ before. inl before) (λ failed. absurd (went failed)) (first.stopped was)) (λ failed. inr failed)
+        (second.stopped is);
     room = λ f. let before = first.room f in let after = second.room f in omega (arith, before, after);
     tells = second.tells ∙ first.tells;
     cause = record {

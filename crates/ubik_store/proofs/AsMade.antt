@@ -57,17 +57,20 @@ logged_is_seamless (Cut to ∷ changes) len =
     let same : min to len ≡ min (min to len) len = omega arith in
     (omega arith, subst (λ (n : ℕ). IsSeamless n (logged (min to len) changes)) same (logged_is_seamless changes (min to len)))
 
-pub logged_is_within : (changes : List Change) (len : ℕ) → len ≤ 16777216 → All IsWithinImage changes → All IsWithinImage (logged len changes)
+pub logged_is_within : (changes : List Change) (len : ℕ) → len ≤ 16777216 → All IsWithinImage changes
+    → All IsWithinImage (logged len changes)
 logged_is_within [] len short within = All-nil IsWithinImage
 logged_is_within (Put at bytes ∷ changes) len short within =
     let here : at + length bytes ≤ 16777216 = All-head IsWithinImage (Put at bytes) changes within in
-    let rest = logged_is_within changes (max len (at + length bytes)) (omega arith) (All-tail IsWithinImage (Put at bytes) changes within) in
+    let rest = logged_is_within changes (max len (at + length bytes)) (omega arith)
+    (All-tail IsWithinImage (Put at bytes) changes within) in
     let put = All-cons IsWithinImage (Put at bytes) (logged (max len (at + length bytes)) changes) here rest in
     elim (cases_lt len at) [
       | inl gap ↦
           let long : length (replicate {A = ℕ} (at - len) 0) ≡ at - len = length-replicate (at - len) 0 in
           subst (All IsWithinImage) (sym (logged_gap len at bytes changes gap))
-          (All-cons IsWithinImage (Put len (replicate (at - len) 0)) (Put at bytes ∷ logged (max len (at + length bytes)) changes) (omega arith) put)
+          (All-cons IsWithinImage (Put len (replicate (at - len) 0)) (Put at bytes ∷ logged (max len (at + length bytes)) changes)
+          (omega arith) put)
       | inr close ↦ subst (All IsWithinImage) (sym (logged_put len at bytes changes close)) put
     ]
 logged_is_within (Cut to ∷ changes) len short within =
@@ -84,7 +87,8 @@ within_ends (Cut to) within = tt
 fills : (image : List ℕ) (at : ℕ) → changed image (Put (length image) (replicate (at - length image) 0)) ≡ extended image at
 fills image at =
     let zeros : List ℕ = replicate (at - length image) 0 in
-    ap (λ (xs : List ℕ). xs ++ zeros ++ drop (length image + length zeros) image) (take_at image (replicate (length image - length image) 0) (length image) refl)
+    ap (λ (xs : List ℕ). xs ++ zeros ++ drop (length image + length zeros) image)
+    (take_at image (replicate (length image - length image) 0) (length image) refl)
     ∙ ap (λ (xs : List ℕ). image ++ zeros ++ xs) (drop_all (length image + length zeros) image (omega arith))
     ∙ append-nil (image ++ zeros)
 
@@ -98,7 +102,8 @@ length-extended image at gap =
     omega (arith, length-append image zeros)
 
 -- a put behind a gap makes the same of it
-put_over_gap : (image bytes : List ℕ) (at : ℕ) → length image < at → changed (extended image at) (Put at bytes) ≡ changed image (Put at bytes)
+put_over_gap : (image bytes : List ℕ) (at : ℕ) → length image < at
+    → changed (extended image at) (Put at bytes) ≡ changed image (Put at bytes)
 put_over_gap image bytes at gap =
     let long = length-extended image at gap in
     redone (Put at bytes ∷ []) image (extended image at) (record {
@@ -116,7 +121,8 @@ effect_logged (Put at bytes ∷ changes) image =
     elim (cases_lt (length image) at) [
       | inl gap ↦
           ap (effect image) (logged_gap (length image) at bytes changes gap)
-          ∙ ap (λ (xs : List ℕ). effect (changed xs (Put at bytes)) (logged (max (length image) (at + length bytes)) changes)) (fills image at)
+          ∙ ap (λ (xs : List ℕ). effect (changed xs (Put at bytes)) (logged (max (length image) (at + length bytes)) changes))
+          (fills image at)
           ∙ ap (λ (xs : List ℕ). effect xs (logged (max (length image) (at + length bytes)) changes)) (put_over_gap image bytes at gap)
           ∙ rest
       | inr within ↦ ap (effect image) (logged_put (length image) at bytes changes within) ∙ rest
@@ -128,6 +134,8 @@ effect_logged (Cut to ∷ changes) image =
     ∙ effect_logged changes (take to image)
 
 -- the first of more changes as it is made, and then the others
-pub logged_more : (change : Change) (len : ℕ) (changes : List Change) → logged len (change ∷ changes) ≡ logged len (change ∷ []) ++ logged (changed_len len change) changes
-logged_more (Put at bytes) len changes = sym (append_assoc (gap_before len at) (Put at bytes ∷ []) (logged (max len (at + length bytes)) changes))
+pub logged_more : (change : Change) (len : ℕ) (changes : List Change) → logged len (change ∷ changes) ≡ logged len (change ∷ [])
+    ++ logged (changed_len len change) changes
+logged_more (Put at bytes) len changes =
+    sym (append_assoc (gap_before len at) (Put at bytes ∷ []) (logged (max len (at + length bytes)) changes))
 logged_more (Cut to) len changes = refl

@@ -46,8 +46,12 @@ begun_more before t after added begun may is = record {
   start = is.start ∙ begun.start;
   seamless = subst (λ (cs : List Change). IsSeamless before cs) (sym is.changes)
       (seamless-append before t.changes added begun.seamless (subst (λ (n : ℕ). IsSeamless n added) begun.len may.seamless));
-  within = subst (λ (cs : List Change). All IsWithinImage cs) (sym is.changes) (All-append IsWithinImage t.changes added begun.within may.within);
-  len = is.len ∙ ap (λ (n : ℕ). len_after n added) begun.len ∙ sym (len_after-append before t.changes added) ∙ ap (len_after before) (sym is.changes);
+  within =
+      subst (λ (cs : List Change). All IsWithinImage cs) (sym is.changes)
+      (All-append IsWithinImage t.changes added begun.within may.within);
+  len =
+      is.len ∙ ap (λ (n : ℕ). len_after n added) begun.len ∙ sym (len_after-append before t.changes added)
+      ∙ ap (len_after before) (sym is.changes);
   sum = is.sum ∙ ap (λ (n : ℕ). n + put_bytes added) begun.sum ∙ sym (put_bytes-append t.changes added) ∙ ap put_bytes (sym is.changes);
   few = subst (λ (n : ℕ). n ≤ MAX_CHANGES) (sym is.sum) may.few;
   not_long = subst (λ (n : ℕ). n ≤ MAX_IMAGE) (sym is.len) may.not_long;

@@ -13,7 +13,8 @@ use Rattle.ubik_log.proofs.OneReading.{closed_gate_is_discarded}
 -- a run leaves the log with the open gate, or a discarded one
 abbrev pub LeavesLog : {D : Type 0} (g : Ghosts D) (old new : D) → Files → Type 0
 LeavesLog g old new fs =
-    IsOpen fs.log → OnlyIn Log fs.log (g.may_leave old) → LeavesOnly g.steps g.left_since old new (After (HasLogOrNone fs.log) (g.may_leave old))
+    IsOpen fs.log → OnlyIn Log fs.log (g.may_leave old)
+    → LeavesOnly g.steps g.left_since old new (After (HasLogOrNone fs.log) (g.may_leave old))
 
 gate_is_zero : (log : List ℕ) → get_or (with_gate 0 log) 3 0 ≡ 0
 gate_is_zero [] = refl

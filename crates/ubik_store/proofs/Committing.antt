@@ -31,7 +31,8 @@ use Rattle.ubik_store.proofs.Redoing.{one_covered}
 use Rattle.ubik_store.proofs.Telling.{of_told, of_some}
 
 -- the database file fits, by the pages
-pub fits_of : (pages : Known) (files : Option Files) (fs : Files) → AgreesIn pages files → files ≡ Some fs → pages.len ≤ 16777216 → length fs.database ≤ MAX_DATABASE_LEN
+pub fits_of : (pages : Known) (files : Option Files) (fs : Files) → AgreesIn pages files → files ≡ Some fs → pages.len ≤ 16777216
+    → length fs.database ≤ MAX_DATABASE_LEN
 fits_of pages files fs agrees is len =
     let at = of_told files fs (λ fs. Agrees pages fs.database) is agrees in
     omega (arith, at.len, len, length-drop 64 fs.database)
@@ -44,14 +45,17 @@ module _ (fs : Files) (own v : Version) (changes : List Change) (log : List ℕ)
       subst (λ (xs : List ℕ). StandsFor c own (image_of xs)) same
       (by_label c own (subst IsIgnored (sym beside) ignored) discarded (ap version_of_database same ∙ labelled))
 
-  pub stands_before : version_of_database fs.database ≡ Some own → (before : Files → Type 0) → Only fs before → (c : Files) → After HasDiscarded before c
+  pub stands_before : version_of_database fs.database ≡ Some own → (before : Files → Type 0) → Only fs before → (c : Files)
+      → After HasDiscarded before c
       → StandsForEither own (image_of fs.database) v (effect (image_of fs.database) changes) c
   stands_before labelled before only c from =
       inl (stands_by_own c labelled (ap (λ (f : Files). f.database) from.2.1 ∙ ap (λ (f : Files). f.database) (only from.0 from.1))
       (ap (λ (f : Files). f.incoming) from.2.1 ∙ ap (λ (f : Files). f.incoming) (only from.0 from.1)) from.2.0)
 
-  stands_at_gate : (c : Files) → IsCommitted log changes v → length fs.database ≤ MAX_DATABASE_LEN → version_of_database fs.database ≡ Some own → c.database ≡ fs.database
-      → c.incoming ≡ fs.incoming → (c.log ≡ log) ⊎ IsDiscarded c.log → StandsForEither own (image_of fs.database) v (effect (image_of fs.database) changes) c
+  stands_at_gate : (c : Files) → IsCommitted log changes v → length fs.database ≤ MAX_DATABASE_LEN
+      → version_of_database fs.database ≡ Some own → c.database ≡ fs.database
+      → c.incoming ≡ fs.incoming → (c.log ≡ log) ⊎ IsDiscarded c.log
+      → StandsForEither own (image_of fs.database) v (effect (image_of fs.database) changes) c
   stands_at_gate c committed fits labelled same beside (inl is) =
       let there : IsCommitted c.log changes v = subst (λ (xs : List ℕ). IsCommitted xs changes v) (sym is) committed in
       let fits_too : length c.database ≤ MAX_DATABASE_LEN = subst (λ (xs : List ℕ). length xs ≤ MAX_DATABASE_LEN) (sym same) fits in
@@ -61,12 +65,15 @@ module _ (fs : Files) (own v : Version) (changes : List Change) (log : List ℕ)
 
   -- while its gate is opened, the one or the other
   pub stands_in_gate : IsCommitted log changes v → length fs.database ≤ MAX_DATABASE_LEN → version_of_database fs.database ≡ Some own
-      → (mid : Files → Type 0) → Only (with_log (closed log) fs) mid → (c : Files) → After (HasLogOrNone log) mid c → StandsForEither own (image_of fs.database) v (effect (image_of fs.database) changes) c
+      → (mid : Files → Type 0) → Only (with_log (closed log) fs) mid → (c : Files) → After (HasLogOrNone log) mid c
+      → StandsForEither own (image_of fs.database) v (effect (image_of fs.database) changes) c
   stands_in_gate committed fits labelled mid only c from =
-      stands_at_gate c committed fits labelled (ap (λ (f : Files). f.database) from.2.1 ∙ ap (λ (f : Files). f.database) (only from.0 from.1))
+      stands_at_gate c committed fits labelled
+      (ap (λ (f : Files). f.database) from.2.1 ∙ ap (λ (f : Files). f.database) (only from.0 from.1))
       (ap (λ (f : Files). f.incoming) from.2.1 ∙ ap (λ (f : Files). f.incoming) (only from.0 from.1)) from.2.0
 
-all_covered : (changes : List Change) (base : List ℕ) (k : ℕ) (d : Change) → k < length changes → IsCovered changes base (get_or changes k d)
+all_covered : (changes : List Change) (base : List ℕ) (k : ℕ) (d : Change) → k < length changes
+    → IsCovered changes base (get_or changes k d)
 all_covered changes base k d below = one_covered changes base (get_or changes k d) (one_at changes k d below)
 
 -- the changes of the log themselves
@@ -78,9 +85,11 @@ leads_itself fs v changes log ignored committed = record {
   same = refl;
 }
 
-pub may_redo_all : (fs : Files) (changes : List Change) (left : Files → Type 0) → length fs.database ≤ MAX_DATABASE_LEN → Only fs left → Narrows (MayRedo fs changes) left
+pub may_redo_all : (fs : Files) (changes : List Change) (left : Files → Type 0) → length fs.database ≤ MAX_DATABASE_LEN → Only fs left
+    → Narrows (MayRedo fs changes) left
 may_redo_all fs changes left fits only = λ c here.
-    let itself : MayRedo fs changes fs = record { log = refl; incoming = refl; redoes = redoes_itself changes (image_of fs.database); fits = fits } in
+    let itself : MayRedo fs changes fs =
+    record { log = refl; incoming = refl; redoes = redoes_itself changes (image_of fs.database); fits = fits } in
     subst (λ (f : Files). MayRedo fs changes f) (sym (only c here)) itself
 
 -- the files once the gate is open
@@ -91,9 +100,11 @@ opened_files log changes v (Some fs) mid new committed a b =
     b ∙ ap (option_map (gate_set 100)) a ∙ ap (λ (xs : List ℕ). Some (with_log xs fs)) (opened_log_is_committed log changes v committed)
 
 -- where the files were these
-pub opened_over : (log : List ℕ) (changes : List Change) (v : Version) (fs : Files) (old mid new : Option Files) → old ≡ Some fs → IsCommitted log changes v
+pub opened_over : (log : List ℕ) (changes : List Change) (v : Version) (fs : Files) (old mid new : Option Files) → old ≡ Some fs
+    → IsCommitted log changes v
     → mid ≡ option_map (with_log (closed log)) old → new ≡ option_map (gate_set 100) mid → new ≡ Some (with_log log fs)
-opened_over log changes v fs old mid new is committed a b = opened_files log changes v old mid new committed a b ∙ ap (option_map (with_log log)) is
+opened_over log changes v fs old mid new is committed a b =
+    opened_files log changes v old mid new committed a b ∙ ap (option_map (with_log log)) is
 
 pub ended_from : (log : List ℕ) (changes : List Change) (v : Version) (old mid : Option Files) → mid ≡ option_map (with_log log) old
     → option_map (ended changes v) mid ≡ option_map (ended changes v) old
@@ -110,7 +121,8 @@ pub ignored_at : (files : Option Files) (fs : Files) → files ≡ Some fs → I
 ignored_at files fs is empty = empty_ignored fs.incoming (of_told files fs AreEmpty is empty).1
 
 -- what is settled stays so where a crash leaves no more
-pub settled_narrow : (old new : Option Files) (before now : Files → Type 0) → new ≡ old → Narrows before now → IsSettled old before → IsSettled new now
+pub settled_narrow : (old new : Option Files) (before now : Files → Type 0) → new ≡ old → Narrows before now → IsSettled old before
+    → IsSettled new now
 settled_narrow None new before now is narrows settled = let P : Option Files → Type 0 = λ o. IsSettled o now in subst P (sym is) tt
 settled_narrow (Some fs) new before now is narrows settled =
     let P : Option Files → Type 0 = λ o. IsSettled o now in subst P (sym is) (λ c here. settled c (narrows c here))
@@ -142,10 +154,13 @@ module _ {D : Type 0} (g : Ghosts D) where
   }
 
   -- room was made, and nothing else
-  pub room_made : {old new : D} (P : Files → Type 0) → OnlyReserves g old new → Narrows P (g.may_leave old) → LeavesOnly g.steps g.left_since old new P
-  room_made {old} {new} P made here = rested g.steps g.left_since old new P (g.may_leave old) (g.may_leave new) made.steps made.crash (g.only_now old) here
+  pub room_made : {old new : D} (P : Files → Type 0) → OnlyReserves g old new → Narrows P (g.may_leave old)
+      → LeavesOnly g.steps g.left_since old new P
+  room_made {old} {new} P made here = rested g.steps g.left_since old new P (g.may_leave old) (g.may_leave new) made.steps made.crash
+      (g.only_now old) here
 
-  pub room_first : {old mid new : D} (P : Files → Type 0) → OnlyReserves g old mid → Narrows P (g.may_leave old) → LeavesOnly g.steps g.left_since mid new P → LeavesOnly g.steps g.left_since old new P
+  pub room_first : {old mid new : D} (P : Files → Type 0) → OnlyReserves g old mid → Narrows P (g.may_leave old)
+      → LeavesOnly g.steps g.left_since mid new P → LeavesOnly g.steps g.left_since old new P
   room_first {old} {mid} {new} P made here rest = joined g.steps g.left_since old mid new P (room_made P made here) rest
 
 -- a run leaves the state before, or the one after
@@ -181,9 +196,11 @@ module _ {D : Type 0} (g : Ghosts D) (P : Files → Type 0) (fs : Files) (log : 
       widened g.steps g.left_since old mid (After HasDiscarded (g.may_leave old)) P (holds (g.may_leave old) only)
       (run (only_log fs [] (g.may_leave old) (of_told (g.files old) fs AreEmpty is empty).0 only))
 
-  pub until_open : {old mid new : D} (changes : List Change) (v : Version) → g.files old ≡ Some fs → IfSome (g.files old) AreEmpty → IsSettled (g.files old) (g.may_leave old)
+  pub until_open : {old mid new : D} (changes : List Change) (v : Version) → g.files old ≡ Some fs → IfSome (g.files old) AreEmpty
+      → IsSettled (g.files old) (g.may_leave old)
       → HoldsKept P fs → IfSome (g.files old) (λ _. KeepsLogOnly g old mid)
-      → HoldsAtGate P fs log → IsCommitted log changes v → KeepsLog g log old mid → OpensLogOnly g mid new → LeavesOnly g.steps g.left_since old new P
+      → HoldsAtGate P fs log → IsCommitted log changes v → KeepsLog g log old mid → OpensLogOnly g mid new
+      → LeavesOnly g.steps g.left_since old new P
   until_open {old} {mid} {new} changes v is empty settled holds keeps at_gate committed kept opens =
       let there : g.files mid ≡ Some (with_log (closed log) fs) = kept.files ∙ ap (option_map (with_log (closed log))) is in
       let only = settled_at (g.files mid) (with_log (closed log) fs) (g.may_leave mid) there (kept.settled settled) in

@@ -112,11 +112,13 @@ one_there done rest change =
     (one_at (done ++ change ∷ rest) (length done) change (omega (arith, length-append done (change ∷ rest))))
 
 -- a cut that is made in place of one of theirs
-clamped_cut : (done rest : List Change) (base : List ℕ) (to : ℕ) → IsCovered (done ++ Cut to ∷ rest) base (Cut (min to (len_after (length base) done)))
+clamped_cut : (done rest : List Change) (base : List ℕ) (to : ℕ)
+    → IsCovered (done ++ Cut to ∷ rest) base (Cut (min to (len_after (length base) done)))
 clamped_cut done rest base to = elim (cases_lt to (len_after (length base) done)) [
   | inl within ↦
       let is : to ≡ min to (len_after (length base) done) = omega arith in
-      subst (λ (n : ℕ). IsCovered (done ++ Cut to ∷ rest) base (Cut n)) is (one_covered (done ++ Cut to ∷ rest) base (Cut to) (one_there done rest (Cut to)))
+      subst (λ (n : ℕ). IsCovered (done ++ Cut to ∷ rest) base (Cut n)) is
+      (one_covered (done ++ Cut to ∷ rest) base (Cut to) (one_there done rest (Cut to)))
   | inr past ↦
       let is : len_after (length base) done ≡ min to (len_after (length base) done) = omega arith in
       subst (λ (n : ℕ). IsCovered (done ++ Cut to ∷ rest) base (Cut n)) is (cut_covered done (Cut to ∷ rest) base)
@@ -130,7 +132,8 @@ one_more : (done rest : List Change) (change : Change) (base : List ℕ)
     → All (IsCovered ((done ++ change ∷ []) ++ rest) base) (logged (len_after (length base) (done ++ change ∷ [])) rest)
     → All (IsCovered (done ++ change ∷ rest) base) (logged (changed_len (len_after (length base) done) change) rest)
 one_more done rest change base all =
-    subst (λ (told : List Change). All (IsCovered told base) (logged (changed_len (len_after (length base) done) change) rest)) (append_assoc done (change ∷ []) rest)
+    subst (λ (told : List Change). All (IsCovered told base) (logged (changed_len (len_after (length base) done) change) rest))
+    (append_assoc done (change ∷ []) rest)
     (subst (λ (n : ℕ). All (IsCovered ((done ++ change ∷ []) ++ rest) base) (logged n rest)) (len_more done change (length base)) all)
 
 logged_covered : (done rest : List Change) (base : List ℕ) → LeaveNoGap (len_after (length base) done) rest
@@ -141,7 +144,8 @@ logged_covered done (Put at bytes ∷ rest) base gapless =
     let told : List Change = done ++ put ∷ rest in
     let here : ℕ = len_after (length base) done in
     let more = one_more done rest put base
-    (logged_covered (done ++ put ∷ []) rest base (subst (λ (n : ℕ). LeaveNoGap n rest) (sym (len_more done put (length base))) gapless.1)) in
+    (logged_covered (done ++ put ∷ []) rest base
+    (subst (λ (n : ℕ). LeaveNoGap n rest) (sym (len_more done put (length base))) gapless.1)) in
     subst (All (IsCovered told base)) (sym (logged_put here at bytes rest gapless.0))
     (All-cons (IsCovered told base) put (logged (changed_len here put) rest) (one_covered told base put (one_there done rest put)) more)
 logged_covered done (Cut to ∷ rest) base gapless =
@@ -149,7 +153,8 @@ logged_covered done (Cut to ∷ rest) base gapless =
     let told : List Change = done ++ cut ∷ rest in
     let here : ℕ = len_after (length base) done in
     let more = one_more done rest cut base
-    (logged_covered (done ++ cut ∷ []) rest base (subst (λ (n : ℕ). LeaveNoGap n rest) (sym (len_more done cut (length base))) gapless.1)) in
+    (logged_covered (done ++ cut ∷ []) rest base
+    (subst (λ (n : ℕ). LeaveNoGap n rest) (sym (len_more done cut (length base))) gapless.1)) in
     All-cons (IsCovered told base) (Cut (min to here)) (logged (changed_len here cut) rest) (clamped_cut done rest base to) more
 
 -- the changes that are made lead where those of the log lead

@@ -54,19 +54,22 @@ module _ {D : Type 0} (g : Ghosts D) where
         let rest = of_told (g.files s.disk) fs (λ fs. IsAtRest s.version (image_of fs.database) fs) is ready.rests in
         let only = settled_at (g.files s.disk) fs (g.may_leave s.disk) is ready.settled in
         unmoved g s.disk (StandsForEither s.version (image_of fs.database) v (rewritten rewrite (image_of fs.database)))
-        (stands_at_rest fs s.version v (rewritten rewrite (image_of fs.database)) (g.may_leave s.disk) (rest.log, rest.incoming) rest.label only));
+        (stands_at_rest fs s.version v (rewritten rewrite (image_of fs.database)) (g.may_leave s.disk)
+        (rest.log, rest.incoming) rest.label only));
     plain = λ cuts. told (g.files s.disk) (KeepsPlain g s.disk s.disk) (λ fs is plain.
         let only = settled_at (g.files s.disk) fs (g.may_leave s.disk) is ready.settled in
         unmoved g s.disk IsPlain (λ c here. subst IsPlain (sym (only c here)) plain));
     log = λ _. told (g.files s.disk) (λ _. LeavesOnly g.steps g.left_since s.disk s.disk HasNoLog) (λ fs is.
         let rest = of_told (g.files s.disk) fs (λ fs. IsAtRest s.version (image_of fs.database) fs) is ready.rests in
-        unmoved g s.disk HasNoLog (no_log_here fs (g.may_leave s.disk) (settled_at (g.files s.disk) fs (g.may_leave s.disk) is ready.settled) rest.log));
+        unmoved g s.disk HasNoLog
+        (no_log_here fs (g.may_leave s.disk) (settled_at (g.files s.disk) fs (g.may_leave s.disk) is ready.settled) rest.log));
     few = told (g.files s.disk) (FewRewritten g s.disk s.disk rewrite) (λ fs is. (omega arith, omega arith));
     calls = calls_as (omega arith) (λ failed. failed) (λ failed. failed) (no_calls s.disk F not);
   }
 
 -- what a durable call over the files of a store tells of its end
-pub record EndsFiles {D : Type 0} (g : Ghosts D) (rewrite : Rewrite) (v : Version) (s : Store D) (disk : D) (pages : Known) (r : Result (Unit {0}) StoreFault) : Type 0 where
+pub record EndsFiles {D : Type 0} (g : Ghosts D) (rewrite : Rewrite) (v : Version) (s : Store D) (disk : D) (pages : Known)
+    (r : Result (Unit {0}) StoreFault) : Type 0 where
   pub done : OnOk r (RewritesFiles g rewrite v s.disk disk s.pages pages)
   pub durable : IsDurableOver g rewrite v s.disk disk (IsErrOf r DiskFault)
   pub fault : IfErr r (λ f. (f ≡ DiskFault) ⊎ (f ≡ NoMemory))
@@ -100,11 +103,13 @@ module _ {D : Type 0} (g : Ghosts D) (rewrite : Rewrite) (v : Version) (s : Stor
         version = sound.version;
         len = sound.len;
         ready = λ _. record {
-          agrees = subst (λ (p : Known). AgreesIn p (g.files disk)) (sym same) (subst (λ (fs : Option Files). AgreesIn s.pages fs) (sym made.files) ready.agrees);
+          agrees = subst (λ (p : Known). AgreesIn p (g.files disk)) (sym same)
+              (subst (λ (fs : Option Files). AgreesIn s.pages fs) (sym made.files) ready.agrees);
           label = ap (λ (p : Known). p.version) same ∙ ready.label;
           len = ap (λ (p : Known). p.len) same ∙ ready.len;
           rests = subst (AllAtRest s.version) (sym made.files) ready.rests;
-          settled = settled_narrow (g.files s.disk) (g.files disk) (g.may_leave s.disk) (g.may_leave disk) made.files made.crash.no_more ready.settled;
+          settled = settled_narrow (g.files s.disk) (g.files disk) (g.may_leave s.disk)
+              (g.may_leave disk) made.files made.crash.no_more ready.settled;
           runs = λ stopped. ready.runs (subst IsStopped made.stop stopped);
         };
         begun = sound.begun;
@@ -122,7 +127,8 @@ module _ {D : Type 0} (g : Ghosts D) (rewrite : Rewrite) (v : Version) (s : Stor
   sound_ended : (r : Result (Unit {0}) StoreFault) → IsSound g s → s.failed ≡ false → IsVersion v → len_rewritten rewrite s.len ≤ MAX_IMAGE
       → EndsFiles g rewrite v s disk pages r → IsSound g (taken_over v (record s { disk = disk; pages = pages }) r)
   sound_ended (Ok done) sound went version fits is =
-      sound_done sound went version fits is.done (λ stopped. ⊎_elim (sound.ready went).runs (λ failed. absurd cc) (is.durable.calls.stopped stopped))
+      sound_done sound went version fits is.done
+      (λ stopped. ⊎_elim (sound.ready went).runs (λ failed. absurd cc) (is.durable.calls.stopped stopped))
   sound_ended (Err DiskFault) sound went version fits is = sound_failed sound
   sound_ended (Err (BadLabel len head)) sound went version fits is = absurd (⊎_elim (λ e. cc) (λ e. cc) is.fault)
   sound_ended (Err (TooLarge bytes)) sound went version fits is = absurd (⊎_elim (λ e. cc) (λ e. cc) is.fault)
@@ -130,10 +136,12 @@ module _ {D : Type 0} (g : Ghosts D) (rewrite : Rewrite) (v : Version) (s : Stor
   sound_ended (Err NoMemory) sound went version fits is = let same = is.unchanged refl in sound_as_it_was sound went same.0 same.1
 
   -- the call was made of a durable one over the files
-  durable_at : (after : Store D) (F : Type 0) → IsReady g s → version_lt s.version v ≡ true → IsDurableOver g rewrite v s.disk after.disk F → IsDurableIn g rewrite v s after F
+  durable_at : (after : Store D) (F : Type 0) → IsReady g s → version_lt s.version v ≡ true
+      → IsDurableOver g rewrite v s.disk after.disk F → IsDurableIn g rewrite v s after F
   durable_at after F ready newer durable = record {
     moments = labelled (g.files s.disk) s.version
-        (λ w fs. LeavesOnly g.steps g.left_since s.disk after.disk (StandsForEither w (image_of fs.database) v (rewritten rewrite (image_of fs.database))))
+        (λ w fs. LeavesOnly g.steps g.left_since s.disk after.disk
+        (StandsForEither w (image_of fs.database) v (rewritten rewrite (image_of fs.database))))
         ready.rests durable.moments;
     plain = durable.plain (after_first s.version v newer);
     log = durable.log;
@@ -141,7 +149,8 @@ module _ {D : Type 0} (g : Ghosts D) (rewrite : Rewrite) (v : Version) (s : Stor
     calls = durable.calls;
   }
 
-  durable_ended : (r : Result (Unit {0}) StoreFault) → IsSound g s → s.failed ≡ false → version_lt s.version v ≡ true → IsDurableOver g rewrite v s.disk disk (IsErrOf r DiskFault)
+  durable_ended : (r : Result (Unit {0}) StoreFault) → IsSound g s → s.failed ≡ false → version_lt s.version v ≡ true
+      → IsDurableOver g rewrite v s.disk disk (IsErrOf r DiskFault)
       → IsDurableIn g rewrite v s (taken_over v (record s { disk = disk; pages = pages }) r) (IsErrOf r DiskFault)
   durable_ended (Ok done) sound went newer durable = durable_at _ _ (sound.ready went) newer durable
   durable_ended (Err DiskFault) sound went newer durable = durable_at _ _ (sound.ready went) newer durable
@@ -151,20 +160,25 @@ module _ {D : Type 0} (g : Ghosts D) (rewrite : Rewrite) (v : Version) (s : Stor
   durable_ended (Err NoMemory) sound went newer durable = durable_at _ _ (sound.ready went) newer durable
 
   pub sound_taken : (r : Result (Unit {0}) StoreFault) (after : Store D) → after ≡ taken_over v (record s { disk = disk; pages = pages }) r
-      → IsSound g s → s.failed ≡ false → IsVersion v → len_rewritten rewrite s.len ≤ MAX_IMAGE → EndsFiles g rewrite v s disk pages r → IsSound g after
+      → IsSound g s → s.failed ≡ false → IsVersion v → len_rewritten rewrite s.len ≤ MAX_IMAGE → EndsFiles g rewrite v s disk pages r
+      → IsSound g after
   sound_taken r after is sound went version fits ends =
       subst (λ (x : Store D). IsSound g x) (sym is) (sound_ended r sound went version fits ends)
 
-  pub durable_taken : (r said : Result (Unit {0}) StoreFault) (after : Store D) → after ≡ taken_over v (record s { disk = disk; pages = pages }) r → said ≡ r
-      → IsSound g s → s.failed ≡ false → version_lt s.version v ≡ true → IsDurableOver g rewrite v s.disk disk (IsErrOf r DiskFault) → IsDurableIn g rewrite v s after (IsErrOf said DiskFault)
+  pub durable_taken : (r said : Result (Unit {0}) StoreFault) (after : Store D)
+      → after ≡ taken_over v (record s { disk = disk; pages = pages }) r → said ≡ r
+      → IsSound g s → s.failed ≡ false → version_lt s.version v ≡ true → IsDurableOver g rewrite v s.disk disk (IsErrOf r DiskFault)
+      → IsDurableIn g rewrite v s after (IsErrOf said DiskFault)
   durable_taken r said after is same sound went newer durable =
       let P : Store D → Type 0 = λ x. IsDurableIn g rewrite v s x (IsErrOf said DiskFault) in
-      let Q : Result (Unit {0}) StoreFault → Type 0 = λ x. IsDurableIn g rewrite v s (taken_over v (record s { disk = disk; pages = pages }) r) (IsErrOf x DiskFault) in
+      let Q : Result (Unit {0}) StoreFault
+      → Type 0 = λ x. IsDurableIn g rewrite v s (taken_over v (record s { disk = disk; pages = pages }) r) (IsErrOf x DiskFault) in
       subst P (sym is) (subst Q (sym same) (durable_ended r sound went newer durable))
 
 -- the image, by the files in the end
 image_after : (rewrite : Rewrite) (v : Version) (old new : Option Files) → new ≡ option_map (files_rewritten rewrite v) old
-    → IfSome old (λ fs. RestsAs v (rewritten rewrite (image_of fs.database)) new) → image_in new ≡ option_map (rewritten rewrite) (image_in old)
+    → IfSome old (λ fs. RestsAs v (rewritten rewrite (image_of fs.database)) new)
+    → image_in new ≡ option_map (rewritten rewrite) (image_in old)
 image_after rewrite v None new is rests = ap image_in is
 image_after rewrite v (Some fs) new is rests = ap image_in rests.1 ∙ ap (λ (xs : List ℕ). Some xs) rests.2.content
 
@@ -202,7 +216,8 @@ module _ {D : Type 0} (g : Ghosts D) (rewrite : Rewrite) (v : Version) (s : Stor
     },
   )
 
-  pub ended_taken : (r said : Result (Unit {0}) StoreFault) (after : Store D) → after ≡ taken_over v (record s { disk = disk; pages = pages }) r
+  pub ended_taken : (r said : Result (Unit {0}) StoreFault) (after : Store D)
+      → after ≡ taken_over v (record s { disk = disk; pages = pages }) r
       → said ≡ r → EndsFiles g rewrite v s disk pages r → MatchResult said (λ _. Rewrites g rewrite v s after) (EndsAs g long v s after)
   ended_taken r said after is same ends =
       let P : Store D → Type 0 = λ x. MatchResult said (λ _. Rewrites g rewrite v s x) (EndsAs g long v s x) in
@@ -219,7 +234,8 @@ not_too_large sum len changes (NotNewer own given) large is = large
 not_too_large sum len changes NoMemory large is = large
 
 -- where a version is not newer, the disk is not at fault
-pub not_forbidden : {D : Type 0} (s : Store D) (v : Version) (fault : StoreFault) → s.failed ≡ false → IsForbidden s v fault → ¬ (fault ≡ DiskFault)
+pub not_forbidden : {D : Type 0} (s : Store D) (v : Version) (fault : StoreFault) → s.failed ≡ false → IsForbidden s v fault
+    → ¬ (fault ≡ DiskFault)
 not_forbidden s v DiskFault went forbidden is = false≢true (sym went ∙ forbidden)
 not_forbidden s v (BadLabel len head) went forbidden is = forbidden
 not_forbidden s v (TooLarge bytes) went forbidden is = forbidden

@@ -25,12 +25,14 @@ reaches_within at within cuts (goes_on len (Put from bytes) changes x rest) = re
 reaches_within at within cuts (goes_on len (Cut to) changes x rest) = reaches_within at (omega (arith, cuts.0, within)) cuts.1 rest
 
 -- a put begins within an image that is reached from it on
-begins_within : {changes : List Change} {len x at : ℕ} {bytes : List ℕ} → at ≤ len → CutNothingBefore at changes → Reaches len (Put at bytes ∷ changes) x → at ≤ x
+begins_within : {changes : List Change} {len x at : ℕ} {bytes : List ℕ} → at ≤ len → CutNothingBefore at changes
+    → Reaches len (Put at bytes ∷ changes) x → at ≤ x
 begins_within within cuts (begins len all x low) = omega arith
 begins_within within cuts (goes_on len (Put at bytes) changes x rest) = reaches_within at (omega arith) cuts rest
 
 -- over each length that is reached they leave no gap either
-pub no_gap_again : (changes : List Change) (len x : ℕ) → LeaveNoGap len changes → CutsNoPut changes → Reaches len changes x → LeaveNoGap x changes
+pub no_gap_again : (changes : List Change) (len x : ℕ) → LeaveNoGap len changes → CutsNoPut changes → Reaches len changes x
+    → LeaveNoGap x changes
 no_gap_again [] len x gapless cuts reaches = tt
 no_gap_again (Put at bytes ∷ changes) len x gapless cuts reaches = (
   begins_within gapless.0 cuts.0 reaches,
@@ -42,7 +44,8 @@ no_gap_again (Cut to ∷ changes) len x gapless cuts reaches =
 -- changes that leave no gap and go past no end leave no gap
 pub seamless_is_gapless : (changes : List Change) (len : ℕ) → IsSeamless len changes → LeaveNoGap len changes
 seamless_is_gapless [] len seamless = tt
-seamless_is_gapless (Put at bytes ∷ changes) len seamless = (seamless.0, seamless_is_gapless changes (changed_len len (Put at bytes)) seamless.1)
+seamless_is_gapless (Put at bytes ∷ changes) len seamless =
+    (seamless.0, seamless_is_gapless changes (changed_len len (Put at bytes)) seamless.1)
 seamless_is_gapless (Cut to ∷ changes) len seamless = (tt, seamless_is_gapless changes (changed_len len (Cut to)) seamless.1)
 
 -- a database file that stands for the first version is empty
@@ -60,7 +63,8 @@ discarded_is_plain fs ignored discarded first = record {
 }
 
 -- files with an open incoming file are plain, where its version is not the first one
-pub received_is_plain : (fs : Files) (v : Version) (image : List ℕ) → IsIncoming fs.incoming v image → version_lt zero_version v ≡ true → IsPlain fs
+pub received_is_plain : (fs : Files) (v : Version) (image : List ℕ) → IsIncoming fs.incoming v image → version_lt zero_version v ≡ true
+    → IsPlain fs
 received_is_plain fs v image is newer = record {
   gapless = λ changes version other. absurd (other.ignored v image is);
   cuts = λ changes version other. absurd (other.ignored v image is);
@@ -83,10 +87,12 @@ module _ (told : List Change) (v : Version) where
       → version_lt zero_version v ≡ true → IsPlain fs
   committed_is_plain fs is gapless cuts newer = record {
     gapless = λ changes version other.
-        subst (LeaveNoGap (length (image_of fs.database))) (log_has_one_reading fs.log told changes v version is.committed other.committed).0 gapless;
+        subst (LeaveNoGap (length (image_of fs.database)))
+        (log_has_one_reading fs.log told changes v version is.committed other.committed).0 gapless;
     cuts = λ changes version other. subst CutsNoPut (log_has_one_reading fs.log told changes v version is.committed other.committed).0 cuts;
     newer = λ changes version other.
-        subst (λ (w : Version). version_lt zero_version w ≡ true) (log_has_one_reading fs.log told changes v version is.committed other.committed).1 newer;
+        subst (λ (w : Version). version_lt zero_version w ≡ true)
+        (log_has_one_reading fs.log told changes v version is.committed other.committed).1 newer;
     received = λ version image opens. absurd (is.ignored version image opens);
     unlabelled = λ ignored discarded. absurd (discarded told v is.committed);
   }
@@ -95,5 +101,6 @@ module _ (told : List Change) (v : Version) where
   pub plain_again : (kept c : Files) → IsLogged kept told v → IsPlain kept → MayRedo kept told c → IsPlain c
   plain_again kept c is plain may =
       committed_is_plain c (logged_again kept c is may)
-      (no_gap_again told (length (image_of kept.database)) (length (image_of c.database)) (plain.gapless told v is) (plain.cuts told v is) may.redoes.reaches)
+      (no_gap_again told (length (image_of kept.database)) (length (image_of c.database)) (plain.gapless told v is)
+      (plain.cuts told v is) may.redoes.reaches)
       (plain.cuts told v is) (plain.newer told v is)

@@ -22,7 +22,8 @@ pub long_head : (file : List ℕ) → 64 ≤ length file → with_head file ≡ 
 long_head file long =
     let is : ltb (length file) 64 ≡ false = grind (arith, nat_tests) in ap (λ (b : Bool). cond b (replicate 64 0) file) is
 
-pub headed : (old mid new : Option Files) (zeros : List ℕ) (len : ℕ) → mid ≡ old → IfSome old (λ fs. len ≡ length fs.database) → len < 64 → zeros ≡ replicate 64 0
+pub headed : (old mid new : Option Files) (zeros : List ℕ) (len : ℕ) → mid ≡ old → IfSome old (λ fs. len ≡ length fs.database) → len < 64
+    → zeros ≡ replicate 64 0
     → new ≡ option_map (λ fs. with_file fs Database (laid fs.database 0 zeros)) mid → new ≡ option_map (with_database with_head) old
 headed None mid new zeros len same told short is written =
     written ∙ ap (option_map (λ fs. with_file fs Database (laid fs.database 0 zeros))) same
@@ -30,10 +31,12 @@ headed (Some fs) mid new zeros len same told short is written =
     let below : length fs.database < 64 = omega arith in
     let long : length zeros ≡ 64 = ap length is in
     written ∙ ap (option_map (λ fs. with_file fs Database (laid fs.database 0 zeros))) same
-    ∙ ap (λ (xs : List ℕ). Some (with_file fs Database xs)) (laid_over fs.database zeros below long ∙ is ∙ sym (short_head fs.database below))
+    ∙ ap (λ (xs : List ℕ). Some (with_file fs Database xs))
+    (laid_over fs.database zeros below long ∙ is ∙ sym (short_head fs.database below))
 
 -- no call was made, or one where the file is shorter than a label
-pub few_none : (files : Option Files) (before after : ℕ) → after ≡ before → IfSome files (λ fs. RisesAtMost (head_calls fs.database) before after)
+pub few_none : (files : Option Files) (before after : ℕ) → after ≡ before
+    → IfSome files (λ fs. RisesAtMost (head_calls fs.database) before after)
 few_none None before after same = tt
 few_none (Some fs) before after same = (omega arith, omega arith)
 
@@ -56,12 +59,15 @@ module _ {D : Type 0} (g : Ghosts D) where
   abbrev pub FewWithHead : ℕ → (old new : D) → Files → Type 0
   FewWithHead most old new fs = RisesAtMost (most + head_calls fs.database) (g.steps old) (g.steps new)
 
-  pub few_more : (most n : ℕ) (old mid new : D) → IfSome (g.files old) (λ fs. RisesAtMost (head_calls fs.database) (g.steps old) (g.steps mid))
+  pub few_more : (most n : ℕ) (old mid new : D)
+      → IfSome (g.files old) (λ fs. RisesAtMost (head_calls fs.database) (g.steps old) (g.steps mid))
       → RisesAtMost n (g.steps mid) (g.steps new) → n ≤ most → IfSome (g.files old) (FewWithHead most old new)
   few_more most n old mid new head more fits = told (g.files old) (FewWithHead most old new) (λ fs is.
       let first = of_told (g.files old) fs (λ fs. RisesAtMost (head_calls fs.database) (g.steps old) (g.steps mid)) is head in
       (omega (arith, first.0, more.0), omega (arith, first.1, more.1, fits)))
 
   -- without that one
-  pub few_but : (most n : ℕ) (old new : D) → RisesAtMost n (g.steps old) (g.steps new) → n ≤ most → IfSome (g.files old) (FewWithHead most old new)
-  few_but most n old new rises fits = told (g.files old) (FewWithHead most old new) (λ fs is. (omega (arith, rises.0), omega (arith, rises.1, fits)))
+  pub few_but : (most n : ℕ) (old new : D) → RisesAtMost n (g.steps old) (g.steps new) → n ≤ most
+      → IfSome (g.files old) (FewWithHead most old new)
+  few_but most n old new rises fits =
+      told (g.files old) (FewWithHead most old new) (λ fs is. (omega (arith, rises.0), omega (arith, rises.1, fits)))

@@ -54,24 +54,28 @@ use Rattle.ubik_store.proofs.Telling.{told, of_told}
 -- after the log was treated it and the database file are at rest, as what the files stood for
 abbrev pub Opened : Option Files → Known → Files → Type 0
 Opened new pages fs =
-    (version : Version) × (image : List ℕ) × StandsFor fs version image × EndedAs version image fs.incoming new × (pages.version ≡ Some version) × (pages.len ≡ length image)
+    (version : Version) × (image : List ℕ) × StandsFor fs version image × EndedAs version image fs.incoming new
+    × (pages.version ≡ Some version) × (pages.len ≡ length image)
 
 -- at most so many calls as an opening of these files makes
 abbrev pub OpensInFew : {D : Type 0} (In : Files → ℕ → Type 0) (g : Ghosts D) (old new : D) → Files → Type 0
 OpensInFew In g old new fs = (calls : ℕ) → In fs calls → RisesAtMost calls (g.steps old) (g.steps new)
 
 -- the plan of one kind or the other
-pub planned : {D : Type 0} (g : Ghosts D) (disk : D) (plan : LogPlan) (pages : Known) (made : List Change) (v : Version) → plan ≡ Redo pages made v → PlansLog g disk plan → PlansRedo g disk pages made v
+pub planned : {D : Type 0} (g : Ghosts D) (disk : D) (plan : LogPlan) (pages : Known) (made : List Change) (v : Version)
+    → plan ≡ Redo pages made v → PlansLog g disk plan → PlansRedo g disk pages made v
 planned g disk plan pages made v is plans = subst (PlansLog g disk) is plans
 
-pub emptied : {D : Type 0} (g : Ghosts D) (disk : D) (plan : LogPlan) (pages : Known) (begun : Bool) → plan ≡ Empty pages begun → PlansLog g disk plan → PlansEmpty g disk pages begun
+pub emptied : {D : Type 0} (g : Ghosts D) (disk : D) (plan : LogPlan) (pages : Known) (begun : Bool) → plan ≡ Empty pages begun
+    → PlansLog g disk plan → PlansEmpty g disk pages begun
 emptied g disk plan pages begun is plans = subst (PlansLog g disk) is plans
 
 some_is_none : (version : Version) → Some version ≡ None → ⊥
 some_is_none version is = cc
 
 -- files stand for one version and one image
-pub stands_by_log_once : (fs : Files) (version v : Version) (image : List ℕ) (changes : List Change) → IsLogged fs changes v → StandsFor fs version image
+pub stands_by_log_once : (fs : Files) (version v : Version) (image : List ℕ) (changes : List Change) → IsLogged fs changes v
+    → StandsFor fs version image
     → (version ≡ v) × (image ≡ effect (image_of fs.database) changes)
 stands_by_log_once fs version v image changes is (by_incoming _ _ _ opens fits) = absurd (is.ignored version image opens)
 stands_by_log_once fs version v image changes is (by_log _ others _ other fits) =
@@ -86,10 +90,15 @@ stands_by_label_once fs version image ignored discarded (by_log _ others _ other
 stands_by_label_once fs version image ignored discarded (by_label _ _ other none labelled) = (labelled, refl)
 
 -- files that were not taken stand for nothing
-pub refused_open : (fs : Files) (fault : PageFault) → IsIgnored fs.incoming → IsDiscarded fs.log → Refuses IsUnlabelled fs.database fault → RefusesFiles fs (of_page fault)
+pub refused_open : (fs : Files) (fault : PageFault) → IsIgnored fs.incoming → IsDiscarded fs.log → Refuses IsUnlabelled fs.database fault
+    → RefusesFiles fs (of_page fault)
 refused_open fs pages.DiskFault ignored none refused = tt
-refused_open fs (pages.BadLabel len head) ignored none refused =
-    (λ version image stands. some_is_none version (sym (stands_by_label_once fs version image ignored none stands).0 ∙ refused.0), refused.1, refused.2)
+refused_open fs (pages.BadLabel len head) ignored none refused = (
+  λ version image stands. some_is_none version
+      (sym (stands_by_label_once fs version image ignored none stands).0 ∙ refused.0),
+  refused.1,
+  refused.2,
+)
 refused_open fs pages.NoMemory ignored none refused = tt
 
 -- nor do those whose database file is too long
@@ -121,7 +130,8 @@ calls_by_log fs calls changes v committed (redoes _ others version other) =
 calls_by_log fs calls changes v committed (closes _ discarded begun) = absurd (discarded changes v committed)
 calls_by_log fs calls changes v committed (cuts _ discarded other) = absurd (discarded changes v committed)
 
-pub calls_by_label : (fs : Files) (begun : Bool) (calls : ℕ) → IsDiscarded fs.log → (IsTrue begun ↔ IsBegun fs.log) → EndsLogIn fs calls → calls ≡ cond begun 4 2
+pub calls_by_label : (fs : Files) (begun : Bool) (calls : ℕ) → IsDiscarded fs.log → (IsTrue begun ↔ IsBegun fs.log) → EndsLogIn fs calls
+    → calls ≡ cond begun 4 2
 calls_by_label fs begun calls none is (redoes _ others version other) = absurd (none others version other)
 calls_by_label fs true calls none is (closes _ discarded begins) = refl
 calls_by_label fs false calls none is (closes _ discarded begins) = absurd (false≢true (is.1 begins))
@@ -165,21 +175,25 @@ module _ {D : Type 0} (g : Ghosts D) (old : D) (pages : Known) (made : List Chan
     plan_narrow settled = may_redo_all fs plan.told (g.may_leave old) plan_fits (settled_at (g.files old) fs (g.may_leave old) is settled)
 
     -- what the files stand for, they stand for after it
-    pub plan_stands : (new : Option Files) (after : Known) → new ≡ option_map (ended made v) (g.files old) → after.version ≡ Some v → after.len ≡ len_after pages.len made
+    pub plan_stands : (new : Option Files) (after : Known) → new ≡ option_map (ended made v) (g.files old) → after.version ≡ Some v
+        → after.len ≡ len_after pages.len made
         → Opened new after fs
     plan_stands new after ends label len =
-        let ends_as = ended_in made v fs pages (g.files old) new plan_told plan.agrees is plan_seamless plan.len (ends ∙ ap (option_map (ended made v)) is) in (
+        let ends_as = ended_in made v fs pages (g.files old) new plan_told plan.agrees is plan_seamless plan.len
+        (ends ∙ ap (option_map (ended made v)) is) in (
           v,
           effect (image_of fs.database) plan.told,
           by_log fs plan.told v plan_logged plan_fits,
           subst (λ (image : List ℕ). EndedAs v image fs.incoming new) made_effect ends_as,
           label,
-          len ∙ ap (λ (n : ℕ). len_after n made) (len_of pages (g.files old) fs plan.agrees is) ∙ sym (length-effect (image_of fs.database) made) ∙ ap length made_effect,
+          len ∙ ap (λ (n : ℕ). len_after n made) (len_of pages (g.files old) fs plan.agrees is)
+              ∙ sym (length-effect (image_of fs.database) made) ∙ ap length made_effect,
         )
 
     pub plan_calls : (calls : ℕ) → EndsLogIn fs calls → calls ≡ 7 + length made + head_calls fs.database
     plan_calls calls opens =
-        calls_by_log fs calls plan.told v plan_committed opens ∙ ap (λ (xs : List Change). 7 + length xs + head_calls fs.database) (sym made_there)
+        calls_by_log fs calls plan.told v plan_committed opens
+        ∙ ap (λ (xs : List Change). 7 + length xs + head_calls fs.database) (sym made_there)
 
   pub redo_is_opening : {new : D} {F G : Type 0} → IsSettled (g.files old) (g.may_leave old) → ¬ IsStopped (g.stop old)
       → IfSome (g.files old) (LeavesEffect g old new v made) → IfSome (g.files old) (LeavesPlain g old new v made)
@@ -190,11 +204,14 @@ module _ {D : Type 0} (g : Ghosts D) (old : D) (pages : Known) (made : List Chan
         → LeavesOnly g.steps g.left_since old new (λ c. StandsFor c version image)) (λ fs is gapless version image stands.
         let is_logged = plan_logged fs is in
         let once = stands_by_log_once fs version v image plan.told is_logged stands in
-        let run = of_told (g.files old) fs (LeavesEffect g old new v made) is effects plan.told (plan_leads fs is (gapless plan.told v is_logged)) (plan_narrow fs is settled) in
+        let run = of_told (g.files old) fs (LeavesEffect g old new v made) is effects plan.told
+        (plan_leads fs is (gapless plan.told v is_logged)) (plan_narrow fs is settled) in
         widened g.steps g.left_since old new (λ c. StandsFor c v (effect (image_of fs.database) plan.told)) (λ c. StandsFor c version image)
-        (λ c there. subst (λ (w : Version). StandsFor c w image) (sym once.0) (subst (λ (xs : List ℕ). StandsFor c v xs) (sym once.1) there)) run);
+        (λ c there. subst (λ (w : Version). StandsFor c w image) (sym once.0)
+        (subst (λ (xs : List ℕ). StandsFor c v xs) (sym once.1) there)) run);
     plain = told (g.files old) (λ fs. IsPlain fs → LeavesOnly g.steps g.left_since old new IsPlain) (λ fs is plain.
-        of_told (g.files old) fs (LeavesPlain g old new v made) is plains plan.told (plan_leads fs is (plain.gapless plan.told v (plan_logged fs is))) plain (plan_narrow fs is settled));
+        of_told (g.files old) fs (LeavesPlain g old new v made) is plains plan.told
+        (plan_leads fs is (plain.gapless plan.told v (plan_logged fs is))) plain (plan_narrow fs is settled));
     few = told (g.files old) (OpensInFew EndsLogIn g old new) (λ fs is most opens.
         let rises = of_told (g.files old) fs (FewWithHead g (7 + length made) old new) is few in
         let same = plan_calls fs is most opens in
@@ -228,15 +245,18 @@ module _ {D : Type 0} (g : Ghosts D) (old : D) (pages : Known) (begun : Bool) (p
     )
 
     pub empty_calls : (calls : ℕ) → EndsLogIn fs calls → calls ≡ cond begun 4 2
-    empty_calls calls opens = calls_by_label fs begun calls none_there (of_told (g.files old) fs (λ fs. IsTrue begun ↔ IsBegun fs.log) is plan.begins) opens
+    empty_calls calls opens =
+        calls_by_label fs begun calls none_there (of_told (g.files old) fs (λ fs. IsTrue begun ↔ IsBegun fs.log) is plan.begins) opens
 
     -- with a discarded log the label counts
-    discarded_stands : (version : Version) (image : List ℕ) → StandsFor fs version image → (c : Files) → HasDiscarded fs c → StandsFor c version image
+    discarded_stands : (version : Version) (image : List ℕ) → StandsFor fs version image → (c : Files) → HasDiscarded fs c
+        → StandsFor c version image
     discarded_stands version image stands c none =
         let once = stands_by_label_once fs version image ignored_there none_there stands in
         let same : c.database ≡ fs.database = ap (λ (f : Files). f.database) none.1 in
         subst (λ (xs : List ℕ). StandsFor c version xs) (ap image_of same ∙ sym once.1)
-        (by_label c version (subst IsIgnored (sym (ap (λ (f : Files). f.incoming) none.1)) ignored_there) none.0 (ap version_of_database same ∙ once.0))
+        (by_label c version (subst IsIgnored (sym (ap (λ (f : Files). f.incoming) none.1)) ignored_there) none.0
+        (ap version_of_database same ∙ once.0))
 
   pub empty_is_opening : {new : D} {F G : Type 0} → ¬ IsStopped (g.stop old)
       → IfSome (g.files old) (λ fs. LeavesOnly g.steps g.left_since old new (HasDiscarded fs))
@@ -245,12 +265,16 @@ module _ {D : Type 0} (g : Ghosts D) (old : D) (pages : Known) (begun : Bool) (p
   empty_is_opening {new} {F} {G} runs leaves few to from changes = record {
     moments = told (g.files old) (λ fs. IsGapless fs → (version : Version) (image : List ℕ) → StandsFor fs version image
         → LeavesOnly g.steps g.left_since old new (λ c. StandsFor c version image)) (λ fs is gapless version image stands.
-        widened g.steps g.left_since old new (HasDiscarded fs) (λ c. StandsFor c version image) (discarded_stands fs is version image stands)
+        widened g.steps g.left_since old new (HasDiscarded fs) (λ c. StandsFor c version image)
+        (discarded_stands fs is version image stands)
         (of_told (g.files old) fs (λ fs. LeavesOnly g.steps g.left_since old new (HasDiscarded fs)) is leaves));
     plain = told (g.files old) (λ fs. IsPlain fs → LeavesOnly g.steps g.left_since old new IsPlain) (λ fs is plain.
-        widened g.steps g.left_since old new (HasDiscarded fs) IsPlain (λ c from. plain_discarded fs c plain (ignored_there fs is) (none_there fs is) from)
+        widened g.steps g.left_since old new (HasDiscarded fs) IsPlain
+        (λ c from. plain_discarded fs c plain (ignored_there fs is) (none_there fs is) from)
         (of_told (g.files old) fs (λ fs. LeavesOnly g.steps g.left_since old new (HasDiscarded fs)) is leaves));
-    few = told (g.files old) (OpensInFew EndsLogIn g old new) (λ fs is most opens. subst (λ (n : ℕ). RisesAtMost n (g.steps old) (g.steps new)) (sym (empty_calls fs is most opens)) few);
+    few =
+        told (g.files old) (OpensInFew EndsLogIn g old new)
+        (λ fs is most opens. subst (λ (n : ℕ). RisesAtMost n (g.steps old) (g.steps new)) (sym (empty_calls fs is most opens)) few);
     stopped = λ is. ⊎_elim (λ was. absurd (runs was)) (λ failed. to failed) (changes.stopped is);
     most = 4;
     calls = calls_as (omega arith) to from (calls_of changes);
@@ -258,45 +282,55 @@ module _ {D : Type 0} (g : Ghosts D) (old : D) (pages : Known) (begun : Bool) (p
 
 module _ {D : Type 0} (g : Ghosts D) where
   -- what an opening finds before it changes anything
-  before_it : {old : D} (fs : Files) (P : Files → Type 0) → g.files old ≡ Some fs → IsSettled (g.files old) (g.may_leave old) → P fs → Narrows P (g.may_leave old)
+  before_it : {old : D} (fs : Files) (P : Files → Type 0) → g.files old ≡ Some fs → IsSettled (g.files old) (g.may_leave old) → P fs
+      → Narrows P (g.may_leave old)
   before_it {old} fs P is settled here = λ c left. subst P (sym (settled_at (g.files old) fs (g.may_leave old) is settled c left)) here
 
   -- it only read
-  pub reads_is_opening : {old new : D} {F : Type 0} → IsSettled (g.files old) (g.may_leave old) → OnlyReads g old new F → (IsStopped (g.stop old) → F) → IsOpening g old new F
+  pub reads_is_opening : {old new : D} {F : Type 0} → IsSettled (g.files old) (g.may_leave old) → OnlyReads g old new F
+      → (IsStopped (g.stop old) → F) → IsOpening g old new F
   reads_is_opening {old} {new} {F} settled reads stopped =
       let rest : (P : Files → Type 0) → Narrows P (g.may_leave old) → LeavesOnly g.steps g.left_since old new P =
-      λ P before. rested g.steps g.left_since old new P (g.may_leave old) (g.may_leave new) reads.steps reads.crash (g.only_now old) before in
+      λ P before. rested g.steps g.left_since old new P (g.may_leave old) (g.may_leave new) reads.steps reads.crash
+      (g.only_now old) before in
       record {
         moments = told (g.files old) (λ fs. IsGapless fs → (version : Version) (image : List ℕ) → StandsFor fs version image
             → LeavesOnly g.steps g.left_since old new (λ c. StandsFor c version image)) (λ fs is gapless version image stands.
             rest (λ c. StandsFor c version image) (before_it fs (λ c. StandsFor c version image) is settled stands));
-        plain = told (g.files old) (λ fs. IsPlain fs → LeavesOnly g.steps g.left_since old new IsPlain) (λ fs is plain. rest IsPlain (before_it fs IsPlain is settled plain));
-        few = told (g.files old) (OpensInFew OpensIn g old new) (λ fs is most opens. (omega (arith, reads.steps), omega (arith, reads.steps)));
+        plain = told (g.files old) (λ fs. IsPlain fs → LeavesOnly g.steps g.left_since old new IsPlain)
+            (λ fs is plain. rest IsPlain (before_it fs IsPlain is settled plain));
+        few = told (g.files old) (OpensInFew OpensIn g old new)
+            (λ fs is most opens. (omega (arith, reads.steps), omega (arith, reads.steps)));
         stopped = λ is. stopped (subst (λ (s : DiskStop). IsStopped s) reads.stop is);
         most = 0;
         calls = calls_of (reads_change_none {f = Log} reads);
       }
 
   -- it only read before
-  pub opening_after : {old mid new : D} {F G : Type 0} → IsSettled (g.files old) (g.may_leave old) → OnlyReads g old mid F → ¬ F → IsOpening g mid new G → IsOpening g old new G
+  pub opening_after : {old mid new : D} {F G : Type 0} → IsSettled (g.files old) (g.may_leave old) → OnlyReads g old mid F → ¬ F
+      → IsOpening g mid new G → IsOpening g old new G
   opening_after {old} {mid} {new} {F} {G} settled reads went opening =
-      let first : (P : Files → Type 0) → Narrows P (g.may_leave old) → LeavesOnly g.steps g.left_since mid new P → LeavesOnly g.steps g.left_since old new P =
+      let first : (P : Files → Type 0) → Narrows P (g.may_leave old) → LeavesOnly g.steps g.left_since mid new P
+      → LeavesOnly g.steps g.left_since old new P =
       λ P before run. rested_first g P reads.steps reads.crash before (λ _. run) in
       record {
         moments = told (g.files old) (λ fs. IsGapless fs → (version : Version) (image : List ℕ) → StandsFor fs version image
             → LeavesOnly g.steps g.left_since old new (λ c. StandsFor c version image)) (λ fs is gapless version image stands.
             first (λ c. StandsFor c version image) (before_it fs (λ c. StandsFor c version image) is settled stands)
             (of_told (g.files mid) fs (λ fs. IsGapless fs → (version : Version) (image : List ℕ) → StandsFor fs version image
-            → LeavesOnly g.steps g.left_since mid new (λ c. StandsFor c version image)) (reads.files went ∙ is) opening.moments gapless version image stands));
+            → LeavesOnly g.steps g.left_since mid new (λ c. StandsFor c version image))
+            (reads.files went ∙ is) opening.moments gapless version image stands));
         plain = told (g.files old) (λ fs. IsPlain fs → LeavesOnly g.steps g.left_since old new IsPlain) (λ fs is plain.
             first IsPlain (before_it fs IsPlain is settled plain)
-            (of_told (g.files mid) fs (λ fs. IsPlain fs → LeavesOnly g.steps g.left_since mid new IsPlain) (reads.files went ∙ is) opening.plain plain));
+            (of_told (g.files mid) fs (λ fs. IsPlain fs → LeavesOnly g.steps g.left_since mid new IsPlain)
+            (reads.files went ∙ is) opening.plain plain));
         few = told (g.files old) (OpensInFew OpensIn g old new) (λ fs is most opens.
             let rises = of_told (g.files mid) fs (OpensInFew OpensIn g mid new) (reads.files went ∙ is) opening.few most opens in
             (omega (arith, reads.steps, rises.0), omega (arith, reads.steps, rises.1)));
         stopped = opening.stopped;
         most = opening.most;
-        calls = calls_as (omega arith) (λ failed. failed) (λ failed. failed) (calls_joined (calls_of (reads_change_none {f = Log} reads)) went opening.calls);
+        calls = calls_as (omega arith) (λ failed. failed) (λ failed. failed)
+            (calls_joined (calls_of (reads_change_none {f = Log} reads)) went opening.calls);
       }
 
   pub steps_after : {old mid : D} {F : Type 0} (new : D) → OnlyReads g old mid F → ¬ F
@@ -304,7 +338,8 @@ module _ {D : Type 0} (g : Ghosts D) where
       → IfSome (g.files old) (λ fs. (calls : ℕ) → OpensIn fs calls → g.steps new ≡ g.steps old + calls)
   steps_after {old} {mid} new reads went steps =
       told (g.files old) (λ fs. (calls : ℕ) → OpensIn fs calls → g.steps new ≡ g.steps old + calls) (λ fs is calls opens.
-      of_told (g.files mid) fs (λ fs. (calls : ℕ) → OpensIn fs calls → g.steps new ≡ g.steps mid + calls) (reads.files went ∙ is) steps calls opens
+      of_told (g.files mid) fs (λ fs. (calls : ℕ) → OpensIn fs calls → g.steps new ≡ g.steps mid + calls)
+      (reads.files went ∙ is) steps calls opens
       ∙ ap (λ (n : ℕ). n + calls) reads.steps)
 
   -- and only reads behind it
@@ -313,7 +348,8 @@ module _ {D : Type 0} (g : Ghosts D) where
       let last : (P : Files → Type 0) → LeavesOnly g.steps g.left_since old mid P → LeavesOnly g.steps g.left_since old new P =
       λ P run.
       joined g.steps g.left_since old mid new P run
-      (rested g.steps g.left_since mid new P (g.may_leave mid) (g.may_leave new) reads.steps reads.crash (g.only_now mid) (narrowed g run)) in
+      (rested g.steps g.left_since mid new P (g.may_leave mid) (g.may_leave new) reads.steps reads.crash (g.only_now mid)
+      (narrowed g run)) in
       record {
         moments = told (g.files old) (λ fs. IsGapless fs → (version : Version) (image : List ℕ) → StandsFor fs version image
             → LeavesOnly g.steps g.left_since old new (λ c. StandsFor c version image)) (λ fs is gapless version image stands.
@@ -321,11 +357,13 @@ module _ {D : Type 0} (g : Ghosts D) where
             (of_told (g.files old) fs (λ fs. IsGapless fs → (version : Version) (image : List ℕ) → StandsFor fs version image
             → LeavesOnly g.steps g.left_since old mid (λ c. StandsFor c version image)) is opening.moments gapless version image stands));
         plain = told (g.files old) (λ fs. IsPlain fs → LeavesOnly g.steps g.left_since old new IsPlain) (λ fs is plain.
-            last IsPlain (of_told (g.files old) fs (λ fs. IsPlain fs → LeavesOnly g.steps g.left_since old mid IsPlain) is opening.plain plain));
+            last IsPlain (of_told (g.files old) fs
+            (λ fs. IsPlain fs → LeavesOnly g.steps g.left_since old mid IsPlain) is opening.plain plain));
         few = told (g.files old) (OpensInFew OpensIn g old new) (λ fs is most opens.
             let rises = of_told (g.files old) fs (OpensInFew OpensIn g old mid) is opening.few most opens in
             (omega (arith, reads.steps, rises.0), omega (arith, reads.steps, rises.1)));
         stopped = λ is. absurd (opening.stopped (subst (λ (s : DiskStop). IsStopped s) reads.stop is));
         most = opening.most;
-        calls = calls_as (omega arith) (λ failed. failed) (λ failed. failed) (calls_joined opening.calls (λ none. none) (calls_of (reads_change_none {f = Log} reads)));
+        calls = calls_as (omega arith) (λ failed. failed) (λ failed. failed)
+            (calls_joined opening.calls (λ none. none) (calls_of (reads_change_none {f = Log} reads)));
       }

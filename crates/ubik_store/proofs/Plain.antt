@@ -30,7 +30,8 @@ use Rattle.ubik_store.proofs.Versions.{not_first}
 -- where the disk tells its files, a run leaves plain ones
 abbrev pub LeavesPlain : {D : Type 0} (g : Ghosts D) (old new : D) (v : Version) (changes : List Change) → Files → Type 0
 LeavesPlain g old new v changes fs =
-    (told : List Change) → LeadsTo fs told v changes → IsPlain fs → Narrows (MayRedo fs told) (g.may_leave old) → LeavesOnly g.steps g.left_since old new IsPlain
+    (told : List Change) → LeadsTo fs told v changes → IsPlain fs → Narrows (MayRedo fs told) (g.may_leave old)
+    → LeavesOnly g.steps g.left_since old new IsPlain
 
 module _ (fs : Files) (told changes : List Change) (v : Version) (leads : LeadsTo fs told v changes) (plain : IsPlain fs) where
   -- with the log there still
@@ -41,14 +42,17 @@ module _ (fs : Files) (told changes : List Change) (v : Version) (leads : LeadsT
   plain_by_label : (c d : Files) → IsVersion v → MayRedo fs told d → d.database ≡ finished changes v fs.database → c ≡ with_log c.log d
       → IsDiscarded c.log → IsPlain c
   plain_by_label c d is may whole same discarded =
-      let fits : length (finished changes v fs.database) ≤ MAX_DATABASE_LEN = subst (λ (xs : List ℕ). length xs ≤ MAX_DATABASE_LEN) whole may.fits in
-      let version : version_of_database c.database ≡ Some v = ap version_of_database (ap (λ (f : Files). f.database) same ∙ whole) ∙ version_labelled v (applied changes (with_head fs.database)) is fits in
+      let fits : length (finished changes v fs.database) ≤ MAX_DATABASE_LEN = subst
+      (λ (xs : List ℕ). length xs ≤ MAX_DATABASE_LEN) whole may.fits in
+      let version : version_of_database c.database ≡ Some v = ap version_of_database (ap (λ (f : Files). f.database) same ∙ whole)
+      ∙ version_labelled v (applied changes (with_head fs.database)) is fits in
       let beside : c.incoming ≡ fs.incoming = ap (λ (f : Files). f.incoming) same ∙ may.incoming in
       discarded_is_plain c (subst IsIgnored (sym beside) leads.logged.ignored) discarded
       (λ first. absurd (not_first v (plain.newer told v leads.logged) cc))
 
   -- while the log is ended
-  plain_either : (left : Files → Type 0) → IsVersion v → Narrows (MayRedo fs told) left → OnlyIn Database (finished changes v fs.database) left
+  plain_either : (left : Files → Type 0) → IsVersion v → Narrows (MayRedo fs told) left
+      → OnlyIn Database (finished changes v fs.database) left
       → (c : Files) → After (HasLogOrNone fs.log) left c → IsPlain c
   plain_either left is may only c from = elim from.2.0 [
     | inl same ↦ plain_by_log c (same_log fs told changes v leads c from.0 (may from.0 from.1) from.2.1 same)
@@ -67,7 +71,8 @@ module _ (fs : Files) (told changes : List Change) (v : Version) (leads : LeadsT
       let logs : OnlyIn Log fs.log (g.may_leave mid) = λ c left. (may c left).log in
       joined g.steps g.left_since old mid new IsPlain
       (widened g.steps g.left_since old mid (MayRedo fs told) IsPlain plain_by_log run)
-      (widened g.steps g.left_since mid new (After (HasLogOrNone fs.log) (g.may_leave mid)) IsPlain (plain_either (g.may_leave mid) is may only)
+      (widened g.steps g.left_since mid new (After (HasLogOrNone fs.log) (g.may_leave mid)) IsPlain
+      (plain_either (g.may_leave mid) is may only)
       (last (is_open fs told changes v leads) logs))
 
 -- over an empty log the label counts
@@ -91,8 +96,10 @@ pub plain_discarded : (fs c : Files) → IsPlain fs → IsIgnored fs.incoming �
 plain_discarded fs c plain ignored discarded from = plain_beside fs c ignored (plain.unlabelled ignored discarded) from.1 from.0
 
 -- while a log is kept
-pub plain_before : (fs : Files) → IsIgnored fs.incoming → HasNoFirstLabel fs.database → (before : Files → Type 0) → Only fs before → (c : Files) → After HasDiscarded before c → IsPlain c
-plain_before fs ignored first before only c from = plain_beside fs c ignored first (from.2.1 ∙ ap (with_log c.log) (only from.0 from.1)) from.2.0
+pub plain_before : (fs : Files) → IsIgnored fs.incoming → HasNoFirstLabel fs.database → (before : Files → Type 0) → Only fs before
+    → (c : Files) → After HasDiscarded before c → IsPlain c
+plain_before fs ignored first before only c from =
+    plain_beside fs c ignored first (from.2.1 ∙ ap (with_log c.log) (only from.0 from.1)) from.2.0
 
 module _ (fs : Files) (changes : List Change) (v : Version) (log : List ℕ) (ignored : IsIgnored fs.incoming) where
   -- and once it is committed

@@ -10,7 +10,9 @@ use Rattle.ubik_store.proofs.Committing.{settled_narrow}
 use Rattle.ubik_store.proofs.Rests.{AllAtRest}
 
 -- it keeps other pages, and all else stays
-pub sound_read : {D : Type 0} (g : Ghosts D) (s : Store D) (disk : D) (pages : Known) → IsSound g s → s.failed ≡ false → SameButCache s.pages pages → AgreesIn pages (g.files disk) → OnlyReads g s.disk disk ⊥ → IsSound g (record s { disk = disk; pages = pages })
+pub sound_read : {D : Type 0} (g : Ghosts D) (s : Store D) (disk : D) (pages : Known) → IsSound g s → s.failed ≡ false
+    → SameButCache s.pages pages → AgreesIn pages (g.files disk) → OnlyReads g s.disk disk ⊥
+    → IsSound g (record s { disk = disk; pages = pages })
 sound_read g s disk pages sound went same agrees read =
     let ready = sound.ready went in
     let files : g.files disk ≡ g.files s.disk = read.files (λ none. none) in
@@ -22,7 +24,8 @@ sound_read g s disk pages sound went same agrees read =
         label = same.version ∙ ready.label;
         len = same.len ∙ ready.len;
         rests = subst (AllAtRest s.version) (sym files) ready.rests;
-        settled = settled_narrow (g.files s.disk) (g.files disk) (g.may_leave s.disk) (g.may_leave disk) files read.crash.no_more ready.settled;
+        settled = settled_narrow (g.files s.disk) (g.files disk) (g.may_leave s.disk)
+            (g.may_leave disk) files read.crash.no_more ready.settled;
         runs = λ stopped. ready.runs (subst IsStopped read.stop stopped);
       };
       begun = sound.begun;

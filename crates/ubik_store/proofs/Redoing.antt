@@ -59,7 +59,8 @@ cut_fits to most old new (inr short) fits = omega (arith, ap length short.1, len
 
 module _ (kept : Files) (told : List Change) where
   -- files of which the database file alone is another
-  moved : (d c : Files) → c ≡ record d { database = c.database } → Redoes told (image_of kept.database) (image_of c.database) → length c.database ≤ MAX_DATABASE_LEN
+  moved : (d c : Files) → c ≡ record d { database = c.database } → Redoes told (image_of kept.database) (image_of c.database)
+      → length c.database ≤ MAX_DATABASE_LEN
       → MayRedo kept told d → MayRedo kept told c
   moved d c is redoes fits may = record {
     log = ap (λ (fs : Files). fs.log) is ∙ may.log;
@@ -68,10 +69,12 @@ module _ (kept : Files) (told : List Change) where
     fits = fits;
   }
 
-  pub redo_written : (at : ℕ) (bytes : List ℕ) (d c : Files) → IsCovered told (image_of kept.database) (Put at bytes) → IsWithinImage (Put at bytes)
+  pub redo_written : (at : ℕ) (bytes : List ℕ) (d c : Files) → IsCovered told (image_of kept.database) (Put at bytes)
+      → IsWithinImage (Put at bytes)
       → InFile Database (Torn (64 + at) (length bytes)) d c → MayRedo kept told d → MayRedo kept told c
   redo_written at bytes d c covered within step may =
-      moved d c step.0 (covered (image_of d.database) (image_of c.database) (torn_image at (length bytes) d.database c.database step.1) may.redoes)
+      moved d c step.0 (covered (image_of d.database) (image_of c.database)
+      (torn_image at (length bytes) d.database c.database step.1) may.redoes)
       (omega (arith, step.1.no_longer, may.fits, within))
       may
 
@@ -95,33 +98,64 @@ module _ {D : Type 0} (g : Ghosts D) where
   narrowed {old} {new} run = λ c left. run.each c (g.counts_now new (g.steps old) c run.later left)
 
   -- one changing call
-  pub one_leaves : {f : FileNo} {old new : D} {F : Type 0} (P : Files → Type 0) → OneChange g f old new F → Narrows P (g.may_leave old) → Narrows P (g.may_leave new)
+  pub one_leaves : {f : FileNo} {old new : D} {F : Type 0} (P : Files → Type 0) → OneChange g f old new F → Narrows P (g.may_leave old)
+      → Narrows P (g.may_leave new)
       → LeavesOnly g.steps g.left_since old new P
   one_leaves {f} {old} {new} P change before after =
       called g.steps g.left_since old new P (g.may_leave old) (g.may_leave new) change.steps change.time (g.only_now old) before after
 
   -- one that leaves P of each file that has it
-  pub step_leaves : {f : FileNo} {old new : D} {F : Type 0} (P : Files → Type 0) (step : Files → Files → Type 0) → OneChange g f old new F → Follows step (g.may_leave old) (g.may_leave new)
+  pub step_leaves : {f : FileNo} {old new : D} {F : Type 0} (P : Files → Type 0) (step : Files → Files → Type 0)
+      → OneChange g f old new F → Follows step (g.may_leave old) (g.may_leave new)
       → ((d c : Files) → step d c → P d → P c) → Narrows P (g.may_leave old) → LeavesOnly g.steps g.left_since old new P
   step_leaves {f} {old} {new} P step change follows keeps before =
       one_leaves P change before (λ c left. let from = follows c left in keeps from.0 c from.2 (before from.0 from.1))
 
-  pub sync_leaves : {f : FileNo} {old new : D} {F : Type 0} (P : Files → Type 0) → Syncs g f old new F → Narrows P (g.may_leave old) → LeavesOnly g.steps g.left_since old new P
+  pub sync_leaves : {f : FileNo} {old new : D} {F : Type 0} (P : Files → Type 0) → Syncs g f old new F → Narrows P (g.may_leave old)
+      → LeavesOnly g.steps g.left_since old new P
   sync_leaves {f} {old} {new} P sync before = one_leaves P sync.change before (λ c left. before c (sync.crash c left))
 
   -- a call of the length only reads
-  pub len_reads : {old new : D} (r : LenEnd) → OnKnown r (λ _. g.files new ≡ g.files old) → KeepsRoom (g.room old) (g.room new) → g.steps new ≡ g.steps old
-      → LeavesSame (g.may_leave old) (g.may_leave new) (g.left_since old) (g.left_since new) → g.stop new ≡ g.stop old → g.pending new ≡ g.pending old
-      → (IsSome (g.pending old) → g.files new ≡ g.files old) → g.tells new ≡ g.tells old → HasCause (g.faults old) (g.faults new) (r ≡ lens.Failed)
+  pub len_reads : {old new : D} (r : LenEnd) → OnKnown r (λ _. g.files new ≡ g.files old) → KeepsRoom (g.room old) (g.room new)
+      → g.steps new ≡ g.steps old
+      → LeavesSame (g.may_leave old) (g.may_leave new) (g.left_since old) (g.left_since new) → g.stop new ≡ g.stop old
+      → g.pending new ≡ g.pending old
+      → (IsSome (g.pending old) → g.files new ≡ g.files old) → g.tells new ≡ g.tells old
+      → HasCause (g.faults old) (g.faults new) (r ≡ lens.Failed)
       → CountsOwn (g.own_faults old) (g.own_faults new) (g.stop new) (r ≡ lens.Failed) → OnlyReads g old new (r ≡ lens.Failed)
   len_reads (lens.Known n) files room steps crash stop pending kept tells cause own =
-      record { files = λ _. files; kept = kept; room = room; steps = steps; crash = crash; stop = stop; pending = pending; tells = tells; cause = cause; own = own }
+      record {
+        files = λ _. files;
+        kept = kept;
+        room = room;
+        steps = steps;
+        crash = crash;
+        stop = stop;
+        pending = pending;
+        tells = tells;
+        cause = cause;
+        own = own;
+      }
   len_reads lens.Failed files room steps crash stop pending kept tells cause own =
-      record { files = λ not. absurd (not refl); kept = kept; room = room; steps = steps; crash = crash; stop = stop; pending = pending; tells = tells; cause = cause; own = own }
+      record {
+        files = λ not. absurd
+            (not refl);
+        kept = kept;
+        room = room;
+        steps = steps;
+        crash = crash;
+        stop = stop;
+        pending = pending;
+        tells = tells;
+        cause = cause;
+        own = own;
+      }
 
   -- calls that only read went before
-  pub rested_first : {old mid new : D} (P : Files → Type 0) → g.steps mid ≡ g.steps old → LeavesSame (g.may_leave old) (g.may_leave mid) (g.left_since old) (g.left_since mid)
-      → Narrows P (g.may_leave old) → (Narrows P (g.may_leave mid) → LeavesOnly g.steps g.left_since mid new P) → LeavesOnly g.steps g.left_since old new P
+  pub rested_first : {old mid new : D} (P : Files → Type 0) → g.steps mid ≡ g.steps old
+      → LeavesSame (g.may_leave old) (g.may_leave mid) (g.left_since old) (g.left_since mid)
+      → Narrows P (g.may_leave old) → (Narrows P (g.may_leave mid) → LeavesOnly g.steps g.left_since mid new P)
+      → LeavesOnly g.steps g.left_since old new P
   rested_first {old} {mid} {new} P same crash before rest =
       joined g.steps g.left_since old mid new P
       (rested g.steps g.left_since old mid P (g.may_leave old) (g.may_leave mid) same crash (g.only_now old) before)

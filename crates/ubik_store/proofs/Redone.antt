@@ -33,12 +33,14 @@ put_behind : (image bytes : List ℕ) (at p : ℕ) → at + length bytes ≤ p �
 put_behind image bytes at p behind =
     let same : at + length bytes + (p - at - length bytes) ≡ p = omega arith in
     ap (λ (xs : List ℕ). get_or xs p 0) (append_assoc (take at (extended image at)) bytes (drop (at + length bytes) image))
-    ∙ get_or-append_right (take at (extended image at)) (bytes ++ drop (at + length bytes) image) at p 0 (length-front image at) (omega arith)
+    ∙ get_or-append_right (take at (extended image at)) (bytes ++ drop (at + length bytes) image) at p 0 (length-front image at)
+    (omega arith)
     ∙ get_or-append_right bytes (drop (at + length bytes) image) (length bytes) (p - at) 0 refl (omega arith)
     ∙ get_or-drop (at + length bytes) image (p - at - length bytes) 0
     ∙ ap (λ (k : ℕ). get_or image k 0) same
 
-put_there : (image bytes : List ℕ) (at p : ℕ) → at ≤ p → p < at + length bytes → get_or (changed image (Put at bytes)) p 0 ≡ get_or bytes (p - at) 0
+put_there : (image bytes : List ℕ) (at p : ℕ) → at ≤ p → p < at + length bytes
+    → get_or (changed image (Put at bytes)) p 0 ≡ get_or bytes (p - at) 0
 put_there image bytes at p from below =
     ap (λ (xs : List ℕ). get_or xs p 0) (append_assoc (take at (extended image at)) bytes (drop (at + length bytes) image))
     ∙ get_or-append_right (take at (extended image at)) (bytes ++ drop (at + length bytes) image) at p 0 (length-front image at) from
@@ -93,15 +95,18 @@ change-le x y (Put at bytes) le = omega arith
 change-le x y (Cut to) le = omega arith
 
 -- a length that is reached is so still after the first change, by those behind it
-pub reaches_tail : {change : Change} {changes : List Change} {len x : ℕ} → Reaches len (change ∷ changes) x → Reaches (changed_len len change) changes (changed_len x change)
-reaches_tail {change} {changes} (begins len all x low) = begins (changed_len len change) changes (changed_len x change) (change-le len x change low)
+pub reaches_tail : {change : Change} {changes : List Change} {len x : ℕ} → Reaches len (change ∷ changes) x
+    → Reaches (changed_len len change) changes (changed_len x change)
+reaches_tail {change} {changes} (begins len all x low) = begins (changed_len len change) changes (changed_len x change)
+    (change-le len x change low)
 reaches_tail (goes_on len change changes x rest) = elim (change_keeps len x change) [
   | inl low ↦ begins (changed_len len change) changes (changed_len x change) low
   | inr more ↦ reaches_more (changed_len x change) more rest
 ]
 
 -- after the first change the others lead to one image still
-redoes_tail : (change : Change) (changes : List Change) (base image : List ℕ) → Redoes (change ∷ changes) base image → Redoes changes (changed base change) (changed image change)
+redoes_tail : (change : Change) (changes : List Change) (base image : List ℕ) → Redoes (change ∷ changes) base image
+    → Redoes changes (changed base change) (changed image change)
 redoes_tail change changes base image same = record {
   reaches =
       let P : ℕ → ℕ → Type 0 = λ m n. Reaches m changes n in
@@ -119,10 +124,12 @@ redoes_tail change changes base image same = record {
 
 pub redone : (changes : List Change) (base image : List ℕ) → Redoes changes base image → effect image changes ≡ effect base changes
 redone [] base image same = ext_get_or 0 image base same.len (λ p within. same.bytes p tt)
-redone (change ∷ changes) base image same = redone changes (changed base change) (changed image change) (redoes_tail change changes base image same)
+redone (change ∷ changes) base image same =
+    redone changes (changed base change) (changed image change) (redoes_tail change changes base image same)
 
 pub redoes_itself : (changes : List Change) (base : List ℕ) → Redoes changes base base
-redoes_itself changes base = record { reaches = begins (length base) changes (length base) (omega arith); len = refl; bytes = λ p left. refl }
+redoes_itself changes base =
+    record { reaches = begins (length base) changes (length base) (omega arith); len = refl; bytes = λ p left. refl }
 
 -- one of these changes
 pub IsOne : List Change → Change → Type 0
@@ -142,12 +149,14 @@ len_after-le (Put at bytes ∷ changes) x y le = len_after-le changes (max x (at
 len_after-le (Cut to ∷ changes) x y le = len_after-le changes (min to x) (min to y) (omega arith)
 
 -- a length that a torn put leaves ends as the length before it
-len_put : (changes : List Change) (at x y : ℕ) (bytes : List ℕ) → IsOne changes (Put at bytes) → x ≤ y → y ≤ max x (at + length bytes) → len_after y changes ≡ len_after x changes
+len_put : (changes : List Change) (at x y : ℕ) (bytes : List ℕ) → IsOne changes (Put at bytes) → x ≤ y → y ≤ max x (at + length bytes)
+    → len_after y changes ≡ len_after x changes
 unfolding IsOne
 len_put [] at x y bytes one low high = absurd one
 len_put (first ∷ changes) at x y bytes (inl same) low high =
     let equal : changed_len y (Put at bytes) ≡ changed_len x (Put at bytes) = omega arith in
-    ap (λ (c : Change). len_after (changed_len y c) changes) same ∙ ap (λ (n : ℕ). len_after n changes) equal ∙ ap (λ (c : Change). len_after (changed_len x c) changes) (sym same)
+    ap (λ (c : Change). len_after (changed_len y c) changes) same ∙ ap (λ (n : ℕ). len_after n changes) equal
+    ∙ ap (λ (c : Change). len_after (changed_len x c) changes) (sym same)
 len_put (Put from laid ∷ changes) at x y bytes (inr one) low high =
     len_put changes at (max x (from + length laid)) (max y (from + length laid)) bytes one (omega arith) (omega arith)
 len_put (Cut to ∷ changes) at x y bytes (inr one) low high = len_put changes at (min to x) (min to y) bytes one (omega arith) (omega arith)
@@ -158,7 +167,8 @@ unfolding IsOne
 len_cut [] to x y one low high = absurd one
 len_cut (first ∷ changes) to x y (inl same) low high =
     let equal : changed_len y (Cut to) ≡ changed_len x (Cut to) = omega arith in
-    ap (λ (c : Change). len_after (changed_len y c) changes) same ∙ ap (λ (n : ℕ). len_after n changes) equal ∙ ap (λ (c : Change). len_after (changed_len x c) changes) (sym same)
+    ap (λ (c : Change). len_after (changed_len y c) changes) same ∙ ap (λ (n : ℕ). len_after n changes) equal
+    ∙ ap (λ (c : Change). len_after (changed_len x c) changes) (sym same)
 len_cut (Put from laid ∷ changes) to x y (inr one) low high =
     len_cut changes to (max x (from + length laid)) (max y (from + length laid)) one (omega arith) (omega arith)
 len_cut (Cut other ∷ changes) to x y (inr one) low high = len_cut changes to (min other x) (min other y) one (omega arith) (omega arith)
@@ -180,7 +190,8 @@ torn_byte at p bytes old new torn (inl before) = torn_before at (length bytes) p
 torn_byte at p bytes old new torn (inr behind) = torn_behind at (length bytes) p old new torn behind
 
 -- a torn put leaves an image on which the changes have the same effect
-pub redoes_torn : (changes : List Change) (base old new : List ℕ) (at : ℕ) (bytes : List ℕ) → IsOne changes (Put at bytes) → Torn at (length bytes) old new → Redoes changes base old → Redoes changes base new
+pub redoes_torn : (changes : List Change) (base old new : List ℕ) (at : ℕ) (bytes : List ℕ) → IsOne changes (Put at bytes)
+    → Torn at (length bytes) old new → Redoes changes base old → Redoes changes base new
 redoes_torn changes base old new at bytes one torn same = record {
   reaches = reaches_more (length new) torn.no_shorter same.reaches;
   len = len_put changes at (length old) (length new) bytes one torn.no_shorter torn.no_longer ∙ same.len;
@@ -210,12 +221,14 @@ reaches_cut (first ∷ changes) to len x (inl same) above =
 reaches_cut (first ∷ changes) to len x (inr one) above =
     goes_on len first changes x (reaches_cut changes to (changed_len len first) x one above)
 
-cut_reaches : (changes : List Change) (to len : ℕ) (old new : List ℕ) → IsOne changes (Cut to) → CutShort to old new → Reaches len changes (length old) → Reaches len changes (length new)
+cut_reaches : (changes : List Change) (to len : ℕ) (old new : List ℕ) → IsOne changes (Cut to) → CutShort to old new
+    → Reaches len changes (length old) → Reaches len changes (length new)
 cut_reaches changes to len old new one (inl same) reaches = reaches_more (length new) (omega (arith, ap length same)) reaches
 cut_reaches changes to len old new one (inr short) reaches = reaches_cut changes to len (length new) one short.0
 
 -- and so does a cut that happened in part
-pub redoes_cut : (changes : List Change) (base old new : List ℕ) (to : ℕ) → IsOne changes (Cut to) → CutShort to old new → Redoes changes base old → Redoes changes base new
+pub redoes_cut : (changes : List Change) (base old new : List ℕ) (to : ℕ) → IsOne changes (Cut to) → CutShort to old new
+    → Redoes changes base old → Redoes changes base new
 redoes_cut changes base old new to one cut same = record {
   reaches = cut_reaches changes to (length base) old new one cut same.reaches;
   len = len_cut changes to (length old) (length new) one (cut_low to old new cut) (cut_high to old new cut) ∙ same.len;

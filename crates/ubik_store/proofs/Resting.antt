@@ -31,17 +31,21 @@ len_after_within (change ∷ changes) len within fits =
     (len_within change len (All-head IsWithinImage change changes within) fits)
 
 -- how long the image is, by the pages
-pub len_of : (pages : Known) (files : Option Files) (fs : Files) → AgreesIn pages files → files ≡ Some fs → pages.len ≡ length (image_of fs.database)
+pub len_of : (pages : Known) (files : Option Files) (fs : Files) → AgreesIn pages files → files ≡ Some fs
+    → pages.len ≡ length (image_of fs.database)
 len_of pages files fs agrees is = (of_told files fs (λ fs. Agrees pages fs.database) is agrees).len
 
-pub seamless_of : (pages : Known) (files : Option Files) (fs : Files) (changes : List Change) → AgreesIn pages files → files ≡ Some fs → IsSeamless pages.len changes
+pub seamless_of : (pages : Known) (files : Option Files) (fs : Files) (changes : List Change) → AgreesIn pages files → files ≡ Some fs
+    → IsSeamless pages.len changes
     → IsSeamless (length (image_of fs.database)) changes
 seamless_of pages files fs changes agrees is seamless = subst (λ (n : ℕ). IsSeamless n changes) (len_of pages files fs agrees is) seamless
 
-finished_fits : (changes : List Change) (v : Version) (file : List ℕ) → All IsWithinImage changes → IsSeamless (length (image_of file)) changes → length (image_of file) ≤ 16777216
+finished_fits : (changes : List Change) (v : Version) (file : List ℕ) → All IsWithinImage changes
+    → IsSeamless (length (image_of file)) changes → length (image_of file) ≤ 16777216
     → length (finished changes v file) ≤ MAX_DATABASE_LEN
 finished_fits changes v file within seamless fits =
-    let image : length (image_of (finished changes v file)) ≡ length (effect (image_of file) changes) = ap length (image_finished changes v file seamless) in
+    let image : length (image_of (finished changes v file)) ≡ length (effect (image_of file) changes) = ap length
+    (image_finished changes v file seamless) in
     let after = len_after_within changes (length (image_of file)) within fits in
     omega (arith, image, after, length-effect (image_of file) changes, length-drop 64 (finished changes v file))
 
@@ -49,22 +53,27 @@ pub ended_after : (changes : List Change) (v : Version) (fs : Files) → IsTold 
     → length (image_of fs.database) ≤ 16777216 → IsEnded v (effect (image_of fs.database) changes) (ended changes v fs)
 ended_after changes v fs is seamless fits = record {
   log = refl;
-  label = version_labelled v (applied changes (with_head fs.database)) is.is_version (finished_fits changes v fs.database is.within_image seamless fits);
+  label =
+      version_labelled v (applied changes (with_head fs.database)) is.is_version
+      (finished_fits changes v fs.database is.within_image seamless fits);
   content = image_finished changes v fs.database seamless;
 }
 
-pub ended_in : (changes : List Change) (v : Version) (fs : Files) (pages : Known) (old new : Option Files) → IsTold changes v → AgreesIn pages old → old ≡ Some fs
+pub ended_in : (changes : List Change) (v : Version) (fs : Files) (pages : Known) (old new : Option Files) → IsTold changes v
+    → AgreesIn pages old → old ≡ Some fs
     → IsSeamless pages.len changes → pages.len ≤ 16777216 → new ≡ Some (ended changes v fs)
     → EndedAs v (effect (image_of fs.database) changes) fs.incoming new
 ended_in changes v fs pages old new is agrees here seamless fits there = (
   ended changes v fs,
   there,
-  ended_after changes v fs is (seamless_of pages old fs changes agrees here seamless) (omega (arith, len_of pages old fs agrees here, fits)),
+  ended_after changes v fs is (seamless_of pages old fs changes agrees here seamless)
+      (omega (arith, len_of pages old fs agrees here, fits)),
   refl,
 )
 
 -- with an empty incoming file they are at rest
-pub at_rest : (v : Version) (image incoming : List ℕ) (files : Option Files) → incoming ≡ [] → EndedAs v image incoming files → RestsAs v image files
+pub at_rest : (v : Version) (image incoming : List ℕ) (files : Option Files) → incoming ≡ [] → EndedAs v image incoming files
+    → RestsAs v image files
 at_rest v image incoming files empty ends =
     let fs = ends.0 in
     let is = ends.2 in

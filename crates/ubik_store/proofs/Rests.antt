@@ -17,7 +17,8 @@ pub rests_here : (files : Option Files) (version : Version) (image : List ℕ) �
 rests_here files version image rests =
     let fs = rests.0 in
     let rest = rests.2 in
-    let here : IsAtRest version (image_of fs.database) fs = record { incoming = rest.incoming; log = rest.log; label = rest.label; content = refl } in
+    let here : IsAtRest version
+    (image_of fs.database) fs = record { incoming = rest.incoming; log = rest.log; label = rest.label; content = refl } in
     subst (AllAtRest version) (sym rests.1) here
 
 -- files at rest stand for their version and their image
@@ -26,12 +27,12 @@ at_rest_stands fs version image rests =
     let none = short_log_is_discarded fs.log (omega (arith, ap length rests.log)) in
     subst (StandsFor fs version) rests.content (by_label fs version (empty_ignored fs.incoming rests.incoming) none rests.label)
 
--- what an opening tells of files that stood there before it
-abbrev pub OpensAs : Option Files → Known → Files → Type 0
-OpensAs new pages fs = (version : Version) × (image : List ℕ) × StandsFor fs version image × RestsAs version image new
+-- files at rest are left, as what the files stood for
+abbrev pub Rested : Option Files → Known → Files → Type 0
+Rested new pages fs = (version : Version) × (image : List ℕ) × StandsFor fs version image × RestsAs version image new
     × (pages.version ≡ Some version) × (pages.len ≡ length image)
 
-pub opened_rests : (old new : Option Files) (v : Version) (pages : Known) → pages.version ≡ Some v → IfSome old (OpensAs new pages)
+pub opened_rests : (old new : Option Files) (v : Version) (pages : Known) → pages.version ≡ Some v → IfSome old (Rested new pages)
     → (old ≡ None → new ≡ None) → AllAtRest v new
 opened_rests None new v pages label stands untold = subst (AllAtRest v) (sym (untold refl)) tt
 opened_rests (Some fs) new v pages label stands untold =
@@ -43,9 +44,14 @@ abbrev pub StandsAs : Version → ℕ → Option Files → Files → Type 0
 StandsAs v len new fs = (image : List ℕ) × StandsFor fs v image × RestsAs v image new × (len ≡ length image)
 
 pub opened_stands : (old new : Option Files) (v : Version) (len : ℕ) (pages : Known) → pages.version ≡ Some v → len ≡ pages.len
-    → IfSome old (OpensAs new pages) → IfSome old (StandsAs v len new)
+    → IfSome old (Rested new pages) → IfSome old (StandsAs v len new)
 opened_stands None new v len pages label same stands = tt
 opened_stands (Some fs) new v len pages label is stands =
     let same : stands.0 ≡ v = cc in
-    let image = stands.1 in
-    (image, subst (λ (w : Version). StandsFor fs w image) same stands.2, subst (λ (w : Version). RestsAs w image new) same stands.3, is ∙ stands.5)
+    let image = stands.1 in (
+      image,
+      subst (λ (w : Version). StandsFor fs w image) same stands.2,
+      subst (λ (w : Version). RestsAs w image new) same stands.3,
+      is
+          ∙ stands.5,
+    )

@@ -1,7 +1,6 @@
 -- How an image takes the place of the one that is there, and what a crash leaves meanwhile.
 use Rattle.std.proofs.Common.{◌≡◌, ◌≤◌, ◌⊎◌, inl, inr, ℕ, ◌+◌, true, List, [], ◌++◌, length, drop, get_or, Option, Some, None, IfSome, refl, sym, ap, subst, ◌∙◌, arith, length-append}
 use Rattle.std.specs.Option.{option_map}
-use Rattle.std.specs.Prelude.{Result, Ok, Err, OnOk}
 use Rattle.std.proofs.lemmas.List.{drop_at, get_or-take, take_at}
 use Rattle.ubik_types.specs.declared.versions.Version.{Version}
 use Rattle.ubik_types.specs.Version.{IsVersion, zero_version, version_lt}
@@ -9,11 +8,11 @@ use Rattle.disk_base.specs.declared.disks.Disk.{Ghosts}
 use Rattle.disk_base.specs.declared.disks.FileNo.TheVariants.{Database, Log}
 use Rattle.disk_base.specs.Files.{Files, with_file, three_files}
 use Rattle.disk_base.specs.Crash.{CutShort, InFile, LeavesOnly, LeavesOthers, Only, OnlyIn, IsSettled, After}
-use Rattle.disk_base.specs.Runs.{OnlyReserves, Syncs}
+use Rattle.disk_base.specs.Runs.{Syncs}
 use Rattle.disk_base.proofs.Runs.{called, joined, widened}
 use Rattle.page_file.specs.declared.label.TheConstants.{MAX_DATABASE_LEN}
 use Rattle.page_file.specs.Label.{label, version_by, version_of_database}
-use Rattle.page_file.specs.Pages.{Known, AgreesIn, IsNoLonger, image_of}
+use Rattle.page_file.specs.Pages.{Known, IsNoLonger, image_of}
 use Rattle.page_file.proofs.Labels.{version_by_again, version_of_filled}
 use Rattle.ubik_log.proofs.Gates.{short_log_is_discarded}
 use Rattle.incoming_file.specs.Incoming.{IsIncoming, IsIgnored, IsGateOpen, opened, with_incoming, HasThisOrIgnored}
@@ -23,9 +22,12 @@ use Rattle.incoming_file.proofs.Opens.{gate_open}
 use Rattle.ubik_store.specs.Commit.{RewritesFiles}
 use Rattle.ubik_store.specs.Files.{StandsFor, StandsForEither}
 use Rattle.ubik_store.specs.Files.StandsFor.{by_incoming, by_label}
+use Rattle.ubik_store.specs.Calls.{CallsAtMost}
 use Rattle.ubik_store.specs.Gaps.{IsPlain}
+use Rattle.ubik_store.specs.Install.{TakesPlace, StandsThroughout}
 use Rattle.ubik_store.specs.Rest.{AreEmpty, CanRelabel, RestsAs}
 use Rattle.ubik_store.specs.Rewrite.Rewrite.{Replaced}
+use Rattle.ubik_store.proofs.Applied.{calls_joined}
 use Rattle.ubik_store.proofs.Committing.{settled_at}
 use Rattle.ubik_store.proofs.Gaps.{discarded_is_plain, received_is_plain}
 use Rattle.ubik_store.proofs.Plain.{first_over}
@@ -140,18 +142,22 @@ module _ (text : List ℕ) (v : Version) (is : IsText text v) where
     abbrev pub Takes : D → Type 0
     Takes new = IfSome (g.files old) (λ _. LeavesOnly g.steps g.left_since old new (MayTake text v))
 
-    pub takes_stands : (new : D) → Takes new
+    takes_stands : (new : D) → Takes new
         → IfSome (g.files old) (λ _. LeavesOnly g.steps g.left_since old new (λ c. StandsFor c v (drop 64 text)))
     takes_stands new run =
         told (g.files old) (λ _. LeavesOnly g.steps g.left_since old new (λ c. StandsFor c v (drop 64 text))) (λ fs there.
         widened g.steps g.left_since old new (MayTake text v) (λ c. StandsFor c v (drop 64 text)) stands_taken
         (of_some (g.files old) fs (LeavesOnly g.steps g.left_since old new (MayTake text v)) there run))
 
-    pub takes_plain : (new : D) → version_lt zero_version v ≡ true → Takes new
+    takes_plain : (new : D) → version_lt zero_version v ≡ true → Takes new
         → IfSome (g.files old) (λ _. LeavesOnly g.steps g.left_since old new IsPlain)
     takes_plain new newer run = told (g.files old) (λ _. LeavesOnly g.steps g.left_since old new IsPlain) (λ fs there.
         widened g.steps g.left_since old new (MayTake text v) IsPlain (plain_taken newer)
         (of_some (g.files old) fs (LeavesOnly g.steps g.left_since old new (MayTake text v)) there run))
+
+    pub stands_throughout : {n : ℕ} {new : D} {F : Type 0} → Takes new → CallsAtMost g n old new F → StandsThroughout g text v n old new F
+    stands_throughout {n} {new} run calls =
+        record { moments = takes_stands new run; plain = λ newer. takes_plain new newer run; calls = calls }
 
     pub takes_synced : (mid new : D) {F : Type 0} → Takes mid → Syncs g Database mid new F → Takes new
     takes_synced mid new run sync = told (g.files old) (λ _. LeavesOnly g.steps g.left_since old new (MayTake text v)) (λ fs there.
@@ -262,7 +268,7 @@ kept_there text v is (Some fs) new there =
     subst P (sym there) (kept_is_open text v is)
 
 -- where the files in the end do not depend on those before
-pub files_from : (step : Files → Files) (last : Files) (old mid new : Option Files) → mid ≡ option_map step old
+files_from : (step : Files → Files) (last : Files) (old mid new : Option Files) → mid ≡ option_map step old
     → new ≡ option_map (λ _. last) mid → new ≡ option_map (λ _. last) old
 files_from step last None mid new is ends = ends ∙ ap (option_map (λ _. last)) is
 files_from step last (Some fs) mid new is ends = ends ∙ ap (option_map (λ _. last)) is
@@ -284,6 +290,27 @@ module _ {D : Type 0} (g : Ghosts D) (step : Files → Files) (old mid new : D) 
       → IfSome (g.files old) (λ _. LeavesOnly g.steps g.left_since old new P)
   runs_after P first second = told (g.files old) (λ _. LeavesOnly g.steps g.left_since old new P) (λ fs is.
       run_after P P (λ c so. so) fs is (of_some (g.files old) fs (LeavesOnly g.steps g.left_since old mid P) is first) second)
+
+  -- a text took its place, behind so many calls
+  pub place_after : (m : ℕ) {n : ℕ} {text : List ℕ} {v : Version} {after : Known} → g.steps mid ≡ g.steps old + m
+      → TakesPlace g text v n mid new after
+      → TakesPlace g text v (m + n) old new after
+  place_after m {n} {text} steps place = record {
+    files = files_from step (three_files text [] []) (g.files old) (g.files mid) (g.files new) there place.files;
+    settled = place.settled;
+    steps = omega (arith, steps, place.steps);
+    label = place.label;
+    len = place.len;
+    agrees = place.agrees;
+  }
+
+  pub throughout_after : {m n : ℕ} {text : List ℕ} {v : Version} {F G : Type 0} → ¬ F → StandsThroughout g text v m old mid F
+      → StandsThroughout g text v n mid new G → StandsThroughout g text v (m + n) old new G
+  throughout_after {m} {n} {text} {v} went first second = record {
+    moments = runs_after (λ c. StandsFor c v (drop 64 text)) first.moments second.moments;
+    plain = λ newer. runs_after IsPlain (first.plain newer) (second.plain newer);
+    calls = calls_joined first.calls went second.calls;
+  }
 
 -- ---- an install
 
@@ -309,24 +336,18 @@ rests_installed image v is fits new there = (
   },
 )
 
-module _ {D : Type 0} (g : Ghosts D) (image : List ℕ) (v : Version) (is : IsVersion v) (fits : length image ≤ 16777216) (old mid new : D)
-    (before after : Known) where
-  -- room was made, and then the files became these
-  pub installed : {A E : Type 0} (r : Result A E) → OnlyReserves g old mid
-      → OnOk r (g.files new ≡ option_map (λ _. three_files (label v ++ image) [] []) (g.files mid))
-      → OnOk r (IsSettled (g.files new) (g.may_leave new)) → OnOk r (g.steps new ≡ g.steps mid + 15) → OnOk r (after.version ≡ Some v)
-      → OnOk r (64 + after.len ≡ length (label v ++ image)) → OnOk r (AgreesIn after (g.files new)) → CanRelabel g new
-      → OnOk r (RewritesFiles g (Replaced image) v old new before after)
-  installed (Ok x) made files settled steps version len agrees room = record {
-    files = files ∙ ap (option_map (λ _. three_files (label v ++ image) [] [])) made.files;
-    rests = told (g.files old) (λ _. RestsAs v image (g.files new)) (λ fs there.
-        rests_installed image v is fits (g.files new)
-        (files ∙ ap (option_map (λ _. three_files (label v ++ image) [] [])) (made.files ∙ there)));
-    settled = settled;
-    steps = told (g.files old) (λ _. g.steps new ≡ g.steps old + 15) (λ fs there. omega (arith, steps, made.steps));
-    label = version;
-    len = omega (arith, len, length-append (label v) image);
-    agrees = agrees;
-    room = room;
-  }
-  installed (Err e) made files settled steps version len agrees room = tt
+-- so where the text took its place
+pub installed : {D : Type 0} (g : Ghosts D) (image : List ℕ) (v : Version) → IsVersion v → length image ≤ 16777216
+    → {old new : D} {before after : Known}
+    → TakesPlace g (label v ++ image) v 15 old new after → CanRelabel g new → RewritesFiles g (Replaced image) v old new before after
+installed {D} g image v is fits {old} {new} place room = record {
+  files = place.files;
+  rests = told (g.files old) (λ _. RestsAs v image (g.files new)) (λ fs there.
+      rests_installed image v is fits (g.files new) (place.files ∙ ap (option_map (λ _. three_files (label v ++ image) [] [])) there));
+  settled = place.settled;
+  steps = told (g.files old) (λ _. g.steps new ≡ g.steps old + 15) (λ fs there. place.steps);
+  label = place.label;
+  len = omega (arith, place.len, length-append (label v) image);
+  agrees = place.agrees;
+  room = room;
+}

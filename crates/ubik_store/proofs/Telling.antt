@@ -2,7 +2,7 @@
 use Rattle.std.proofs.Common.{◌≡◌, Option, Some, None, IfSome, refl, sym, ap, subst, ◌∙◌}
 use Rattle.std.specs.Result.{is_err}
 use Rattle.std.proofs.lemmas.Bool.{false≢true}
-use Rattle.std.specs.Prelude.{Result, Ok, Err, OnOk, IfErr, IsErr, IsErrOf}
+use Rattle.std.specs.Prelude.{Result, Ok, Err, IfOk, OnOk, IfErr, IsErr, IsErrOf}
 use Rattle.std.specs.Option.{option_map}
 use Rattle.disk_base.specs.Crash.{IsSettled}
 use Rattle.disk_base.specs.Files.{Files}
@@ -21,6 +21,11 @@ pub on_ok : {A E : Type 0} (r : Result A E) (P : Type 0) → (¬ IsErr r → P) 
 on_ok (Ok x) P so = so false≢true
 on_ok (Err e) P so = tt
 
+-- what is said of one that went well
+pub of_ok : {A E : Type 0} (r : Result A E) {P : Type 0} → ¬ IsErr r → OnOk r P → P
+of_ok (Ok x) went so = so
+of_ok (Err e) went so = absurd (went refl)
+
 -- what does not speak of the files
 pub of_some : (files : Option Files) (fs : Files) (P : Type 0) → files ≡ Some fs → IfSome files (λ _. P) → P
 of_some files fs P is says = subst (λ (o : Option Files). IfSome o (λ _. P)) is says
@@ -28,6 +33,10 @@ of_some files fs P is says = subst (λ (o : Option Files). IfSome o (λ _. P)) i
 pub ok_map : {A E : Type 0} (r : Result A E) (P Q : Type 0) → OnOk r P → (P → Q) → OnOk r Q
 ok_map (Ok x) P Q so also = also so
 ok_map (Err e) P Q so also = tt
+
+pub if_ok_map : {A E : Type 0} (r : Result A E) {P Q : A → Type 0} → IfOk r P → ((x : A) → P x → Q x) → IfOk r Q
+if_ok_map (Ok x) so also = also x so
+if_ok_map (Err e) so also = tt
 
 pub ok_both : {A E : Type 0} (r : Result A E) (P Q R : Type 0) → OnOk r P → OnOk r Q → (P → Q → R) → OnOk r R
 ok_both (Ok x) P Q R p q also = also p q
@@ -54,10 +63,12 @@ err_same : {A B E : Type 0} (r : Result A E) (s : Result B E) (f e : E) → r �
 err_same r s f e a b is = let same : f ≡ e = cc in a ∙ ap Err same
 
 -- an error that is handed on as it is
-pub err_on : {A B E : Type 0} (r : Result A E) (s : Result B E) (f e : E) → s ≡ Err f → IsErr r → IfErr r (λ x. x ≡ f) → IsErrOf s e → IsErrOf r e
+pub err_on : {A B E : Type 0} (r : Result A E) (s : Result B E) (f e : E) → s ≡ Err f → IsErr r → IfErr r (λ x. x ≡ f) → IsErrOf s e
+    → IsErrOf r e
 err_on r s f e was some only is = err_same r s f e (err_is r f some only) was is
 
-pub err_back : {A B E : Type 0} (r : Result A E) (s : Result B E) (f e : E) → s ≡ Err f → IsErr r → IfErr r (λ x. x ≡ f) → IsErrOf r e → IsErrOf s e
+pub err_back : {A B E : Type 0} (r : Result A E) (s : Result B E) (f e : E) → s ≡ Err f → IsErr r → IfErr r (λ x. x ≡ f) → IsErrOf r e
+    → IsErrOf s e
 err_back r s f e was some only is = err_same s r f e was (err_is r f some only) is
 
 -- nothing is said of a disk that does not tell its files

@@ -8,7 +8,7 @@ use Rattle.disk_base.specs.declared.disks.Disk.{Ghosts}
 use Rattle.disk_base.specs.declared.disks.FileNo.TheVariants.{Incoming}
 use Rattle.disk_base.specs.Files.{Files, three_files}
 use Rattle.disk_base.specs.Crash.{LeavesOnly, Narrows, IsSettled, After, RisesAtMost}
-use Rattle.disk_base.specs.Runs.{AnyIn, ChangesAtMost}
+use Rattle.disk_base.specs.Runs.{AnyIn, ChangesAtMost, OnlyReads}
 use Rattle.disk_base.specs.Stops.{IsStopped}
 use Rattle.disk_base.proofs.Runs.{widened, joined}
 use Rattle.page_file.specs.declared.label.TheConstants.{MAX_DATABASE_LEN}
@@ -25,16 +25,17 @@ use Rattle.ubik_store.specs.Calls.{CallsAtMost}
 use Rattle.ubik_store.specs.Files.{StandsFor}
 use Rattle.ubik_store.specs.Files.StandsFor.{by_incoming, by_label}
 use Rattle.ubik_store.specs.Gaps.{IsGapless, IsPlain}
-use Rattle.ubik_store.specs.Opening.{EndsLogIn, OpensIn, IsOpening, IsOpeningIn}
+use Rattle.ubik_store.specs.Opening.{EndsLogIn, OpensIn, IsOpening, IsOpeningIn, OpensFiles}
 use Rattle.ubik_store.specs.Opening.OpensIn.{takes, treats}
 use Rattle.ubik_store.specs.Plans.{Plans, PlansTake}
-use Rattle.ubik_store.specs.Rest.{IsEnded, RestsAs}
+use Rattle.ubik_store.specs.Rest.{IsEnded}
 use Rattle.ubik_store.proofs.Applied.{calls_of, calls_joined, calls_as}
 use Rattle.ubik_store.proofs.Committing.{fits_of, settled_at}
 use Rattle.ubik_store.proofs.Gaps.{HasNoFirstLabel, discarded_is_plain}
 use Rattle.ubik_store.proofs.Once.{open_stands_once, stands_once}
-use Rattle.ubik_store.proofs.Opened.{Opened, OpensInFew}
+use Rattle.ubik_store.proofs.Opened.{Opened, OpensInFew, steps_after}
 use Rattle.ubik_store.proofs.Redoing.{narrowed}
+use Rattle.ubik_store.proofs.Rests.{Rested}
 use Rattle.ubik_store.proofs.Telling.{told, of_told}
 
 -- ---- an incoming file that is ignored
@@ -44,12 +45,6 @@ pub treats_in : (fs : Files) (calls : ℕ) → IsIgnored fs.incoming → OpensIn
     → (k : ℕ) × EndsLogIn fs k × (calls ≡ k + clear_calls fs.incoming)
 treats_in fs calls ignored (takes _ version image opens) = absurd (ignored version image opens)
 treats_in fs calls ignored (treats _ k other ends) = (k, ends, refl)
-
--- files at rest are left, as what the files stood for
-abbrev pub Rested : Option Files → Known → Files → Type 0
-Rested new pages fs =
-    (version : Version) × (image : List ℕ) × StandsFor fs version image × RestsAs version image new × (pages.version ≡ Some version)
-    × (pages.len ≡ length image)
 
 -- once the incoming file is empty too
 pub opened_rests : (fs : Files) (pages : Known) (mid new : Option Files) → new ≡ option_map (with_incoming []) mid → Opened mid pages fs
@@ -260,3 +255,19 @@ module _ {D : Type 0} (g : Ghosts D) (old : D) (pages : Known) (text : List ℕ)
     most = 9;
     calls = calls_as (omega arith) to from calls;
   }
+
+-- ---- an opening that read before
+
+pub opens_after : {D : Type 0} (g : Ghosts D) {old mid new : D} {F : Type 0} (pages : Known) → OnlyReads g old mid F → ¬ F
+    → OpensFiles g mid new pages
+    → OpensFiles g old new pages
+opens_after g {old} {mid} {new} pages reads went opened = record {
+  stands = told (g.files old) (Rested (g.files new) pages) (λ fs is.
+      of_told (g.files mid) fs (Rested (g.files new) pages) (reads.files went ∙ is) opened.stands);
+  numbers = opened.numbers;
+  len = opened.len;
+  agrees = opened.agrees;
+  settled = opened.settled;
+  steps = steps_after g new reads went opened.steps;
+  untold = λ none. opened.untold (reads.files went ∙ none);
+}

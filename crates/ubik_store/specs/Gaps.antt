@@ -36,7 +36,8 @@ CutsNoPut (Cut to ∷ changes) = CutsNoPut changes
 
 -- the changes of a committed log leave no gap in the image that stands there
 abbrev pub IsGapless : Files → Type 0
-IsGapless fs = (changes : List Change) (version : Version) → IsLogged fs changes version → LeaveNoGap (length (image_of fs.database)) changes
+IsGapless fs =
+    (changes : List Change) (version : Version) → IsLogged fs changes version → LeaveNoGap (length (image_of fs.database)) changes
 
 -- And none of its cuts goes to before where an earlier put begins: so it stays, however often an opening crashes. The first version is
 -- that of an empty database file, and of nothing else: a store that began on empty files gives no log, no label and no incoming file that

@@ -4,6 +4,7 @@ pub mod DurableCall
 pub mod Faults
 pub mod Files
 pub mod Gaps
+pub mod Install
 pub mod Measures
 pub mod Moments
 pub mod Opening

@@ -1,14 +1,16 @@
 -- What an opening of files does: how many changing calls it makes, and why it refuses (own).
-use Rattle.std.specs.Prelude.{◌≡◌, ℕ, ◌+◌, List, length, take, IfSome}
+use Rattle.std.specs.Prelude.{◌≡◌, ℕ, ◌+◌, ◌≤◌, List, length, take, Option, Some, None, IfSome}
 use Rattle.ubik_types.specs.declared.images.Change.{Change}
 use Rattle.ubik_types.specs.declared.versions.Version.{Version}
+use Rattle.ubik_types.specs.declared.limits.TheConstants.{MAX_IMAGE}
 use Rattle.ubik_types.specs.Logged.{logged}
+use Rattle.ubik_types.specs.Version.{IsVersion}
 use Rattle.disk_base.specs.declared.disks.Disk.{Ghosts}
-use Rattle.disk_base.specs.Crash.{LeavesOnly, RisesAtMost}
+use Rattle.disk_base.specs.Crash.{LeavesOnly, IsSettled, RisesAtMost}
 use Rattle.disk_base.specs.Files.{Files}
 use Rattle.disk_base.specs.Stops.{IsStopped}
 use Rattle.page_file.specs.Label.{IsHeadOf}
-use Rattle.page_file.specs.Pages.{image_of}
+use Rattle.page_file.specs.Pages.{Known, AgreesIn, image_of}
 use Rattle.ubik_log.specs.LogGrammar.{IsCommitted, IsDiscarded, new_record}
 use Rattle.incoming_file.specs.Incoming.{IsIncoming, IsIgnored, clear_calls}
 use Rattle.ubik_store.specs.declared.faults.StoreFault.{StoreFault}
@@ -17,6 +19,7 @@ use Rattle.ubik_store.specs.Calls.{CallsAtMost}
 use Rattle.ubik_store.specs.Files.{StandsFor}
 use Rattle.ubik_store.specs.Gaps.{IsGapless, IsPlain}
 use Rattle.ubik_store.specs.Moments.{head_calls}
+use Rattle.ubik_store.specs.Rest.{EndedAs, RestsAs}
 
 -- how many changing calls the log of these files asks for, by cases
 pub data EndsLogIn : Files → ℕ → Type 0 where
@@ -62,3 +65,24 @@ pub record IsOpeningIn {D : Type 0} (In : Files → ℕ → Type 0) (g : Ghosts 
 
 abbrev pub IsOpening : {D : Type 0} → Ghosts D → (old new : D) → (failed : Type 0) → Type 0
 IsOpening g old new failed = IsOpeningIn OpensIn g old new failed
+
+-- What an opening, or a part of one, gives that is done: pages of the version and the image that the files stood for. `Left` says which
+-- files are left of those before, and `In` how many changing calls it makes; nothing is pending.
+pub record OpensAs {D : Type 0} (Left : Version → List ℕ → Files → Option Files → Type 0) (In : Files → ℕ → Type 0) (g : Ghosts D)
+    (old new : D) (pages : Known) : Type 0 where
+  pub stands : IfSome (g.files old) (λ fs. (version : Version) × (image : List ℕ) × StandsFor fs version image
+      × Left version image fs (g.files new) × (pages.version ≡ Some version) × (pages.len ≡ length image))
+  pub numbers : (version : Version) × (pages.version ≡ Some version) × IsVersion version
+  pub len : pages.len ≤ MAX_IMAGE
+  pub agrees : AgreesIn pages (g.files new)
+  pub settled : IsSettled (g.files new) (g.may_leave new)
+  pub steps : IfSome (g.files old) (λ fs. (calls : ℕ) → In fs calls → g.steps new ≡ g.steps old + calls)
+  pub untold : g.files old ≡ None → g.files new ≡ None
+
+-- the log was treated: it and the database file are at rest, and the incoming file is as it was
+abbrev pub TreatsLog : {D : Type 0} → Ghosts D → (old new : D) → Known → Type 0
+TreatsLog g old new pages = OpensAs (λ version image fs left. EndedAs version image fs.incoming left) EndsLogIn g old new pages
+
+-- files at rest are left
+abbrev pub OpensFiles : {D : Type 0} → Ghosts D → (old new : D) → Known → Type 0
+OpensFiles g old new pages = OpensAs (λ version image _ left. RestsAs version image left) OpensIn g old new pages

@@ -1,23 +1,16 @@
 //! A durable call: a log is kept and its gate opened, and then its changes are made.
-ghost use Rattle.std.specs.Prelude.{◌≡◌, ◌+◌, ◌<◌, ◌≤◌, ◌⊎◌, ℕ, true, List, [], length, All, IfSome, Some, None, OnOk, IfErr, IsErrOf, IsTrue};
-ghost use Rattle.std.specs.Option.{option_map};
+ghost use Rattle.std.specs.Prelude.{◌≡◌, ◌+◌, ◌<◌, ◌≤◌, ◌⊎◌, [], length, All, IfSome, None, OnOk, IfErr, IsErrOf, IsTrue};
 ghost use Rattle.ubik_types.specs.declared.versions.Version.{Version};
-ghost use Rattle.ubik_types.specs.Version.{IsVersion, version_lt, zero_version};
-ghost use Rattle.ubik_types.specs.Image.{effect};
+ghost use Rattle.ubik_types.specs.Version.{IsVersion};
 ghost use Rattle.ubik_types.specs.Logged.{logged, too_large};
-ghost use Rattle.disk_base.specs.Crash.{LeavesOnly, IsSettled, RisesAtMost};
+ghost use Rattle.disk_base.specs.Crash.{IsSettled};
 ghost use Rattle.disk_base.specs.Runs.{OnlyReserves};
-ghost use Rattle.page_file.specs.Label.{version_of_database};
-ghost use Rattle.page_file.specs.Pages.{AgreesIn, image_of};
+ghost use Rattle.page_file.specs.Pages.{AgreesIn};
 ghost use Rattle.ubik_log.specs.LogGrammar.{IsTold, IsWithinImage, IsCommitted};
-ghost use Rattle.ubik_store.specs.Calls.{CallsAtMost};
 ghost use Rattle.ubik_store.specs.Commit.{RewritesFiles, IsDurableOver};
-ghost use Rattle.ubik_store.specs.Gaps.{IsPlain, CutsNoPut};
-ghost use Rattle.ubik_store.specs.Rest.{AreEmpty, CanRelabel, RestsAs};
+ghost use Rattle.ubik_store.specs.Rest.{AreEmpty, CanRelabel};
 ghost use Rattle.ubik_store.specs.Rewrite.Rewrite.{Changed};
-ghost use Rattle.ubik_store.specs.Files.{StandsForEither};
-ghost use Rattle.ubik_store.specs.Moments.{head_calls, ended};
-ghost use Rattle.ubik_store.specs.Redo.{len_after, IsSeamless, Ends};
+ghost use Rattle.ubik_store.specs.Redo.{IsSeamless, Ends};
 
 use crate::faults::StoreFault;
 use crate::logged::copy_as_made;
@@ -47,27 +40,11 @@ pub(crate) fn keep_and_redo<D: Disk>(
     requires head_fits { 64 ≤ D.room disk.old FileNo.Database }
     requires empty { IfSome (D.files disk.old) AreEmpty }
     requires settled { IsSettled (D.files disk.old) (D.may_leave disk.old) }
-    ensures files { OnOk result (D.files disk.new ≡ option_map (ended changes.now v) (D.files disk.old)) }
-    ensures moments { IfSome (D.files disk.old) (λ fs. (own : Version) → version_of_database fs.database ≡ Some own
-        → LeavesOnly D.steps D.left_since disk.old disk.new
-        (StandsForEither own (image_of fs.database) v (effect (image_of fs.database) changes.now))) }
-    ensures plain { version_lt zero_version v ≡ true → CutsNoPut changes.now → IfSome (D.files disk.old) (λ fs.
-        IsPlain fs → LeavesOnly D.steps D.left_since disk.old disk.new IsPlain) }
-    ensures few { IfSome (D.files disk.old) (λ fs.
-        RisesAtMost (13 + length changes.now + head_calls fs.database) (D.steps disk.old) (D.steps disk.new)) }
-    ensures rests { OnOk result (IfSome (D.files disk.old) (λ fs.
-        RestsAs v (effect (image_of fs.database) changes.now) (D.files disk.new))) }
-    ensures settled { OnOk result (IsSettled (D.files disk.new) (D.may_leave disk.new)) }
-    ensures steps { OnOk result (IfSome (D.files disk.old) (λ fs.
-        D.steps disk.new ≡ D.steps disk.old + (13 + length changes.now + head_calls fs.database))) }
-    ensures label { OnOk result (pages.new.version ≡ Some v) }
-    ensures len { OnOk result (pages.new.len ≡ len_after pages.old.len changes.now) }
-    ensures agrees { OnOk result (AgreesIn pages.new (D.files disk.new)) }
-    ensures room { OnOk result (CanRelabel D.Disk disk.new) }
+    ensures done { OnOk result (RewritesFiles D.Disk (Changed changes.now) v disk.old disk.new pages.old pages.new) }
+    ensures durable { IsDurableOver D.Disk (Changed changes.now) v disk.old disk.new (IsErrOf result StoreFault.DiskFault) }
     ensures fault { IfErr result (λ fault. (fault ≡ StoreFault.DiskFault) ⊎ (fault ≡ StoreFault.NoMemory)) }
     ensures no_memory { IsErrOf result StoreFault.NoMemory → D.room disk.old FileNo.Log < length log.now }
     ensures unchanged { IsErrOf result StoreFault.NoMemory → OnlyReserves D.Disk disk.old disk.new × (pages.new ≡ pages.old) }
-    ensures calls { CallsAtMost D.Disk (14 + length changes.now) disk.old disk.new (IsErrOf result StoreFault.DiskFault) }
 {
     keep_log(alloc, disk, log)?;
     open_gate(disk)?;

@@ -1,19 +1,15 @@
 //! Another image in place of the one that is there: it is kept whole in the incoming file, and then takes the place of the database file.
 //! With the incoming file's gate open a crash finds all of it there; before, the database file as it was.
-ghost use Rattle.std.specs.Prelude.{◌≡◌, ◌+◌, ◌++◌, ◌≤◌, ◌⊎◌, true, [], length, take, drop, Some, IfOk, IfErr, IfSome, IsErr, IsErrOf, OnOk};
-ghost use Rattle.std.specs.Option.{option_map};
-ghost use Rattle.ubik_types.specs.Version.{IsVersion, version_lt, zero_version};
+ghost use Rattle.std.specs.Prelude.{◌≡◌, ◌+◌, ◌++◌, ◌≤◌, ◌⊎◌, length, take, drop, IfOk, IfErr, IfSome, IsErr, IsErrOf, OnOk};
+ghost use Rattle.ubik_types.specs.Version.{IsVersion};
 ghost use Rattle.disk_base.specs.Crash.{IsSettled, LeavesOnly};
-ghost use Rattle.disk_base.specs.Files.{three_files};
 ghost use Rattle.disk_base.specs.Runs.{OnlyReserves};
-ghost use Rattle.incoming_file.specs.Incoming.{IsIncoming};
 ghost use Rattle.incoming_file.specs.Reading.{IsText};
-ghost use Rattle.page_file.specs.Label.{label, version_of_database};
-ghost use Rattle.page_file.specs.Pages.{AgreesIn, image_of};
-ghost use Rattle.ubik_store.specs.Calls.{CallsAtMost};
+ghost use Rattle.page_file.specs.Label.{label};
+ghost use Rattle.page_file.specs.Pages.{AgreesIn};
 ghost use Rattle.ubik_store.specs.Commit.{RewritesFiles, IsDurableOver};
-ghost use Rattle.ubik_store.specs.Files.{StandsFor, StandsForEither};
-ghost use Rattle.ubik_store.specs.Gaps.{IsPlain};
+ghost use Rattle.ubik_store.specs.Install.{TakesPlace, StandsThroughout};
+ghost use Rattle.ubik_store.specs.Plans.{PlansTake};
 ghost use Rattle.ubik_store.specs.Rest.{AreEmpty, HasNoLog};
 ghost use Rattle.ubik_store.specs.Rewrite.Rewrite.{Replaced};
 
@@ -21,7 +17,7 @@ use crate::faults::StoreFault;
 use crate::redo::empty_log_file;
 use disk_base::{Disk, DiskEnd, FileNo, RoomEnd};
 use incoming_file::{end_incoming, keep_incoming, reserve_incoming};
-use page_file::{LABEL_LEN, MAX_DATABASE_LEN, Pages, label_bytes};
+use page_file::{LABEL_LEN, Pages, label_bytes};
 use std::alloc::Global;
 use ubik_types::{Bytes, MAX_IMAGE, NoMemory, Version};
 
@@ -36,27 +32,13 @@ pub(crate) fn take_incoming<D: Disk>(
     text: &[u8],
     v: Version,
 ) -> Result<(), StoreFault>
-    requires is_text { IsText text.now v }
-    requires is_open { IfSome (D.files disk.old) (λ fs. IsIncoming fs.incoming v (drop LABEL_LEN text.now)) }
+    requires plan { PlansTake D.Disk disk.old pages.old text.now v }
     requires no_log { IfSome (D.files disk.old) HasNoLog }
-    requires not_long { IfSome (D.files disk.old) (λ fs. length fs.database ≤ MAX_DATABASE_LEN) }
-    requires agrees { AgreesIn pages.old (D.files disk.old) }
-    requires fits { length text.now ≤ D.room disk.old FileNo.Database }
-    requires gate_fits { LABEL_LEN ≤ D.room disk.old FileNo.Incoming }
     requires settled { IsSettled (D.files disk.old) (D.may_leave disk.old) }
-    ensures files { OnOk result (D.files disk.new ≡ option_map (λ _. three_files text.now [] []) (D.files disk.old)) }
-    ensures moments { IfSome (D.files disk.old) (λ _.
-        LeavesOnly D.steps D.left_since disk.old disk.new (λ c. StandsFor c v (drop LABEL_LEN text.now))) }
-    ensures plain { version_lt zero_version v ≡ true → IfSome (D.files disk.old) (λ _.
-        LeavesOnly D.steps D.left_since disk.old disk.new IsPlain) }
+    ensures done { OnOk result (TakesPlace D.Disk text.now v 7 disk.old disk.new pages.new) }
+    ensures stands { StandsThroughout D.Disk text.now v 7 disk.old disk.new (IsErr result) }
     ensures log { IfSome (D.files disk.old) (λ _. LeavesOnly D.steps D.left_since disk.old disk.new HasNoLog) }
-    ensures settled { OnOk result (IsSettled (D.files disk.new) (D.may_leave disk.new)) }
-    ensures steps { OnOk result (D.steps disk.new ≡ D.steps disk.old + 7) }
-    ensures label { OnOk result (pages.new.version ≡ Some v) }
-    ensures len { OnOk result (LABEL_LEN + pages.new.len ≡ length text.now) }
-    ensures agrees { OnOk result (AgreesIn pages.new (D.files disk.new)) }
     ensures fault { IfErr result (λ fault. fault ≡ StoreFault.DiskFault) }
-    ensures calls { CallsAtMost D.Disk 7 disk.old disk.new (IsErr result) }
 {
     pages.replace(disk, text, v)?;
     pages.sync(disk)?;
@@ -74,25 +56,11 @@ pub(crate) fn take_over<D: Disk>(
     text: &[u8],
     v: Version,
 ) -> Result<(), StoreFault>
-    requires is_text { IsText text.now v }
-    requires is_open { IfSome (D.files disk.old) (λ fs. IsIncoming fs.incoming v (drop LABEL_LEN text.now)) }
-    requires not_long { IfSome (D.files disk.old) (λ fs. length fs.database ≤ MAX_DATABASE_LEN) }
-    requires agrees { AgreesIn pages.old (D.files disk.old) }
-    requires fits { length text.now ≤ D.room disk.old FileNo.Database }
-    requires gate_fits { LABEL_LEN ≤ D.room disk.old FileNo.Incoming }
+    requires plan { PlansTake D.Disk disk.old pages.old text.now v }
     requires settled { IsSettled (D.files disk.old) (D.may_leave disk.old) }
-    ensures files { OnOk result (D.files disk.new ≡ option_map (λ _. three_files text.now [] []) (D.files disk.old)) }
-    ensures moments { IfSome (D.files disk.old) (λ _.
-        LeavesOnly D.steps D.left_since disk.old disk.new (λ c. StandsFor c v (drop LABEL_LEN text.now))) }
-    ensures plain { version_lt zero_version v ≡ true → IfSome (D.files disk.old) (λ _.
-        LeavesOnly D.steps D.left_since disk.old disk.new IsPlain) }
-    ensures settled { OnOk result (IsSettled (D.files disk.new) (D.may_leave disk.new)) }
-    ensures steps { OnOk result (D.steps disk.new ≡ D.steps disk.old + 9) }
-    ensures label { OnOk result (pages.new.version ≡ Some v) }
-    ensures len { OnOk result (LABEL_LEN + pages.new.len ≡ length text.now) }
-    ensures agrees { OnOk result (AgreesIn pages.new (D.files disk.new)) }
+    ensures done { OnOk result (TakesPlace D.Disk text.now v 9 disk.old disk.new pages.new) }
+    ensures stands { StandsThroughout D.Disk text.now v 9 disk.old disk.new (IsErr result) }
     ensures fault { IfErr result (λ fault. fault ≡ StoreFault.DiskFault) }
-    ensures calls { CallsAtMost D.Disk 9 disk.old disk.new (IsErr result) }
 {
     match empty_log_file(disk) {
         DiskEnd::Done => take_incoming(disk, pages, text, v),
@@ -138,24 +106,14 @@ fn keep_and_take<D: Disk>(
 ) -> Result<(), StoreFault>
     requires is_text { IsText text.now v }
     requires agrees { AgreesIn pages.old (D.files disk.old) }
-    requires not_long { IfSome (D.files disk.old) (λ fs. length fs.database ≤ MAX_DATABASE_LEN) }
+    requires len { pages.old.len ≤ MAX_IMAGE }
     requires empty { IfSome (D.files disk.old) AreEmpty }
     requires fits { length text.now ≤ D.room disk.old FileNo.Database }
     requires incoming_fits { length text.now ≤ D.room disk.old FileNo.Incoming }
     requires settled { IsSettled (D.files disk.old) (D.may_leave disk.old) }
-    ensures files { OnOk result (D.files disk.new ≡ option_map (λ _. three_files text.now [] []) (D.files disk.old)) }
-    ensures moments { IfSome (D.files disk.old) (λ fs. (own : Version) → version_of_database fs.database ≡ Some own
-        → LeavesOnly D.steps D.left_since disk.old disk.new (StandsForEither own (image_of fs.database) v (drop LABEL_LEN text.now))) }
-    ensures plain { version_lt zero_version v ≡ true → IfSome (D.files disk.old) (λ fs.
-        IsPlain fs → LeavesOnly D.steps D.left_since disk.old disk.new IsPlain) }
-    ensures log { IfSome (D.files disk.old) (λ _. LeavesOnly D.steps D.left_since disk.old disk.new HasNoLog) }
-    ensures settled { OnOk result (IsSettled (D.files disk.new) (D.may_leave disk.new)) }
-    ensures steps { OnOk result (D.steps disk.new ≡ D.steps disk.old + 15) }
-    ensures label { OnOk result (pages.new.version ≡ Some v) }
-    ensures len { OnOk result (LABEL_LEN + pages.new.len ≡ length text.now) }
-    ensures agrees { OnOk result (AgreesIn pages.new (D.files disk.new)) }
+    ensures done { OnOk result (TakesPlace D.Disk text.now v 15 disk.old disk.new pages.new) }
+    ensures durable { IsDurableOver D.Disk (Replaced (drop LABEL_LEN text.now)) v disk.old disk.new (IsErrOf result StoreFault.DiskFault) }
     ensures fault { IfErr result (λ fault. fault ≡ StoreFault.DiskFault) }
-    ensures calls { CallsAtMost D.Disk 15 disk.old disk.new (IsErr result) }
 {
     match keep_incoming(disk, text) {
         DiskEnd::Done => take_incoming(disk, pages, text, v),

@@ -1,21 +1,17 @@
 //! From files that a crash may have left to files at rest: first all is read and all memory taken, and then changes are made.
-ghost use Rattle.std.specs.Prelude.{◌≡◌, ◌≢◌, ◌↔◌, ◌+◌, ◌≤◌, ◌⊎◌, ℕ, List, length, if◌then◌else◌, IsTrue, Some, None, IfOk, IfErr, IfSome, IsErrOf, OnOk};
+ghost use Rattle.std.specs.Prelude.{◌≡◌, ◌≢◌, ◌↔◌, ◌+◌, ◌≤◌, length, if◌then◌else◌, IsTrue, None, IfOk, IfErr, IfSome, IsErrOf, OnOk};
 ghost use Rattle.std.specs.Option.{option_map};
 ghost use Rattle.ubik_types.specs.declared.versions.Version.{Version};
-ghost use Rattle.ubik_types.specs.Version.{IsVersion};
 ghost use Rattle.disk_base.specs.Crash.{LeavesOnly, IsSettled, RisesAtMost};
 ghost use Rattle.disk_base.specs.Runs.{OnlyReads, OnlyReserves, ChangesAtMost};
 ghost use Rattle.disk_base.specs.Stops.{IsStopped};
 ghost use Rattle.incoming_file.specs.Incoming.{IsIgnored};
 ghost use Rattle.incoming_file.specs.Reading.{FindsOpen};
-ghost use Rattle.page_file.specs.Pages.{AgreesIn};
 ghost use Rattle.ubik_log.specs.LogFile.{HasDiscarded};
 ghost use Rattle.ubik_log.specs.LogGrammar.{IsTold, IsCommitted, IsDiscarded};
-ghost use Rattle.ubik_store.specs.Files.{StandsFor};
 ghost use Rattle.ubik_store.specs.Moments.{without_log};
-ghost use Rattle.ubik_store.specs.Opening.{EndsLogIn, OpensIn, RefusesFiles, IsOpening, IsOpeningIn};
+ghost use Rattle.ubik_store.specs.Opening.{EndsLogIn, RefusesFiles, IsOpening, IsOpeningIn, TreatsLog, OpensFiles};
 ghost use Rattle.ubik_store.specs.Plans.{IsBegun, Plans, PlansLog, PlansTreat};
-ghost use Rattle.ubik_store.specs.Rest.{EndedAs, RestsAs};
 
 use crate::commits::reach;
 use crate::faults::StoreFault;
@@ -27,7 +23,7 @@ use incoming_file::{Found, clear_incoming, read_incoming, reserve_incoming};
 use page_file::{LABEL_LEN, Pages};
 use std::alloc::Global;
 use ubik_log::{LogState, read_log};
-use ubik_types::{Bytes, Changes, MAX_IMAGE, NoMemory, Version, WORD_LEN};
+use ubik_types::{Bytes, Changes, NoMemory, Version, WORD_LEN};
 
 /// The first record of a log.
 const FIRST_RECORD: [u8; WORD_LEN] = [0, 0, 0, 100];
@@ -218,15 +214,7 @@ fn treat_log<D: Disk>(disk: &mut D, plan: LogPlan) -> Result<Pages, StoreFault>
     requires ignored { IfSome (D.files disk.old) (λ fs. IsIgnored fs.incoming) }
     requires settled { IsSettled (D.files disk.old) (D.may_leave disk.old) }
     requires runs { ¬ IsStopped (D.stop disk.old) }
-    ensures stands { IfOk result (λ pages. IfSome (D.files disk.old) (λ fs. (version : Version) × (image : List ℕ) × StandsFor fs version image
-        × EndedAs version image fs.incoming (D.files disk.new) × (pages.version ≡ Some version) × (pages.len ≡ length image))) }
-    ensures numbers { IfOk result (λ pages. (version : Version) × (pages.version ≡ Some version) × IsVersion version) }
-    ensures len { IfOk result (λ pages. pages.len ≤ MAX_IMAGE) }
-    ensures agrees { IfOk result (λ pages. AgreesIn pages (D.files disk.new)) }
-    ensures settled { OnOk result (IsSettled (D.files disk.new) (D.may_leave disk.new)) }
-    ensures steps { OnOk result (IfSome (D.files disk.old) (λ fs. (calls : ℕ) → EndsLogIn fs calls
-        → D.steps disk.new ≡ D.steps disk.old + calls)) }
-    ensures untold { OnOk result (D.files disk.old ≡ None → D.files disk.new ≡ None) }
+    ensures opened { IfOk result (TreatsLog D.Disk disk.old disk.new) }
     ensures fault { IfErr result (λ fault. fault ≡ StoreFault.DiskFault) }
     ensures opening { IsOpeningIn EndsLogIn D.Disk disk.old disk.new (IsErrOf result StoreFault.DiskFault) }
 {
@@ -251,15 +239,7 @@ fn treat<D: Disk>(disk: &mut D, log: LogPlan, len: u64, gated: bool) -> Result<P
     requires plans { PlansTreat D.Disk disk.old log len gated }
     requires settled { IsSettled (D.files disk.old) (D.may_leave disk.old) }
     requires runs { ¬ IsStopped (D.stop disk.old) }
-    ensures stands { IfOk result (λ pages. IfSome (D.files disk.old) (λ fs. (version : Version) × (image : List ℕ)
-        × StandsFor fs version image × RestsAs version image (D.files disk.new) × (pages.version ≡ Some version) × (pages.len ≡ length image))) }
-    ensures numbers { IfOk result (λ pages. (version : Version) × (pages.version ≡ Some version) × IsVersion version) }
-    ensures len { IfOk result (λ pages. pages.len ≤ MAX_IMAGE) }
-    ensures agrees { IfOk result (λ pages. AgreesIn pages (D.files disk.new)) }
-    ensures settled { OnOk result (IsSettled (D.files disk.new) (D.may_leave disk.new)) }
-    ensures steps { OnOk result (IfSome (D.files disk.old) (λ fs. (calls : ℕ) → OpensIn fs calls
-        → D.steps disk.new ≡ D.steps disk.old + calls)) }
-    ensures untold { OnOk result (D.files disk.old ≡ None → D.files disk.new ≡ None) }
+    ensures opened { IfOk result (OpensFiles D.Disk disk.old disk.new) }
     ensures fault { IfErr result (λ fault. fault ≡ StoreFault.DiskFault) }
     ensures opening { IsOpening D.Disk disk.old disk.new (IsErrOf result StoreFault.DiskFault) }
 {
@@ -275,15 +255,7 @@ fn carry_out<D: Disk>(disk: &mut D, plan: Plan) -> Result<Pages, StoreFault>
     requires plans { Plans D.Disk disk.old plan }
     requires settled { IsSettled (D.files disk.old) (D.may_leave disk.old) }
     requires runs { ¬ IsStopped (D.stop disk.old) }
-    ensures stands { IfOk result (λ pages. IfSome (D.files disk.old) (λ fs. (version : Version) × (image : List ℕ)
-        × StandsFor fs version image × RestsAs version image (D.files disk.new) × (pages.version ≡ Some version) × (pages.len ≡ length image))) }
-    ensures numbers { IfOk result (λ pages. (version : Version) × (pages.version ≡ Some version) × IsVersion version) }
-    ensures len { IfOk result (λ pages. pages.len ≤ MAX_IMAGE) }
-    ensures agrees { IfOk result (λ pages. AgreesIn pages (D.files disk.new)) }
-    ensures settled { OnOk result (IsSettled (D.files disk.new) (D.may_leave disk.new)) }
-    ensures steps { OnOk result (IfSome (D.files disk.old) (λ fs. (calls : ℕ) → OpensIn fs calls
-        → D.steps disk.new ≡ D.steps disk.old + calls)) }
-    ensures untold { OnOk result (D.files disk.old ≡ None → D.files disk.new ≡ None) }
+    ensures opened { IfOk result (OpensFiles D.Disk disk.old disk.new) }
     ensures fault { IfErr result (λ fault. fault ≡ StoreFault.DiskFault) }
     ensures opening { IsOpening D.Disk disk.old disk.new (IsErrOf result StoreFault.DiskFault) }
 {
@@ -306,15 +278,7 @@ fn carry_out<D: Disk>(disk: &mut D, plan: Plan) -> Result<Pages, StoreFault>
 /// does it for want of memory.
 pub(crate) fn open_files<D: Disk>(alloc: Global, disk: &mut D) -> Result<Pages, StoreFault>
     requires settled { IsSettled (D.files disk.old) (D.may_leave disk.old) }
-    ensures stands { IfOk result (λ pages. IfSome (D.files disk.old) (λ fs. (version : Version) × (image : List ℕ)
-        × StandsFor fs version image × RestsAs version image (D.files disk.new) × (pages.version ≡ Some version) × (pages.len ≡ length image))) }
-    ensures numbers { IfOk result (λ pages. (version : Version) × (pages.version ≡ Some version) × IsVersion version) }
-    ensures len { IfOk result (λ pages. pages.len ≤ MAX_IMAGE) }
-    ensures agrees { IfOk result (λ pages. AgreesIn pages (D.files disk.new)) }
-    ensures settled { OnOk result (IsSettled (D.files disk.new) (D.may_leave disk.new)) }
-    ensures steps { OnOk result (IfSome (D.files disk.old) (λ fs. (calls : ℕ) → OpensIn fs calls
-        → D.steps disk.new ≡ D.steps disk.old + calls)) }
-    ensures untold { OnOk result (D.files disk.old ≡ None → D.files disk.new ≡ None) }
+    ensures opened { IfOk result (OpensFiles D.Disk disk.old disk.new) }
     ensures refused { IfErr result (λ fault. IfSome (D.files disk.old) (λ fs. RefusesFiles fs fault)) }
     ensures unchanged { IfErr result (λ fault. fault ≢ StoreFault.DiskFault → OnlyReads D.Disk disk.old disk.new ⊥) }
     ensures opening { IsOpening D.Disk disk.old disk.new (IsErrOf result StoreFault.DiskFault) }

@@ -1,56 +1,50 @@
-use Rattle.std.proofs.Common.{drop, arith}
-use Rattle.ubik_store.specs.Files.{StandsFor}
-use Rattle.ubik_store.specs.Gaps.{IsPlain}
+use Rattle.std.proofs.Common.{rules, arith}
 use Rattle.ubik_store.specs.Moments.{without_log}
-use Rattle.ubik_store.proofs.Applied.{calls_of, calls_joined, calls_as}
+use Rattle.ubik_store.proofs.Applied.{calls_of, calls_as}
 use Rattle.ubik_store.proofs.Emptying.{settled_empty}
-use Rattle.ubik_store.proofs.Taking.{takes_stands, takes_plain, takes_emptied, runs_after}
+use Rattle.ubik_store.proofs.Taking.{stands_throughout, takes_emptied, place_after, throughout_after}
+use Rattle.ubik_store.proofs.Telling.{ok_map}
+use Rattle.ubik_store.proofs.Treating.{take_not_long}
 use Rattle.ubik_store.proofs.installs.take_over.Goals as goal
+
+pub take_incoming-requires-clause-plan : goal.take_incoming-requires-clause-plan
+take_incoming-requires-clause-plan g c = record {
+  is_text = c.requires.plan.is_text;
+  is_open = search rules;
+  agrees = search rules;
+  len = c.requires.plan.len;
+  fits = search rules;
+  gate_fits = search rules;
+}
 
 pub take_incoming-requires-clause-settled : goal.take_incoming-requires-clause-settled
 take_incoming-requires-clause-settled g c =
     settled_empty _ _ (g.D.Disk.may_leave c.args.disk.now) (g.D.Disk.may_leave c.empty_log_file.new.disk) c.requires.settled
     c.in-Done.ensures.files c.in-Done.ensures.changes.others c.in-Done.ensures.durable
 
-pub returns-in-Done-clause-moments : goal.returns-in-Done-clause-moments
-returns-in-Done-clause-moments g c =
+pub returns-in-Done-clause-done : goal.returns-in-Done-clause-done
+returns-in-Done-clause-done g c = ok_map c.take_incoming.result _ _ c.take_incoming.ensures.done
+    (place_after g.D.Disk without_log c.args.disk.now c.empty_log_file.new.disk c.take_incoming.new.disk c.in-Done.ensures.files 2
+    c.in-Done.ensures.steps)
+
+pub returns-in-Done-clause-stands : goal.returns-in-Done-clause-stands
+returns-in-Done-clause-stands g c =
     let text = c.args.text.now in
     let old = c.args.disk.now in
     let mid = c.empty_log_file.new.disk in
-    let is = c.requires in
-    let run = takes_emptied text c.args.v is.is_text g.D.Disk old is.is_open is.settled is.not_long mid c.empty_log_file.ensures.moments in
-    runs_after g.D.Disk without_log old mid c.take_incoming.new.disk c.in-Done.ensures.files (λ x. StandsFor x c.args.v (drop 64 text))
-    (takes_stands text c.args.v is.is_text g.D.Disk old mid run) c.take_incoming.ensures.moments
+    let plan = c.requires.plan in
+    let run = takes_emptied text c.args.v plan.is_text g.D.Disk old plan.is_open c.requires.settled
+    (take_not_long g.D.Disk old c.args.pages.now text c.args.v plan) mid c.empty_log_file.ensures.moments in
+    throughout_after g.D.Disk without_log old mid c.take_incoming.new.disk c.in-Done.ensures.files (λ failed. absurd cc)
+    (stands_throughout text c.args.v plan.is_text g.D.Disk old run (calls_of c.in-Done.ensures.changes)) c.take_incoming.ensures.stands
 
-pub returns-in-Done-clause-plain : goal.returns-in-Done-clause-plain
-returns-in-Done-clause-plain g c = λ newer.
+pub returns-in-Failed-clause-stands : goal.returns-in-Failed-clause-stands
+returns-in-Failed-clause-stands g c =
     let text = c.args.text.now in
     let old = c.args.disk.now in
     let mid = c.empty_log_file.new.disk in
-    let is = c.requires in
-    let run = takes_emptied text c.args.v is.is_text g.D.Disk old is.is_open is.settled is.not_long mid c.empty_log_file.ensures.moments in
-    runs_after g.D.Disk without_log old mid c.take_incoming.new.disk c.in-Done.ensures.files IsPlain
-    (takes_plain text c.args.v is.is_text g.D.Disk old mid newer run) (c.take_incoming.ensures.plain newer)
-
-pub returns-in-Done-clause-calls : goal.returns-in-Done-clause-calls
-returns-in-Done-clause-calls g c =
-    calls_as (omega arith) (λ failed. failed) (λ failed. failed)
-    (calls_joined (calls_of c.in-Done.ensures.changes) (λ failed. absurd cc) c.take_incoming.ensures.calls)
-
-pub returns-in-Failed-clause-moments : goal.returns-in-Failed-clause-moments
-returns-in-Failed-clause-moments g c =
-    let text = c.args.text.now in
-    let old = c.args.disk.now in
-    let mid = c.empty_log_file.new.disk in
-    let is = c.requires in
-    takes_stands text c.args.v is.is_text g.D.Disk old mid
-    (takes_emptied text c.args.v is.is_text g.D.Disk old is.is_open is.settled is.not_long mid c.empty_log_file.ensures.moments)
-
-pub returns-in-Failed-clause-plain : goal.returns-in-Failed-clause-plain
-returns-in-Failed-clause-plain g c = λ newer.
-    let text = c.args.text.now in
-    let old = c.args.disk.now in
-    let mid = c.empty_log_file.new.disk in
-    let is = c.requires in
-    takes_plain text c.args.v is.is_text g.D.Disk old mid newer
-    (takes_emptied text c.args.v is.is_text g.D.Disk old is.is_open is.settled is.not_long mid c.empty_log_file.ensures.moments)
+    let plan = c.requires.plan in
+    let run = takes_emptied text c.args.v plan.is_text g.D.Disk old plan.is_open c.requires.settled
+    (take_not_long g.D.Disk old c.args.pages.now text c.args.v plan) mid c.empty_log_file.ensures.moments in
+    stands_throughout text c.args.v plan.is_text g.D.Disk old run
+    (calls_as (omega arith) (search rules) (search rules) (calls_of c.in-Failed.ensures.changes))

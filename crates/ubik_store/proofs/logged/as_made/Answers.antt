@@ -16,7 +16,8 @@ nothing_left (x ∷ xs) none = absurd (omega arith)
 pub push_made-requires : goal.push_made-requires
 push_made-requires c = record {
   ends = within_ends c.in-Some.change
-      (All-head IsWithinImage c.in-Some.change (into_iter_items c.next.new.self) (subst (All IsWithinImage) c.in-Some.ensures.steps.0 c.loop-change.invariant.within));
+      (All-head IsWithinImage c.in-Some.change (into_iter_items c.next.new.self)
+      (subst (All IsWithinImage) c.in-Some.ensures.steps.0 c.loop-change.invariant.within));
 }
 
 pub loop-change-preserved : goal.loop-change-preserved
@@ -31,7 +32,8 @@ loop-change-preserved c =
           ap (λ (xs : List Change). xs ++ logged c.in_ok-len.len rest) pushed.made
           ∙ ap (λ (n : ℕ). (c.loop-change.made ++ logged c.loop-change.len (change ∷ [])) ++ logged n rest) pushed.len
           ∙ append_assoc c.loop-change.made (logged c.loop-change.len (change ∷ [])) (logged (changed_len c.loop-change.len change) rest)
-          ∙ ap (λ (xs : List Change). c.loop-change.made ++ xs) (sym (logged_more change c.loop-change.len rest) ∙ ap (logged c.loop-change.len) (sym steps))
+          ∙ ap (λ (xs : List Change). c.loop-change.made ++ xs)
+          (sym (logged_more change c.loop-change.len rest) ∙ ap (logged c.loop-change.len) (sym steps))
           ∙ i.made;
       within = All-tail IsWithinImage change rest (subst (All IsWithinImage) steps i.within);
       count = let was = i.count in let gone = c.in-Some.ensures.steps.1 in let short = ap length steps in omega arith;

@@ -15,4 +15,6 @@ returns-in_err-pages-clause-refused g c =
     let is : IfErr r (λ e. e ≡ of_page fault) = search rules in
     if_err r (of_page fault) (λ e. IfSome (g.D.Disk.files c.args.disk.now) (λ fs. RefusesFiles fs e)) is
     (told _ (λ fs. RefusesFiles fs (of_page fault)) (λ fs here.
-    refused_open fs fault (of_told _ fs (λ fs. IsIgnored fs.incoming) here c.requires.ignored) (of_told _ fs (λ fs. IsDiscarded fs.log) here c.requires.discarded) (of_told _ fs (λ fs. Refuses IsUnlabelled fs.database fault) here c.in_err-pages.ensures.refused)))
+    refused_open fs fault (of_told _ fs (λ fs. IsIgnored fs.incoming) here c.requires.ignored)
+    (of_told _ fs (λ fs. IsDiscarded fs.log) here c.requires.discarded)
+    (of_told _ fs (λ fs. Refuses IsUnlabelled fs.database fault) here c.in_err-pages.ensures.refused)))

@@ -10,7 +10,9 @@ use Rattle.ubik_store.proofs.Telling.{told, of_told, if_err}
 use Rattle.ubik_store.proofs.opening.plan_redo.Goals as goal
 
 pub reach-requires : goal.reach-requires
-reach-requires g c = subst (All IsWithinImage) (sym (c.as_slice.ensures ∙ c.in_ok-changes.ensures)) (logged_is_within c.args.told c.len.result (omega (arith, c.len.ensures, c.in_ok-pages.ensures.len)) c.requires.told.within_image)
+reach-requires g c =
+    subst (All IsWithinImage) (sym (c.as_slice.ensures ∙ c.in_ok-changes.ensures))
+    (logged_is_within c.args.told c.len.result (omega (arith, c.len.ensures, c.in_ok-pages.ensures.len)) c.requires.told.within_image)
 
 pub returns-in_err-pages-clause-refused : goal.returns-in_err-pages-clause-refused
 returns-in_err-pages-clause-refused g c =

@@ -16,7 +16,8 @@ returns-in-Put-clause-redo g c = λ kept told covered.
     let bytes = c.as_slice.result.now in
     let is : c.args.change.now ≡ Put c.in-Put.at bytes = cc in
     step_leaves g.D.Disk (MayRedo kept told) (InFile Database (Torn (64 + c.in-Put.at) (length bytes))) write.change write.crash
-    (λ d files step. redo_written kept told c.in-Put.at bytes d files (subst (IsCovered told (image_of kept.database)) is covered) (subst IsWithinImage is c.requires.within) step)
+    (λ d files step. redo_written kept told c.in-Put.at bytes d files (subst (IsCovered told (image_of kept.database)) is covered)
+    (subst IsWithinImage is c.requires.within) step)
 
 pub returns-in-Cut-clause-redo : goal.returns-in-Cut-clause-redo
 returns-in-Cut-clause-redo g c = λ kept told covered.

@@ -18,11 +18,13 @@ invariant-loop-change g l =
       agrees : AgreesIn l.pages (g.D.Disk.files l.disk);
       headed : IfSome (g.D.Disk.files l.disk) (λ fs. 64 ≤ length fs.database);
       seamless : IsSeamless l.pages.len rest;
-      files : option_map (with_database (applied rest)) (g.D.Disk.files l.disk) ≡ option_map (with_database (applied l.changes)) (g.D.Disk.files l.initial.disk);
+      files : option_map (with_database (applied rest)) (g.D.Disk.files l.disk) ≡ option_map (with_database (applied l.changes))
+          (g.D.Disk.files l.initial.disk);
       len : len_after l.pages.len rest ≡ len_after l.initial.pages.len l.changes;
       version : l.pages.version ≡ l.initial.pages.version;
       steps : g.D.Disk.steps l.disk ≡ g.D.Disk.steps l.initial.disk + l.change-index;
-      redo : (kept : Files) (told : List Change) → All (IsCovered told (image_of kept.database)) l.changes → Narrows (MayRedo kept told) (g.D.Disk.may_leave l.initial.disk)
+      redo : (kept : Files) (told : List Change) → All (IsCovered told (image_of kept.database)) l.changes
+          → Narrows (MayRedo kept told) (g.D.Disk.may_leave l.initial.disk)
           → LeavesOnly g.D.Disk.steps g.D.Disk.left_since l.initial.disk l.disk (MayRedo kept told);
       changes : ChangesAtMost g.D.Disk Database l.change-index l.initial.disk l.disk ⊥;
     }

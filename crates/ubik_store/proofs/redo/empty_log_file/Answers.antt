@@ -15,9 +15,11 @@ returns-in-Done-clause-moments g c =
     let short = c.cut.ensures.crash in
     let P = After (InFile Log (CutShort 0)) (disk.may_leave old) in
     joined disk.steps disk.left_since old mid new P
-    (called disk.steps disk.left_since old mid P (disk.may_leave old) (disk.may_leave mid) c.cut.ensures.steps c.cut.ensures.time (disk.only_now old)
+    (called disk.steps disk.left_since old mid P (disk.may_leave old) (disk.may_leave mid) c.cut.ensures.steps c.cut.ensures.time
+    (disk.only_now old)
     (λ fs left. (fs, left, (refl, inl refl))) short)
-    (called disk.steps disk.left_since mid new P (disk.may_leave mid) (disk.may_leave new) c.sync.ensures.steps c.sync.ensures.time (disk.only_now mid)
+    (called disk.steps disk.left_since mid new P (disk.may_leave mid) (disk.may_leave new) c.sync.ensures.steps c.sync.ensures.time
+    (disk.only_now mid)
     short (λ files left. short files (c.sync.ensures.crash files left)))
 
 pub returns-in-Failed-clause-moments : goal.returns-in-Failed-clause-moments
@@ -25,7 +27,8 @@ returns-in-Failed-clause-moments g c =
     let disk = g.D.Disk in
     let old = c.args.disk.now in
     let new = c.cut.new.self in
-    called disk.steps disk.left_since old new (After (InFile Log (CutShort 0)) (disk.may_leave old)) (disk.may_leave old) (disk.may_leave new) c.cut.ensures.steps c.cut.ensures.time (disk.only_now old)
+    called disk.steps disk.left_since old new (After (InFile Log (CutShort 0)) (disk.may_leave old)) (disk.may_leave old)
+    (disk.may_leave new) c.cut.ensures.steps c.cut.ensures.time (disk.only_now old)
     (λ fs left. (fs, left, (refl, inl refl))) c.cut.ensures.crash
 
 pub returns-in-Done-clause-changes : goal.returns-in-Done-clause-changes

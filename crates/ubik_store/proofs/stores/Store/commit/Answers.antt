@@ -20,13 +20,20 @@ returns-in-Some-clause-sound g c =
     let made = c.commit_changes-ended in
     let is : EndsFiles g.D.Disk (Changed c.changes.result.now) c.args.v s made.new.disk made.new.pages made.result =
     record { done = made.ensures.done; durable = made.ensures.durable; fault = made.ensures.fault; unchanged = made.ensures.unchanged } in
-    sound_taken g.D.Disk (Changed c.changes.result.now) c.args.v s made.new.disk made.new.pages made.result c.end.new.self c.end.ensures.store
-    c.requires.sound c.in_ok-allow.ensures.ok.0 c.requires.version (begun_fits s.begun s.len c.changes.result.now c.requires.sound.begun (ap changes_begun c.in-Some.is ∙ ap (λ (cs : List Change). Some cs) (sym c.changes.ensures))) is
+    sound_taken g.D.Disk
+    (Changed c.changes.result.now) c.args.v s made.new.disk made.new.pages made.result c.end.new.self c.end.ensures.store
+    c.requires.sound c.in_ok-allow.ensures.ok.0 c.requires.version
+    (begun_fits s.begun s.len c.changes.result.now c.requires.sound.begun
+    (ap changes_begun c.in-Some.is ∙ ap (λ (cs : List Change). Some cs) (sym c.changes.ensures))) is
 
 pub returns-in-Some-clause-durable : goal.returns-in-Some-clause-durable
 returns-in-Some-clause-durable g c = λ went.
     let made = c.commit_changes-ended in
-    let P : Option (List Change) → Type 0 = λ o. IfSome o (λ changes. IsDurable g.D.Disk changes c.args.v c.args.self.now c.end.new.self (IsErrOf c.end.result DiskFault)) in
+    let P : Option (List Change)
+    → Type 0 = λ o. IfSome o
+    (λ changes. IsDurable g.D.Disk changes c.args.v c.args.self.now c.end.new.self (IsErrOf c.end.result DiskFault)) in
     subst P (sym (ap changes_begun c.in-Some.is ∙ ap (λ (cs : List Change). Some cs) (sym c.changes.ensures)))
-    (durable_taken g.D.Disk (Changed c.changes.result.now) c.args.v c.args.self.now made.new.disk made.new.pages made.result c.end.result c.end.new.self c.end.ensures.store c.end.ensures.same
+    (durable_taken g.D.Disk
+    (Changed c.changes.result.now) c.args.v c.args.self.now made.new.disk made.new.pages made.result c.end.result c.end.new.self
+    c.end.ensures.store c.end.ensures.same
     c.requires.sound went c.in_ok-allow.ensures.ok.1 made.ensures.durable)

@@ -26,5 +26,7 @@ returns-clause-sound g c =
 pub returns-clause-durable : goal.returns-clause-durable
 returns-clause-durable g c = λ went.
     let made = c.install_files-ended in
-    durable_taken g.D.Disk (Replaced c.args.image.now) c.args.v c.args.self.now made.new.disk made.new.pages made.result c.end.result c.end.new.self c.end.ensures.store c.end.ensures.same
+    durable_taken g.D.Disk
+    (Replaced c.args.image.now) c.args.v c.args.self.now made.new.disk made.new.pages made.result c.end.result c.end.new.self
+    c.end.ensures.store c.end.ensures.same
     c.requires.sound went c.in_ok-allow.ensures.ok.1 made.ensures.durable

@@ -4,7 +4,8 @@ use Rattle.ubik_store.proofs.Ended.{EndsFiles, sound_taken, durable_itself, dura
 use Rattle.ubik_store.proofs.stores.Store.relabel.Goals as goal
 
 pub returns-in_err-allow-clause-durable : goal.returns-in_err-allow-clause-durable
-returns-in_err-allow-clause-durable g c = λ went. durable_itself g.D.Disk (Changed []) c.args.v c.args.self.now _ (c.requires.sound.ready went)
+returns-in_err-allow-clause-durable g c =
+    λ went. durable_itself g.D.Disk (Changed []) c.args.v c.args.self.now _ (c.requires.sound.ready went)
     (λ failed. not_forbidden c.args.self.now c.args.v c.in_err-allow.field-0.0 went c.in_err-allow.ensures.fault (search rules))
 
 pub returns-clause-sound : goal.returns-clause-sound
@@ -19,5 +20,7 @@ returns-clause-sound g c =
 pub returns-clause-durable : goal.returns-clause-durable
 returns-clause-durable g c = λ went.
     let made = c.relabel_files-ended in
-    durable_taken g.D.Disk (Changed []) c.args.v c.args.self.now made.new.disk made.new.pages made.result c.end.result c.end.new.self c.end.ensures.store c.end.ensures.same
+    durable_taken g.D.Disk
+    (Changed []) c.args.v c.args.self.now made.new.disk made.new.pages made.result c.end.result c.end.new.self c.end.ensures.store
+    c.end.ensures.same
     c.requires.sound went c.in_ok-allow.ensures.ok.1 made.ensures.durable
