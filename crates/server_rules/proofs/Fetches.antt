@@ -1,20 +1,17 @@
 -- A fetch: what its last piece leads to; and relabelling, whatever recovery the server has.
 use Rattle.std.proofs.Common.{◌≡◌, ◌∙◌, ◌+◌, ◌<◌, ◌≤◌, ⊎_elim, ℕ, Bool, true, false, cond, Option, Some, None, List, [], ◌∷◌, length, take, refl, sym, ap, arith}
 use Rattle.std.specs.Prelude.{◌==◌, ◌&&◌, nat_lt}
+use Rattle.std.proofs.lemmas.Bool.{and_parts}
 use Rattle.std.proofs.lemmas.Bool.Decides.{nat_tests}
 use Rattle.std.proofs.lemmas.List.{length-append, length-take-le}
 use Rattle.ubik_types.specs.declared.phases.Phase.{Phase}
 use Rattle.ubik_types.specs.declared.phases.Phase.TheVariants as phase
 use Rattle.ubik_types.specs.declared.versions.Version.{Version}
-use Rattle.ubik_types.specs.Phase.{Polled, PhaseRecord, Relabel, Send, Spread}
+use Rattle.ubik_types.specs.Phase.{Polled, PhaseRecord}
 use Rattle.ubik_types.specs.Version.{version_eq, version_lt}
-use Rattle.cell_model.specs.Durable.{Received}
-use Rattle.cell_model.specs.Durable as durable
 use Rattle.cell_model.specs.Node.{Server, ReceivedText}
-use Rattle.cell_model.specs.Polls.{entry_at, only_holder}
-use Rattle.cell_model.specs.Recovery.{bytes_received, fetch_went_on, first_of_epoch, installed, is_whole, own_relabelling, piece_fits, piece_received, relabelled, relabelled_to, spread_answer, text_with}
-use Rattle.cell_model.specs.Step.{Member, Stepped, followed, is_fetch, quiet, sends_to_each, with_database, with_phase}
-use Rattle.cell_model.specs.Writes.{settled}
+use Rattle.cell_model.specs.Recovery.{bytes_received, fetch_went_on, first_of_epoch, is_whole, piece_fits, piece_received, relabelled, text_with}
+use Rattle.cell_model.specs.Step.{Member, is_fetch}
 use Rattle.ubik_recovery.specs.Record as recovery
 use Rattle.ubik_recovery.specs.Record.{RecoveryRecord, adopted, best_of, host_of, in_phase, phase_record, polled_of, record_in, with_text}
 use Rattle.ubik_recovery.specs.Rules.{recovering}
@@ -27,59 +24,17 @@ neither : {A : Type 0} (b : Bool) → ◌≡◌ {A = Option A} (cond b None None
 neither true = refl
 neither false = refl
 
--- after another version is taken over nothing was received, whichever phase there was
-pub sends_as : (s : Server) (v : Version) (image : List ℕ) (poll : Polled) (spread : Spread)
-    → with_phase (with_database s v image) (Send poll spread) ≡ record s { version = v; image = image; phase = Send poll spread; kept = None; received = None }
-sends_as s v image poll spread =
-    ap (λ (text : Option ReceivedText). record s { version = v; image = image; phase = Send poll spread; kept = None; received = text }) (neither (is_fetch s.phase))
-
 -- the text where a phase ends
 abbrev pub emptied : PhaseRecord → Option ReceivedText → Option ReceivedText
 emptied p text = cond (is_fetch p) None text
 
-none_left : (p : PhaseRecord) → emptied p None ≡ None
-none_left p = by (is_fetch p)
-  where
-    by : (b : Bool) → ◌≡◌ {A = Option ReceivedText} (cond b None None) None
-    by true = refl
-    by false = refl
-
 pub fetch_empties : (v : Version) (r : RecoveryRecord) (text : Option ReceivedText) → r.phase ≡ phase.Fetch → emptied (phase_record v r) text ≡ None
 fetch_empties v r text is = ap (λ (p : Phase). emptied (record_in p v r) text) is
-
-abbrev spread_from : Member → Polled → (old new : Version) → Server → Stepped
-spread_from m poll old new after =
-    record { server = after; calls = own_relabelling new ∷ []; shown = sends_to_each m (λ k. spread_answer after poll old (entry_at poll.answers k)) }
 
 -- A relabelling looks at neither phase nor text, but where a fetch ends in it.
 pub relabelled_any : (m : Member) (s : Server) (poll : Polled) (now : ℕ) (p q : PhaseRecord) (a b : Option ReceivedText) → emptied p a ≡ emptied q b
     → relabelled m (record s { phase = p; received = a }) poll now ≡ relabelled m (record s { phase = q; received = b }) poll now
-relabelled_any m s poll now p q a b same = by (nat_lt s.version.epoch now)
-  where
-    sent : with_phase (with_database (record s { phase = p; received = a }) (first_of_epoch now) s.image) (Send poll (record { old = s.version; holders = only_holder m }))
-        ≡ with_phase (with_database (record s { phase = q; received = b }) (first_of_epoch now) s.image) (Send poll (record { old = s.version; holders = only_holder m }))
-    sent =
-        sends_as (record s { phase = p; received = a }) (first_of_epoch now) s.image poll (record { old = s.version; holders = only_holder m })
-        ∙ sym (sends_as (record s { phase = q; received = b }) (first_of_epoch now) s.image poll (record { old = s.version; holders = only_holder m }))
-
-    by : (c : Bool) → cond c (followed (relabelled_to m (record s { phase = p; received = a }) poll (first_of_epoch now)) (settled m)) (quiet (with_phase (record s { phase = p; received = a }) (Relabel poll)))
-        ≡ cond c (followed (relabelled_to m (record s { phase = q; received = b }) poll (first_of_epoch now)) (settled m)) (quiet (with_phase (record s { phase = q; received = b }) (Relabel poll)))
-    by true = ap (λ (x : Server). followed (spread_from m poll s.version (first_of_epoch now) x) (settled m)) sent
-    by false = ap (λ (text : Option ReceivedText). quiet (record s { phase = Relabel poll; received = text })) same
-
-module _ (m : Member) (s : Server) (now : ℕ) (poll : Polled) (best : Version) (image : List ℕ) where
-  -- by whether the version is still above the own one
-  pub fetched_old : version_lt s.version best ≡ false → fetched m s now poll best image ≡ relabelled m s poll now
-  fetched_old older = rw older refl
-
-  pub fetched_new : version_lt s.version best ≡ true → fetched m s now poll best image ≡ followed (installed s best image) (λ after. relabelled m after poll now)
-  fetched_new newer = rw newer refl
-
-  -- and, once it is installed, by whether the moment is past its epoch
-  pub fetched_waits : version_lt s.version best ≡ true → nat_lt best.epoch now ≡ false
-      → fetched m s now poll best image
-      ≡ record { server = with_phase (with_database s best image) (Relabel poll); calls = record { call = durable.Install best image; reason = Received } ∷ []; shown = [] }
-  fetched_waits newer early = rw (newer, early) refl
+relabelled_any m s poll now p q a b same = rw (neither {A = ReceivedText} (is_fetch p), neither {A = ReceivedText} (is_fetch q), same) refl
 
 -- a fetched image that is not newer: the own one is relabelled
 pub fetched_relabels : (m : Member) (s : Server) (now me : ℕ) (image : List ℕ) (v : Version) (r : RecoveryRecord) → r.phase ≡ phase.Fetch → version_lt s.version (best_of r) ≡ false
@@ -87,22 +42,12 @@ pub fetched_relabels : (m : Member) (s : Server) (now me : ℕ) (image : List �
     ≡ relabelled m (recovering v (adopted (in_phase (with_text r None) phase.Relabel me) r) s) (polled_of (in_phase (with_text r None) phase.Relabel me)) now
 fetched_relabels m s now me image v r fetches older =
     let next = in_phase (with_text r None) phase.Relabel me in
-    fetched_old m (recovering v r s) now (polled_of r) (best_of r) image older
-    ∙ relabelled_any m s (polled_of r) now (phase_record v r) (phase_record v (adopted next r)) r.text (adopted next r).text
-    (fetch_empties v r r.text fetches ∙ sym (ap (λ (p : Phase). cond (recovery.is_fetch p) None r.text) fetches))
+    rw older (relabelled_any m s (polled_of r) now (phase_record v r) (phase_record v (adopted next r)) r.text (adopted next r).text
+    (fetch_empties v r r.text fetches ∙ sym (ap (λ (p : Phase). cond (recovery.is_fetch p) None r.text) fetches)))
 
 -- the recovery of a server that relabels after a fetch
 pub of_relabelling : (n me : ℕ) (r : RecoveryRecord) → IsOfCell n r → IsOfCell n (in_phase (with_text r None) phase.Relabel me)
-of_relabelling n me r of = record { servers = of.servers; answers = of.answers; old = of.old; text = λ t at. absurd (nothing (recovery.is_fetch r.phase) t at) }
-  where
-    nothing : (b : Bool) (t : ReceivedText) → ◌≡◌ {A = Option ReceivedText} (cond b None None) (Some t) → ⊥
-    nothing true t at = cc
-    nothing false t at = cc
-
--- an image that is installed, and then relabelled
-pub installed_comes : (m : Member) (s : Server) (best : Version) (image : List ℕ) (poll : Polled) (now : ℕ) → nat_lt best.epoch now ≡ true
-    → followed (installed s best image) (λ after. relabelled m after poll now) ≡ followed (installed s best image) (λ after. followed (relabelled_to m after poll (first_of_epoch now)) (settled m))
-installed_comes m s best image poll now late = rw late refl
+of_relabelling n me r of = record { servers = of.servers; answers = of.answers; old = of.old; text = λ t at. absurd (cc (neither {A = ReceivedText} (recovery.is_fetch r.phase), at)) }
 
 pub past_newer : (v : Version) (now : ℕ) → v.epoch < now → version_lt v (first_of_epoch now) ≡ true
 past_newer v now past = grind (arith, nat_tests)
@@ -164,12 +109,7 @@ same_version a b is =
     let counter : a.counter ≡ b.counter = grind (arith, nat_tests) in
     ◌∙◌ {b = record { epoch = b.epoch; counter = a.counter }} (ap (λ (e : ℕ). record { epoch = e; counter = a.counter }) epoch) (ap (λ (c : ℕ). record { epoch = b.epoch; counter = c }) counter)
 
-third_of : (a b c : Bool) → (a && b && c) ≡ true → c ≡ true
-third_of true true c is = is
-third_of true false c is = absurd cc
-third_of false b c is = absurd cc
-
 -- the version that was asked is the best one
 pub best_asked : (b : Bool) (k poll : ℕ) (version : Version) (r : RecoveryRecord) → b ≡ (k == host_of r && poll == r.poll && version_eq version (best_of r)) → b ≡ true → version ≡ best_of r
 best_asked b k poll version r is asked =
-    same_version version (best_of r) (third_of (k == host_of r) (poll == r.poll) (version_eq version (best_of r)) (sym is ∙ asked))
+    same_version version (best_of r) (and_parts (k == host_of r && poll == r.poll) _ (sym is ∙ asked)).1

@@ -63,11 +63,7 @@ poll_begins m s v r same now = by_phase r.phase
   where
     by_phase : (p : Phase) → polling m (recovering v (record r { phase = p }) s) now ≡ recovering v (poll_begun (record r { phase = p }) now m.me s.version) s
     by_phase phase.None = rw same
-    by_phase phase.Poll = rw same
-    by_phase phase.Fetch = rw same
-    by_phase phase.Relabel = rw same
-    by_phase phase.Send = rw same
-    by_phase phase.Ready = rw same
+    by_phase other = rw same
 
 -- a poll that begins
 pub begun_asked : (m : Member) (s : Server) (v : Version) (r : RecoveryRecord) (now : ℕ) → cell_size m ≡ r.servers

@@ -1,11 +1,10 @@
 -- Steps but for the bytes of images.
-use Rattle.std.proofs.Common.{◌≡◌, ◌≤◌, ◌<◌, ◌-◌, ◌+◌, ◌++◌, ◌==◌, ℕ, zero, suc, Bool, true, false, cond, ltb, Option, Some, None, List, [], ◌∷◌, length, map, min, take, drop, replicate, Result, Ok, Err, OnOk, IfErr, IfOk, IsErrOf, ⊎_elim, inl, inr, ◌≢◌, refl, sym, ap, subst, ◌∙◌, append_assoc, arith, length-take, length-drop}
-use Rattle.std.proofs.lemmas.Bool.{cond_both}
+use Rattle.std.proofs.Common.{◌≡◌, ◌≤◌, ◌<◌, ◌-◌, ◌+◌, ◌++◌, ◌==◌, ℕ, Bool, true, false, cond, ltb, Option, Some, None, List, [], ◌∷◌, length, map, min, drop, replicate, Result, Ok, Err, OnOk, IfErr, IfOk, IsErrOf, ⊎_elim, inl, inr, ◌≢◌, refl, sym, ap, ◌∙◌, append_assoc, arith, length-take, length-drop}
 use Rattle.std.proofs.lemmas.Bool.Decides.{nat_tests}
 use Rattle.std.proofs.lemmas.List.{append-nil, map-append}
 use Rattle.ubik_types.specs.declared.hosts.Host.{Host}
 use Rattle.ubik_types.specs.declared.versions.Version.{Version}
-use Rattle.ubik_types.specs.Phase.{Polled, Spread, PhaseRecord, NoPhase, Poll, Fetch, Relabel, Send, Ready}
+use Rattle.ubik_types.specs.Phase.{Polled, Spread, PhaseRecord, Send, Ready}
 use Rattle.ubik_types.specs.Quorum.{is_majority}
 use Rattle.ubik_types.specs.Version.{version_eq}
 use Rattle.ubik_calls.specs.declared.packets.Body.{Body}
@@ -35,7 +34,6 @@ use Rattle.ubik_node.specs.Node.{Closes, Ends, Held, IsMade}
 use Rattle.ubik_node.specs.Serving.{IsReadReply}
 use Rattle.ubik_node.specs.declared.evaluations.Evaluation as code
 use Rattle.ubik_node.specs.declared.nodes.StepEnd.{StepEnd}
-use Rattle.ubik_node.specs.declared.nodes.StepEnd.TheVariants.{Done, Halted, NoMemory}
 use Rattle.ubik_store.specs.declared.faults.StoreFault.{StoreFault}
 use Rattle.ubik_store.specs.declared.faults.StoreFault.TheVariants as fault
 use Rattle.server_rules.specs.declared.acts.Act.{Act}
@@ -45,7 +43,7 @@ use Rattle.server_rules.specs.Packets.{body_need}
 use Rattle.ubik_calls.specs.declared.replies.Reply.{Reply}
 use Rattle.cell_model.specs.declared.events.NodeEvent.{NodeEvent}
 use Rattle.cell_model.specs.Node as model
-use Rattle.cell_model.specs.NodeRule.{refusals, step_by}
+use Rattle.cell_model.specs.NodeRule.{step_by}
 use Rattle.ubik_node.proofs.Closing.{node_at}
 use Rattle.ubik_node.proofs.Endings.{disk_or, fault_is, ok_not}
 use Rattle.ubik_node.proofs.Evaluated.{told_itself}
@@ -105,33 +103,33 @@ pub blank_image : (s : Server) (a b : List ℕ) → length a ≡ length b → bl
 blank_image s a b same = ap (λ (xs : List ℕ). record (blank s) { image = xs }) (blanked_same a b same)
 
 -- what holders lead to is told of no byte of the image
+abbrev over_image : List ℕ → Stepped → Stepped
+over_image image t = record t { server = record t.server { image = image } }
+
+settled_over : (m : Member) (s : Server) (image : List ℕ) → settled m (record s { image = image }) ≡ over_image image (settled m s)
+settled_over m s image = by s.phase
+  where
+    both : (c : Bool) (t u : Stepped) → cond c (over_image image t) (over_image image u) ≡ over_image image (cond c t u)
+    both true t u = refl
+    both false t u = refl
+
+    over : (poll : Polled) (spread : Spread) (announced : Version) (o : Option Flight)
+        → flight_settled m (record s { image = image }) poll spread announced o
+        ≡ over_image image (flight_settled m s poll spread announced o)
+    over poll spread announced None = refl
+    over poll spread announced (Some f) = both (is_majority (cell_size m) spread.holders) (ended_write s f poll spread announced) (quiet s)
+
+    by : (p : PhaseRecord) → settled_in m (record s { image = image }) p ≡ over_image image (settled_in m s p)
+    by (Send poll spread) =
+        let ready : Stepped = showing (with_phase s (Ready poll spread s.version)) (announcing s.version ∷ []) in
+        both (is_majority (cell_size m) spread.holders) ready (quiet s)
+    by (Ready poll spread announced) = over poll spread announced s.flight
+    by other = refl
+
 pub settled_alike : (m : Member) (s : Server) (a b : List ℕ) → length a ≡ length b
     → (let t = settled m (record s { image = a }) in let u = settled m (record s { image = b }) in
     (blank t.server ≡ blank u.server) × (t.shown ≡ u.shown))
-settled_alike m s a b same = by s.phase
-  where
-    both : (c : Bool) (t u x y : Stepped) → (blank t.server ≡ blank u.server) × (t.shown ≡ u.shown) → (blank x.server ≡ blank y.server) × (x.shown ≡ y.shown)
-        → (blank (cond c t x).server ≡ blank (cond c u y).server) × ((cond c t x).shown ≡ (cond c u y).shown)
-    both true t u x y first second = first
-    both false t u x y first second = second
-
-    over : (poll : Polled) (spread : Spread) (announced : Version) (f : Option Flight)
-        → (let t = flight_settled m (record s { image = a }) poll spread announced f in let u = flight_settled m (record s { image = b }) poll spread announced f in
-        (blank t.server ≡ blank u.server) × (t.shown ≡ u.shown))
-    over poll spread announced None = (blank_image s a b same, refl)
-    over poll spread announced (Some f) =
-        both (is_majority (cell_size m) spread.holders) (ended_write (record s { image = a }) f poll spread announced) (ended_write (record s { image = b }) f poll spread announced)
-        (quiet (record s { image = a })) (quiet (record s { image = b })) (blank_image (ended_write s f poll spread announced).server a b same, refl) (blank_image s a b same, refl)
-
-    by : (p : PhaseRecord)
-        → (let t = settled_in m (record s { image = a }) p in let u = settled_in m (record s { image = b }) p in
-        (blank t.server ≡ blank u.server) × (t.shown ≡ u.shown))
-    by (Send poll spread) =
-        let ready : Server → Stepped = λ x. showing (with_phase x (Ready poll spread x.version)) (announcing x.version ∷ []) in
-        both (is_majority (cell_size m) spread.holders) (ready (record s { image = a })) (ready (record s { image = b }))
-        (quiet (record s { image = a })) (quiet (record s { image = b })) (blank_image (ready s).server a b same, refl) (blank_image s a b same, refl)
-    by (Ready poll spread announced) = over poll spread announced s.flight
-    by other = (blank_image s a b same, refl)
+settled_alike m s a b same = rw (settled_over m s a, settled_over m s b) (blank_image (settled m s).server a b same, refl)
 
 -- ---- pieces
 
@@ -156,9 +154,7 @@ sends_blank : (m : Member) (k : ℕ) (hosts : List Host) (a b : ℕ → List Bod
 sends_blank m k [] a b same = refl
 sends_blank m k (host ∷ hosts) a b same =
     let at : (ℕ → List Body) → List Shown = λ c. cond (k == m.me) [] (map (sending m host) (c k)) in
-    split (at a) (sends_from m (k + 1) hosts a)
-    ∙ ap (λ (o : List Output). o ++ blank_outputs (outputs_of (sends_from m (k + 1) hosts a))) (first (k == m.me))
-    ∙ ap (λ (o : List Output). blank_outputs (outputs_of (at b)) ++ o) (sends_blank m (k + 1) hosts a b same)
+    split (at a) (sends_from m (k + 1) hosts a) ∙ rw (first (k == m.me), sends_blank m (k + 1) hosts a b same) refl
     ∙ sym (split (at b) (sends_from m (k + 1) hosts b))
   where
     first : (c : Bool) → blank_outputs (outputs_of (cond c [] (map (sending m host) (a k)))) ≡ blank_outputs (outputs_of (cond c [] (map (sending m host) (b k))))
@@ -183,12 +179,10 @@ pub relabel_alike : (m : Member) (poll : Polled) (old : Version) (after : Server
 relabel_alike m poll old after number total piece first mid last rest inside same long starts given then =
     let own = piece_from after.image 0 in
     let gives : List ℕ → List Output = λ p. outputs_of (sends_to_each m (λ k. given_bodies (given_as number old after.version total p) (entry_at poll.answers k))) in
-    let all : List Output → List Output = λ o. blank_outputs first ++ (o ++ blank_outputs (outputs_of rest)) in
-    let parts : (o : List Output) → blank_outputs ((first ++ o) ++ outputs_of rest) ≡ all (blank_outputs o) = λ o.
-    ap blank_outputs (append_assoc first o (outputs_of rest)) ∙ map-append blank_output first (o ++ outputs_of rest)
-    ∙ ap (λ (x : List Output). blank_outputs first ++ x) (map-append blank_output o (outputs_of rest)) in
-    ap blank_outputs (then ∙ ap (λ (o : List Output). o ++ outputs_of rest) given)
-    ∙ parts (gives piece) ∙ ap all (by (ltb 1 (length m.hosts)) refl) ∙ sym (parts (gives own))
+    let alike : blank_outputs ((first ++ gives piece) ++ outputs_of rest) ≡ blank_outputs ((first ++ gives own) ++ outputs_of rest) =
+    simp map-append
+    (ap (λ (o : List Output). (blank_outputs first ++ o) ++ blank_outputs (outputs_of rest)) (by (ltb 1 (length m.hosts)) refl)) in
+    ap blank_outputs (then ∙ ap (λ (o : List Output). o ++ outputs_of rest) given) ∙ alike
     ∙ ap blank_outputs (relabel_outputs m poll old after number total own first (first ++ gives own) ((first ++ gives own) ++ outputs_of rest) rest inside same long (λ more. refl) refl refl)
   where
     by : (b : Bool) → ltb 1 (length m.hosts) ≡ b
@@ -199,9 +193,8 @@ relabel_alike m poll old after number total piece first mid last rest inside sam
         (λ k. given_bodies (given_as number old after.version total (piece_from after.image 0)) (entry_at poll.answers k))
         (λ k. given_blank number old after.version total piece (piece_from after.image 0) (starts (grind (arith, nat_tests))) (entry_at poll.answers k))
     by false few =
-        ap (λ (shown : List Shown). blank_outputs (outputs_of shown)) (
-        alone_sends m (λ k. given_bodies (given_as number old after.version total piece) (entry_at poll.answers k)) (grind (arith, nat_tests)) inside
-        ∙ sym (alone_sends m (λ k. given_bodies (given_as number old after.version total (piece_from after.image 0)) (entry_at poll.answers k)) (grind (arith, nat_tests)) inside))
+        let one : length m.hosts ≤ 1 = grind (arith, nat_tests) in
+        ap (λ (shown : List Shown). blank_outputs (outputs_of shown)) (alone_sends m _ one inside ∙ sym (alone_sends m _ one inside))
 
 -- ---- acts
 
@@ -209,9 +202,11 @@ relabel_alike m poll old after number total piece first mid last rest inside sam
 pub send_alike : (m : Member) (to : Host) (b c : Body) (before : List Output) → blank_body b ≡ blank_body c
     → blank_outputs (before ++ outputs_of (sends_to m to b)) ≡ blank_outputs (before ++ outputs_of (sends_to m to c))
 send_alike m to b c before same =
-    map-append blank_output before (outputs_of (sends_to m to b))
-    ∙ ap (λ (x : Body). blank_outputs before ++ output.Send (packet_to m to x) ∷ []) same
-    ∙ sym (map-append blank_output before (outputs_of (sends_to m to c)))
+    rw (
+      map-append blank_output before (outputs_of (sends_to m to b)),
+      map-append blank_output before (outputs_of (sends_to m to c)),
+      same,
+    ) refl
 
 pub piece_alike : (s : Server) (poll at : ℕ) (asked : Bool) (bytes : List ℕ) → length bytes ≡ length (piece_from s.image at)
     → blank_body (cond asked (body.Piece poll s.version (length s.image) at bytes) (body.SendPiece poll s.version (length s.image) at bytes)) ≡ blank_body (own_piece s poll at asked)
@@ -267,36 +262,13 @@ settles line later tells same needs = ⊎_elim (λ none. inl (same ∙ none)) (�
 pub holder_needs : (b : Body) (a : Act) (line later : List Waiting) (tells : Type 0) → act_need a ≤ body_need b → (2 < act_need a → later ≡ line) → NeedsHolder b line tells → ActNeedsTurn a later tells
 holder_needs (body.VersionIs poll version) act.Settle line later tells few same needs = settles line later tells (same (omega arith)) needs
 holder_needs (body.VersionKept version) act.Settle line later tells few same needs = settles line later tells (same (omega arith)) needs
-holder_needs (body.Beacon start claim ready version) act.Settle line later tells few same needs = absurd (omega (arith, few))
-holder_needs (body.Vote start granted) act.Settle line later tells few same needs = absurd (omega (arith, few))
-holder_needs (body.GetVersion poll) act.Settle line later tells few same needs = absurd (omega (arith, few))
-holder_needs (body.GetPiece poll version offset) act.Settle line later tells few same needs = absurd (omega (arith, few))
-holder_needs (body.Piece poll version total offset bytes) act.Settle line later tells few same needs = absurd (omega (arith, few))
-holder_needs (body.SendPiece poll version total offset bytes) act.Settle line later tells few same needs = absurd (omega (arith, few))
-holder_needs (body.PieceKept poll version next) act.Settle line later tells few same needs = absurd (omega (arith, few))
-holder_needs (body.SetVersion poll old new) act.Settle line later tells few same needs = absurd (omega (arith, few))
-holder_needs (body.Begin old new pieces len) act.Settle line later tells few same needs = absurd (omega (arith, few))
-holder_needs (body.PutPiece new number bytes) act.Settle line later tells few same needs = absurd (omega (arith, few))
-holder_needs (body.Commit old new) act.Settle line later tells few same needs = absurd (omega (arith, few))
-holder_needs (body.Abort new) act.Settle line later tells few same needs = absurd (omega (arith, few))
-holder_needs b act.Rest line later tells few same needs = tt
-holder_needs b (act.Send to x) line later tells few same needs = tt
-holder_needs b (act.SendPiece to poll at asked) line later tells few same needs = tt
-holder_needs b (act.TakeVersion to new) line later tells few same needs = tt
-holder_needs b (act.TakeWrite to new changes) line later tells few same needs = tt
-holder_needs b (act.EndText end source at bytes) line later tells few same needs = tt
-holder_needs b (act.Relabel next new) line later tells few same needs = tt
+holder_needs b act.Settle line later tells few same needs = absurd (omega (arith, few))
+holder_needs b other line later tells few same needs = tt
 
 -- nor in a recovery turn
 pub no_turn : (a : Act) (line : List Waiting) (tells : Type 0) → act_need a ≤ 1 → ActNeedsTurn a line tells
 no_turn act.Settle line tells few = absurd (omega (arith, few))
-no_turn act.Rest line tells few = tt
-no_turn (act.Send to x) line tells few = tt
-no_turn (act.SendPiece to poll at asked) line tells few = tt
-no_turn (act.TakeVersion to new) line tells few = tt
-no_turn (act.TakeWrite to new changes) line tells few = tt
-no_turn (act.EndText end source at bytes) line tells few = tt
-no_turn (act.Relabel next new) line tells few = tt
+no_turn other line tells few = tt
 
 -- ---- calls
 
@@ -331,18 +303,11 @@ read_alike db s now id call image before out (Err e) (Ok x) grammar short replie
 module _ {D : Type 0} (g : Ghosts D) (db : Database) (m : Member) (s : Server) (e : NodeEvent) (now : ℕ) (shown : List Shown) (t : Frees db → Stepped)
     (first mid last : Held D) (before after : List Output) (back : Server) (end : StepEnd)
     (step : (free : Frees db) → step_by (free_dbs db free) m s now e (short_behind shown free.short) ≡ t free) where
-  abbrev Alikes : StepEnd → Held D → List Output → Type 0
-  Alikes x h out = StepsAlike db m x e now (model.Up s) (node_at h) out
-
-  alikes_so : (x : StepEnd) (h : Held D) (out : List Output) → end ≡ x → last ≡ h → after ≡ out → Alikes x h out → Alikes end last after
-  alikes_so x h out ended same shows steps =
-      subst (λ (y : StepEnd). Alikes y last after) (sym ended) (subst (λ (k : Held D). Alikes x k after) (sym same) (subst (λ (o : List Output). Alikes x h o) (sym shows) steps))
-
   pub closed_alike : {knows : Type 0} {u : Stepped} (r : Result (Unit {0}) StoreFault) → Ends g knows u [] before first mid r → OnOk r (AlikeSo db t mid.server [] before)
       → IfErr r (λ why. why ≢ fault.DiskFault → back ≡ s) → (IsErrOf r fault.DiskFault → model.halted_from back ≡ model.halted_from s)
-      → Closes r e back mid last before after end → Alikes end last after
+      → Closes r e back mid last before after end → StepsAlike db m end e now (model.Up s) (node_at last) after
   closed_alike (Ok x) ends alike returns keeps closed =
-      alikes_so Done mid before closed.0 closed.1 closed.2 (
+      rw (closed.0, closed.1, closed.2) (
         mid.server,
         up_if mid.store.failed (model.halted_from mid.server) mid.server (ends.leaves.runs (λ is. ok_not x is)),
         (record alike.0 { short = short_behind shown alike.0.short }, alike_same (step alike.0) alike.1),
@@ -350,11 +315,11 @@ module _ {D : Type 0} (g : Ghosts D) (db : Database) (m : Member) (s : Server) (
   closed_alike (Err why) ends alike returns keeps closed =
       ⊎_elim (λ is.
       let halts = closed.0 is in
-      alikes_so Halted (record mid { server = halts.1.0 }) (outputs_of (refusals e)) halts.0 halts.1.1 halts.2 (
+      rw (halts.0, halts.1.1, halts.2) (
         halted_if mid.store.failed (model.halted_from halts.1.0) halts.1.0 (ends.leaves.halts (ap Err is)) ∙ ap model.Halted (halts.1.2 ∙ keeps (ap Err is)),
         refl,
       ))
       (λ other.
       let rests = closed.1 other in
-      alikes_so NoMemory (record mid { server = back }) [] rests.0 rests.1 rests.2
+      rw (rests.0, rests.1, rests.2)
       (up_if mid.store.failed (model.halted_from back) back (ends.leaves.runs (λ is. other (fault_is why is))) ∙ ap model.Up (returns other), refl)) (disk_or why)

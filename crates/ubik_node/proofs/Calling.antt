@@ -1,11 +1,9 @@
 -- How rules end that make one durable call, after reads.
-use Rattle.std.proofs.Common.{◌≡◌, ◌≢◌, ◌+◌, ◌++◌, ◌⊎◌, inr, IfErr, ℕ, true, false, List, [], ◌∷◌, Option, Some, None, IsSome, length, Result, Ok, Err, IsErrOf, refl, sym, ap, subst, ◌∙◌, arith}
+use Rattle.std.proofs.Common.{◌≡◌, ◌≢◌, ◌+◌, ◌++◌, ◌⊎◌, ⊎_elim, inr, IfErr, ℕ, true, false, List, [], ◌∷◌, Option, Some, None, IsSome, Result, Ok, Err, IsErrOf, refl, sym, ap, subst, ◌∙◌, arith}
 use Rattle.std.specs.Option.{option_map}
 use Rattle.std.specs.Prelude.{OnOk}
 use Rattle.std.proofs.lemmas.Bool.{false≢true}
-use Rattle.ubik_types.specs.declared.images.Change.{Change}
 use Rattle.ubik_types.specs.declared.versions.Version.{Version}
-use Rattle.ubik_types.specs.Image.{effect}
 use Rattle.ubik_types.specs.Version.{version_lt}
 use Rattle.disk_base.specs.declared.disks.Disk.{Ghosts}
 use Rattle.disk_base.specs.declared.disks.FileNo.TheVariants.{Database}
@@ -15,9 +13,8 @@ use Rattle.disk_base.proofs.Runs.{reads_change_none, reads_joined}
 use Rattle.ubik_store.specs.declared.faults.StoreFault.{StoreFault}
 use Rattle.ubik_store.specs.declared.faults.StoreFault.TheVariants.{DiskFault, BadLabel, TooLarge, NotNewer, NoMemory}
 use Rattle.ubik_store.specs.declared.stores.Store.{Store}
-use Rattle.ubik_store.specs.DurableCall.{EndsAs, HasFailed, IsDurableIn, Refuses, Rewrites}
+use Rattle.ubik_store.specs.DurableCall.{EndsAs, HasFailed, IsDurableIn, IsNeverLong, Refuses, Rewrites}
 use Rattle.ubik_store.specs.Rewrite.{Rewrite, rewritten, most_calls, KeepsPuts}
-use Rattle.ubik_store.specs.Gaps.{CutsNoPut}
 use Rattle.ubik_store.specs.Store.{StaysAsItWas, image_in}
 use Rattle.ubik_store.proofs.Applied.{calls_as, calls_joined, calls_of}
 use Rattle.ubik_store.proofs.Telling.{ok_map}
@@ -40,6 +37,14 @@ pub told_by : (change : List ℕ → List ℕ) (before after : Option Files) →
 told_by change None after is told = absurd (false≢true told)
 told_by change (Some fs) None is told = absurd cc
 told_by change (Some fs) (Some gs) is told = refl
+
+-- how changes are not made
+pub commit_ended : {D : Type 0} (g : Ghosts D) (v : Version) (old new : Store D) (e : StoreFault) → version_lt old.version v ≡ true
+    → (e ≡ DiskFault) ⊎ (e ≡ NoMemory) → (e ≡ DiskFault → HasFailed old new) → (e ≢ DiskFault → Refuses g old new)
+    → EndsAs g IsNeverLong v old new e
+commit_ended g v old new DiskFault newer cause failed refused = failed refl
+commit_ended g v old new NoMemory newer cause failed refused = (newer, refused (λ is. absurd cc))
+commit_ended g v old new other newer cause failed refused = ⊎_elim (λ is. absurd cc) (λ is. absurd cc) cause
 
 -- what one durable call makes of a server, and that a step makes just that one
 pub record IsOneCall (old : Server) (rewrite : Rewrite) (v : Version) (image : List ℕ) (made : Made) (t : Stepped) : Type 0 where

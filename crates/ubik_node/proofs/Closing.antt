@@ -11,8 +11,8 @@ use Rattle.cell_model.specs.declared.events.NodeEvent.{NodeEvent}
 use Rattle.cell_model.specs.declared.events.Output.{Output}
 use Rattle.cell_model.specs.Durable.{Durable}
 use Rattle.cell_model.specs.Node as model
-use Rattle.cell_model.specs.NodeRule.{refusals, step_by}
-use Rattle.cell_model.specs.Step.{Member, Stepped, outputs_of}
+use Rattle.cell_model.specs.NodeRule.{step_by}
+use Rattle.cell_model.specs.Step.{Member, Stepped}
 use Rattle.ubik_node.specs.declared.nodes.StepEnd.{StepEnd}
 use Rattle.ubik_node.specs.declared.nodes.StepEnd.TheVariants.{Done, Halted, NoMemory}
 use Rattle.ubik_node.specs.Choices.{Choices, dbs_of}
@@ -29,17 +29,10 @@ module _ {D : Type 0} (g : Ghosts D) (d : Standing) (m : Member) (s : model.Serv
     (first mid last : Held D) (before after : List Output) (back : model.Server) (end : StepEnd)
     (up : first.store.failed ≡ false) (choices : Choices d) (step : step_by (dbs_of choices) m s now e choices.short ≡ t)
     (kept : durable_in first.server ≡ durable_in s) where
-  abbrev pub StepsSo : StepEnd → Held D → List Output → Type 0
-  StepsSo x h out = StepsFreely g d m x e now (model.Up s) (node_at h) out first.store.disk h.store.disk
-
-  -- what is known of how it ended, the server after it and what it put out is put in their place
-  steps_so : (x : StepEnd) (h : Held D) (out : List Output) → end ≡ x → last ≡ h → after ≡ out → StepsSo x h out → StepsSo end last after
-  steps_so x h out ended same shown steps =
-      subst (λ (y : StepEnd). StepsSo y last after) (sym ended) (subst (λ (k : Held D). StepsSo x k after) (sym same) (subst (λ (o : List Output). StepsSo x h o) (sym shown) steps))
-
   pub closed_step : {knows : Type 0} (r : Result (Unit {0}) StoreFault) → Ends g knows t [] before first mid r → knows
       → IfErr r (λ why. why ≢ fault.DiskFault → back ≡ s) → (IsErrOf r fault.DiskFault → model.halted_from back ≡ model.halted_from s)
-      → Closes r e back mid last before after end → StepsSo end last after
+      → Closes r e back mid last before after end
+      → StepsFreely g d m end e now (model.Up s) (node_at last) after first.store.disk last.store.disk
   closed_step (Ok x) ends known returns keeps closed =
       let made = ends.made known in
       let made_for : Makes t (node_at mid) before (Serves g (durable_in s) first.store.disk mid.store.disk) = record {
@@ -47,12 +40,12 @@ module _ {D : Type 0} (g : Ghosts D) (d : Standing) (m : Member) (s : model.Serv
         outputs = made.outputs;
         disk = subst (λ (b : Durable). Serves g b first.store.disk mid.store.disk t.calls) kept made.disk;
       } in
-      steps_so Done mid before closed.0 closed.1 closed.2
+      rw (closed.0, closed.1, closed.2)
       (choices, subst (λ (u : Stepped). Makes u (node_at mid) before (Serves g (durable_in s) first.store.disk mid.store.disk)) (sym step) made_for)
   closed_step (Err why) ends known returns keeps closed =
       ⊎_elim (λ is.
       let halts = closed.0 is in
-      steps_so Halted (record mid { server = halts.1.0 }) (outputs_of (refusals e)) halts.0 halts.1.1 halts.2 (
+      rw (halts.0, halts.1.1, halts.2) (
         halted_if mid.store.failed (model.halted_from halts.1.0) halts.1.0 (ends.leaves.halts (ap Err is)) ∙ ap model.Halted (halts.1.2 ∙ keeps (ap Err is)),
         refl,
         choices,
@@ -61,7 +54,7 @@ module _ {D : Type 0} (g : Ghosts D) (d : Standing) (m : Member) (s : model.Serv
       ))
       (λ other.
       let rests = closed.1 other in
-      steps_so NoMemory (record mid { server = back }) [] rests.0 rests.1 rests.2
+      rw (rests.0, rests.1, rests.2)
       (up_if mid.store.failed (model.halted_from back) back (ends.leaves.runs (λ is. other (fault_is why is))) ∙ ap model.Up (returns other), refl, (ends.leaves.short other).1)) (disk_or why)
 
 -- what is so of a step, whatever its rule was
@@ -74,10 +67,6 @@ pub record IsClosed {D : Type 0} (g : Ghosts D) (first then : Held D) (end : Ste
 
 module _ {D : Type 0} (g : Ghosts D) (e : NodeEvent) (first mid last : Held D)
     (before after : List Output) (back : model.Server) (end : StepEnd) (up : first.store.failed ≡ false) where
-  closed_so : (x : StepEnd) (h : Held D) → end ≡ x → last ≡ h → IsClosed g first h x → IsClosed g first last end
-  closed_so x h ended same closed =
-      subst (λ (y : StepEnd). IsClosed g first last y) (sym ended) (subst (λ (k : Held D). IsClosed g first k x) (sym same) closed)
-
   -- one that did not halt
   goes_on : {t : Stepped} {knows : Type 0} {start : List Output} (r : Result (Unit {0}) StoreFault) (x : StepEnd) (server : model.Server) → x ≢ Halted → ¬ IsErrOf r fault.DiskFault
       → Ends g knows t start before first mid r → IsClosed g first (record mid { server = server }) x
@@ -91,11 +80,11 @@ module _ {D : Type 0} (g : Ghosts D) (e : NodeEvent) (first mid last : Held D)
 
   pub closed : {t : Stepped} {knows : Type 0} {start : List Output} (r : Result (Unit {0}) StoreFault) → Ends g knows t start before first mid r
       → Closes r e back mid last before after end → IsClosed g first last end
-  closed (Ok x) ends closes = closed_so Done mid closes.0 closes.1 (goes_on (Ok x) Done mid.server (λ is. cc) (λ is. cc) ends)
+  closed (Ok x) ends closes = rw (closes.0, closes.1) (goes_on (Ok x) Done mid.server (λ is. cc) (λ is. cc) ends)
   closed (Err why) ends closes =
       ⊎_elim (λ is.
       let halts = closes.0 is in
-      closed_so Halted (record mid { server = halts.1.0 }) halts.0 halts.1.1 (record {
+      rw (halts.0, halts.1.1) (record {
         told = λ went. absurd (went refl);
         calls = (ends.leaves.calls.0, calls_as (omega arith) (λ _. (refl, up)) (λ _. ap Err is) ends.leaves.calls.1);
         halts = (λ _. ends.leaves.halts (ap Err is), λ _. refl);
@@ -104,7 +93,7 @@ module _ {D : Type 0} (g : Ghosts D) (e : NodeEvent) (first mid last : Held D)
       }))
       (λ other.
       let rests = closes.1 other in
-      closed_so NoMemory (record mid { server = back }) rests.0 rests.1
+      rw (rests.0, rests.1)
       (goes_on (Err why) NoMemory back (λ is. cc) (λ is. other (fault_is why is)) ends)) (disk_or why)
 
 module _ {D : Type 0} (e : NodeEvent) (mid last : Held D) (before after : List Output) (back : model.Server) (end : StepEnd) where

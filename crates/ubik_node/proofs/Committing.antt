@@ -1,16 +1,14 @@
 -- What a writing call leads to at its turn.
-use Rattle.std.proofs.Common.{◌≡◌, ◌<◌, ◌≤◌, ◌+◌, ◌/◌, ℕ, zero, suc, Bool, true, false, cond, eqb, Option, Some, None, IfSome, IsSome, List, [], ◌∷◌, length, replicate, take, refl, sym, ap, subst, ◌∙◌, arith}
+use Rattle.std.proofs.Common.{◌≡◌, ◌<◌, ◌≤◌, ◌+◌, ◌/◌, ℕ, zero, suc, Bool, true, false, cond, Option, Some, None, IfSome, IsSome, List, [], ◌∷◌, length, replicate, take, refl, sym, ap, subst, ◌∙◌, arith}
 use Rattle.std.proofs.lemmas.Bool.{false≢true}
 use Rattle.std.proofs.lemmas.Bool.Decides.{nat_tests}
 use Rattle.std.proofs.lemmas.List.{append-nil}
 use Rattle.std.proofs.lemmas.List.Sums.{sum_by-cons}
 use Rattle.ubik_types.specs.declared.hosts.Host.{Host}
 use Rattle.ubik_types.specs.declared.images.Change.{Change}
-use Rattle.ubik_types.specs.declared.phases.Phase.{Phase}
 use Rattle.ubik_types.specs.declared.phases.Phase.TheVariants as phase
 use Rattle.ubik_types.specs.declared.versions.Version.{Version}
 use Rattle.ubik_types.specs.Logged.{too_large}
-use Rattle.ubik_types.specs.Phase.{Ready}
 use Rattle.ubik_types.specs.Quorum.{is_majority, marked, size}
 use Rattle.ubik_types.specs.Version.{version_lt}
 use Rattle.xdr_base.specs.ChangeText.{text_of}
@@ -22,12 +20,13 @@ use Rattle.db_image.specs.Database.{Database, changes_of}
 use Rattle.cell_model.specs.declared.events.Output.{Output}
 use Rattle.cell_model.specs.declared.events.Output.TheVariants as output
 use Rattle.cell_model.specs.Asks.{read_reply}
-use Rattle.cell_model.specs.Node.{Flight, Server}
-use Rattle.cell_model.specs.Polls.{is_marked, only_at, only_holder}
-use Rattle.cell_model.specs.Step.{Evaluation, Member, cell_size, outputs_of, sends_to_each, told_version, with_database}
-use Rattle.cell_model.specs.Writes.{answered_on, flight_of, last_counter, next_version, own_commit, turned, write_bodies, written, written_in, written_within}
+use Rattle.cell_model.specs.Node.{Server}
+use Rattle.cell_model.specs.Polls.{is_marked, only_at}
+use Rattle.cell_model.specs.Step.{Evaluation, Member, Shown, cell_size, outputs_of, sends_to_each, told_version, with_database}
+use Rattle.cell_model.specs.Writes.{answered_on, flight_of, next_version, own_commit, turned, write_bodies}
+use Rattle.cell_model.specs.Writes.{written, written_changes, written_in, written_within}
 use Rattle.site_writes.specs.OwnWrite.{OwnRecord, own_write}
-use Rattle.ubik_recovery.specs.Record.{RecoveryRecord, held_alone, polled_of, record_in, with_text}
+use Rattle.ubik_recovery.specs.Record.{RecoveryRecord, held_alone, with_text}
 use Rattle.ubik_recovery.specs.Rules.{recovering}
 use Rattle.ubik_write.specs.Flight.{FlightRecord, IsFlightOf, Undoes}
 use Rattle.disk_base.specs.Files.{Files}
@@ -51,22 +50,12 @@ module _ (db : Database) (m : Member) (s : Server) (now id : ℕ) (call : List �
       record { server = refl; outputs = ap (λ (o : Output). o ∷ []) (is id (answered_on s.version now call)); calls = refl }
 
   -- a call whose changes are neither none nor too many
-  pub commits : (answer image : List ℕ) (cs : List Change) → changes_of db s.image image ≡ cs → too_large 0 (length s.image) cs ≡ None → 0 < length cs → eqb s.version.counter 2147483647 ≡ false
-      → written db m s now id call answer image ≡ written_in m s now id call answer image cs s.phase
-  commits answer image [] changes fits some below = absurd (omega arith)
-  commits answer image (c ∷ cs) changes fits some below =
+  pub commits : (answer image : List ℕ) (cs : List Change) → changes_of db s.image image ≡ cs → too_large 0 (length s.image) cs ≡ None
+      → 0 < length cs → written db m s now id call answer image ≡ written_changes m s now id call answer image cs
+  commits answer image [] changes fits some = absurd (omega arith)
+  commits answer image (c ∷ cs) changes fits some =
       ap (λ (xs : List Change). written_within m s now id call answer image xs (too_large 0 (length s.image) xs)) changes
       ∙ ap (λ (o : Option ℕ). written_within m s now id call answer image (c ∷ cs) o) fits
-      ∙ rw below refl
-
-  -- the same where the counter is at its end
-  pub polls_again : (answer image : List ℕ) (cs : List Change) → changes_of db s.image image ≡ cs → too_large 0 (length s.image) cs ≡ None → 0 < length cs → eqb s.version.counter 2147483647 ≡ true
-      → written db m s now id call answer image ≡ last_counter m s now id
-  polls_again answer image [] changes fits some over = absurd (omega arith)
-  polls_again answer image (c ∷ cs) changes fits some over =
-      ap (λ (xs : List Change). written_within m s now id call answer image xs (too_large 0 (length s.image) xs)) changes
-      ∙ ap (λ (o : Option ℕ). written_within m s now id call answer image (c ∷ cs) o) fits
-      ∙ rw over refl
 
 -- ---- who has the version after a commit
 
@@ -82,12 +71,11 @@ one_has zero me = omega arith
 one_has (suc n) zero = omega (arith, size-cons true (replicate n false), none_has n)
 one_has (suc n) (suc me) = omega (arith, size-cons false (only_at true false n me), one_has n me)
 
-past_one : (n count : ℕ) → 1 < n → count ≤ 1 → count < n / 2 + 1
-past_one n count more few = omega arith
-
 -- one of several is no majority
 pub one_is_few : (n me : ℕ) → 1 < n → is_majority n (only_at true false n me) ≡ false
-one_is_few n me more = let few = past_one n (size (only_at true false n me)) more (one_has n me) in grind (arith, nat_tests)
+one_is_few n me more =
+    let few : size (only_at true false n me) < n / 2 + 1 = omega (arith, one_has n me) in
+    grind (arith, nat_tests)
 
 pub next_is_newer : (own : Version) → version_lt own (next_version own) ≡ true
 next_is_newer own = grind (arith, nat_tests)
@@ -101,87 +89,43 @@ none_marked n count k = refl
 pub spread_to_each : (m : Member) (n count : ℕ) (set : List Bool) (a b new : Version) (s t : List ℕ) → set ≡ replicate count false → a ≡ b → s ≡ t
     → sends_to_each m (λ k. cond (is_marked (marked n set) k) [] (write_bodies a new s)) ≡ sends_to_each m (λ k. write_bodies b new t)
 spread_to_each m n count set a b new s t none old text =
-    ap (λ (marks : List Bool). sends_to_each m (λ k. cond (is_marked (marked n marks) k) [] (write_bodies a new s))) none
-    ∙ sends_same m 0 m.hosts (λ k. cond (is_marked (marked n (replicate count false)) k) [] (write_bodies a new s)) (λ k. write_bodies a new s) (λ k. ap (λ (mark : Bool). cond mark [] (write_bodies a new s)) (none_marked n count k))
-    ∙ ap (λ (v : Version). sends_to_each m (λ k. write_bodies v new s)) old
+    rw (none, old) (sends_same m 0 m.hosts _ _ (λ k. ap (λ (mark : Bool). cond mark [] (write_bodies b new s)) (none_marked n count k)))
     ∙ ap (λ (x : List ℕ). sends_to_each m (λ k. write_bodies b new x)) text
 
 -- ---- a commit at a server that serves
 
--- the server after it, in a cell of so many
-abbrev after_commit : Server → RecoveryRecord → List ℕ → (me n : ℕ) → Version → Option Flight → Server
-after_commit s r image me n announced flight = record s {
-  version = next_version s.version;
-  image = image;
-  phase = Ready (polled_of r) (record { old = r.old_version; holders = only_at true false n me }) announced;
-  kept = None;
-  received = None;
-  flight = flight;
-}
+abbrev member : List Host → ℕ → Member
+member hosts me = record { hosts = hosts; me = me }
+
+-- the only server of its cell
+pub is_alone : (hosts : List Host) (me : ℕ) → length hosts ≡ 1 → me < length hosts → (h : Host) × (member hosts me ≡ alone h)
+is_alone [] me one inside = absurd (omega arith)
+is_alone (h ∷ []) me one inside = let first : me ≡ 0 = omega arith in (h, ap (member (h ∷ [])) first)
+is_alone (h ∷ g ∷ hosts) me one inside = absurd (omega arith)
 
 module _ (s : Server) (v : Version) (r : RecoveryRecord) (now id : ℕ) (call answer image : List ℕ) (changes : List Change) (serves : r.phase ≡ phase.Ready) where
   -- of one that is alone
-  alone_written : (h : Host) → s.flight ≡ None → r.servers ≡ 1
-      → Leads (written_in (alone h) (recovering v r s) now id call answer image changes (recovering v r s).phase)
-      (recovering (next_version s.version) (with_text (held_alone r 0) None) (with_database (recovering v r s) (next_version s.version) image))
-      (output.Announce (next_version s.version) ∷ output.Reply id (reply.Ok answer) ∷ []) (own_commit (next_version s.version) changes image (record { moment = now; call = call }) ∷ [])
-  alone_written h free one = by r.phase serves
-    where
-      by : (p : Phase) → p ≡ phase.Ready
-          → Leads (written_in (alone h) (recovering v (record r { phase = p }) s) now id call answer image changes (record_in p v r))
-          (recovering (next_version s.version) (with_text (held_alone (record r { phase = p }) 0) None) (with_database (recovering v (record r { phase = p }) s) (next_version s.version) image))
-          (output.Announce (next_version s.version) ∷ output.Reply id (reply.Ok answer) ∷ []) (own_commit (next_version s.version) changes image (record { moment = now; call = call }) ∷ [])
-      by phase.Ready is = record { server = ap (λ (n : ℕ). after_commit s r image 0 n (next_version s.version) None) (sym one) ∙ ap (λ (f : Option Flight). after_commit s r image 0 r.servers (next_version s.version) f) (sym free); outputs = refl; calls = refl }
-      by other is = absurd cc
-
   pub written_alone : (m : Member) (only : (h : Host) × (m ≡ alone h)) (next : Version) → next ≡ next_version s.version → s.flight ≡ None → r.servers ≡ 1
       → Leads (written_in m (recovering v r s) now id call answer image changes (recovering v r s).phase) (recovering next (with_text (held_alone r 0) None) (with_database (recovering v r s) next image))
       (output.Announce next ∷ output.Reply id (reply.Ok answer) ∷ []) (own_commit next changes image (record { moment = now; call = call }) ∷ [])
-  written_alone m only next is free one =
-      let P : Member → Version → Type 0 = λ k w.
-      Leads (written_in k (recovering v r s) now id call answer image changes (recovering v r s).phase) (recovering w (with_text (held_alone r 0) None) (with_database (recovering v r s) w image))
-      (output.Announce w ∷ output.Reply id (reply.Ok answer) ∷ []) (own_commit w changes image (record { moment = now; call = call }) ∷ []) in
-      subst (λ (w : Version). P m w) (sym is) (subst (λ (k : Member). P k (next_version s.version)) (sym only.1) (alone_written only.0 free one))
+  written_alone m only next is free one = rw (is, only.1, serves, one, free) (record { server = refl; outputs = refl; calls = refl })
 
   -- of one with others
-  begun_written : (m : Member) (write : OwnRecord) → cell_size m ≡ r.servers → 1 < cell_size m → write.kept.old_version ≡ s.version → write.flight ≡ flight_of s now id call answer changes
-      → Leads (written_in m (recovering v r s) now id call answer image changes (recovering v r s).phase)
-      (write_begun write (held_alone r m.me) (with_database (recovering v r s) (next_version s.version) image))
-      (outputs_of (sends_to_each m (λ k. write_bodies s.version (next_version s.version) (text_of changes)))) (own_commit (next_version s.version) changes image (record { moment = now; call = call }) ∷ [])
-  begun_written m write same more old flight = by r.phase serves
-    where
-      few : is_majority (cell_size m) (only_holder m) ≡ false
-      few = one_is_few (cell_size m) m.me more
-
-      by : (p : Phase) → p ≡ phase.Ready
-          → Leads (written_in m (recovering v (record r { phase = p }) s) now id call answer image changes (record_in p v r))
-          (write_begun write (held_alone (record r { phase = p }) m.me) (with_database (recovering v (record r { phase = p }) s) (next_version s.version) image))
-          (outputs_of (sends_to_each m (λ k. write_bodies s.version (next_version s.version) (text_of changes)))) (own_commit (next_version s.version) changes image (record { moment = now; call = call }) ∷ [])
-      by phase.Ready is = rw few (record {
-        server =
-            ap (λ (n : ℕ). after_commit s r image m.me n s.version (Some (flight_of s now id call answer changes))) same
-            ∙ ap (λ (w : Version). after_commit s r image m.me r.servers w (Some (flight_of s now id call answer changes))) (sym old)
-            ∙ ap (λ (f : Flight). after_commit s r image m.me r.servers write.kept.old_version (Some f)) (sym flight);
-        outputs = ap outputs_of (append-nil (sends_to_each m (λ k. write_bodies s.version (next_version s.version) (text_of changes))));
-        calls = refl;
-      })
-      by other is = absurd cc
-
   pub written_begun : (m : Member) (write : OwnRecord) (next : Version) → next ≡ next_version s.version → cell_size m ≡ r.servers → 1 < cell_size m → write.kept.old_version ≡ s.version → write.flight ≡ flight_of s now id call answer changes
       → Leads (written_in m (recovering v r s) now id call answer image changes (recovering v r s).phase) (write_begun write (held_alone r m.me) (with_database (recovering v r s) next image))
       (outputs_of (sends_to_each m (λ k. write_bodies s.version next (text_of changes)))) (own_commit next changes image (record { moment = now; call = call }) ∷ [])
   written_begun m write next is same more old flight =
-      let P : Version → Type 0 = λ w.
-      Leads (written_in m (recovering v r s) now id call answer image changes (recovering v r s).phase) (write_begun write (held_alone r m.me) (with_database (recovering v r s) w image))
-      (outputs_of (sends_to_each m (λ k. write_bodies s.version w (text_of changes)))) (own_commit w changes image (record { moment = now; call = call }) ∷ []) in
-      subst P (sym is) (begun_written m write same more old flight)
+      let sends : Version → List Shown = λ w. sends_to_each m (λ k. write_bodies s.version w (text_of changes)) in
+      rw (serves, one_is_few (cell_size m) m.me more) (record {
+        server = rw (is, same, old, flight) refl;
+        outputs = ap outputs_of (append-nil (sends (next_version s.version)) ∙ ap sends (sym is));
+        calls = rw is refl;
+      })
 
 -- the write in flight as the rules have it
 pub flown : (write : OwnRecord) (f : FlightRecord) (s : Server) (id now : ℕ) (a b : Version) (call answer old : List ℕ) (changes : List Change) → write ≡ own_write f answer call old changes → IsFlightOf id a b now changes f → old ≡ s.image
     → write.flight ≡ flight_of s now id call answer changes
-flown write f s id now a b call answer old changes is of same =
-    let at : ℕ → ℕ → List ℕ → Flight = λ i began bytes. record { id = i; began = began; call = call; answer = answer; old_image = bytes; changes = changes } in
-    ap (λ (w : OwnRecord). w.flight) is ∙ ap (λ (i : ℕ). at i f.began old) of.call ∙ ap (λ (began : ℕ). at id began old) of.began ∙ ap (λ (bytes : List ℕ). at id now bytes) same
+flown write f s id now a b call answer old changes is of same = rw (is, of.call, of.began, same) refl
 
 -- what is kept of a write leads back to the image that was known
 pub undone_here : (files : Option Files) (f : FlightRecord) (image : List ℕ) (changes : List Change) → IsSome files → IsThere image (image_in files) → IfSome (image_in files) (λ bytes. Undoes f bytes changes) → Undoes f image changes

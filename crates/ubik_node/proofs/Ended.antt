@@ -1,13 +1,13 @@
 -- The end of another server's image: what it leads to is the same where the text that was there is given out.
-use Rattle.std.proofs.Common.{◌≡◌, ◌∙◌, ℕ, Bool, true, false, cond, None, List, length, refl, sym, ap, subst}
+use Rattle.std.proofs.Common.{◌≡◌, ◌∙◌, ℕ, true, None, List, length, refl, sym, ap, subst}
 use Rattle.std.specs.Prelude.{◌==◌}
+use Rattle.std.proofs.lemmas.Bool.{cond_both}
 use Rattle.ubik_types.specs.declared.versions.Version.{Version}
-use Rattle.ubik_types.specs.Phase.{PhaseRecord}
 use Rattle.ubik_types.specs.Version.{version_lt}
 use Rattle.cell_model.specs.Node.{Server}
 use Rattle.cell_model.specs.Recovery.{installed}
 use Rattle.cell_model.specs.Step.{Member, Stepped, followed}
-use Rattle.ubik_recovery.specs.Record.{RecoveryRecord, with_text}
+use Rattle.ubik_recovery.specs.Record.{RecoveryRecord}
 use Rattle.server_rules.specs.Acts.{CanFollow, IsOver, MayTake, then_ended}
 use Rattle.server_rules.specs.declared.acts.TextEnd.{TextEnd}
 use Rattle.server_rules.specs.declared.acts.TextEnd.TheVariants as text_end
@@ -18,30 +18,20 @@ use Rattle.server_state.specs.State.{announced, member_of, server_of, server_wit
 use Rattle.ubik_node.proofs.Fronts.{same_phase}
 
 front_phase : (at : ℕ) (r : RecoveryRecord) → (front_taken at r).phase ≡ r.phase
-front_phase at r = by (at == 0)
-  where
-    by : (b : Bool) → (cond b r (with_text r None)).phase ≡ r.phase
-    by true = refl
-    by false = refl
+front_phase at r = cond_both (at == 0) _ _ (λ (x : RecoveryRecord). x.phase ≡ r.phase) (λ _. refl) (λ _. refl)
 
 -- at the server that has given the text out
 given_out : (st : State) (at : ℕ) (version : Version) (image : List ℕ)
     → installed (server_of st) version image ≡ installed (server_with st (front_taken at st.recovery)) version image
-given_out st at version image = by (at == 0)
-  where
-    by : (b : Bool) → installed (server_of st) version image ≡ installed (server_with st (cond b st.recovery (with_text st.recovery None))) version image
-    by true = refl
-    by false =
-        ap (λ (p : PhaseRecord). installed (record (server_of st) { phase = p; received = None }) version image) (sym (same_phase (announced st) st.recovery None))
+given_out st at version image =
+    cond_both (at == 0) _ _ (λ (r : RecoveryRecord). installed (server_of st) version image ≡ installed (server_with st r) version image)
+    (λ _. refl) (λ _. rw (same_phase (announced st) st.recovery None) refl)
 
 pub ended_front : (st : State) (place : Member) (mid : Server) (at : ℕ) (end : TextEnd) (version : Version) (image whole : List ℕ)
     → mid ≡ server_with st (front_taken at st.recovery) → place ≡ member_of st → whole ≡ image
     → followed (installed (server_of st) version image) (then_ended (member_of st) end) ≡ followed (installed mid version whole) (then_ended place end)
 ended_front st place mid at end version image whole server here same =
-    ap (λ (t : Stepped). followed t (then_ended (member_of st) end)) (given_out st at version image)
-    ∙ ap (λ (z : Server). followed (installed z version image) (then_ended (member_of st) end)) (sym server)
-    ∙ ap (λ (k : Member). followed (installed mid version image) (then_ended k end)) (sym here)
-    ∙ ap (λ (bytes : List ℕ). followed (installed mid version bytes) (then_ended place end)) (sym same)
+    rw (server, here, same) (ap (λ (t : Stepped). followed t (then_ended (member_of st) end)) (given_out st at version image))
 
 -- there it can end so too
 pub may_after : (st mid : State) (at : ℕ) (version : Version) → mid.recovery ≡ front_taken at st.recovery → mid.version ≡ st.version → MayTake st version → MayTake mid version

@@ -1,6 +1,6 @@
 -- How rules end.
 use Rattle.std.proofs.Common.{◌≡◌, ◌≢◌, ◌++◌, ◌⊎◌, ⊎_elim, inl, inr, List, [], true, false, Option, IsSome, Result, Ok, Err, OnOk, IfErr, IsErrAnd, IsErrOf, IsOk, refl, sym, ap, subst, ◌∙◌, append_assoc, arith}
-use Rattle.std.proofs.lemmas.List.{map-append}
+use Rattle.std.proofs.lemmas.List.{append-nil, map-append}
 use Rattle.disk_base.specs.declared.disks.Disk.{Ghosts}
 use Rattle.disk_base.specs.declared.disks.FileNo.TheVariants.{Database}
 use Rattle.disk_base.specs.Files.{Files}
@@ -151,6 +151,16 @@ module _ {D : Type 0} (g : Ghosts D) where
             ∙ ap (λ (o : List Output). before ++ o) (sym (map-append (λ (one : Shown). one.output) shown t.shown));
         disk = made.disk;
       })) ends.failed ends
+
+  -- a rule that shows nothing, behind what stands there
+  pub quiet_ends : {knows : Type 0} {t : Stepped} {n m : Held D} {r : Result (Unit {0}) StoreFault} (out : List Output)
+      → Ends g knows t [] [] n m r → Ends g knows t out out n m r
+  quiet_ends {knows} {t} {n} {m} {r} out ends =
+      ends_as (λ known.
+      ok_map r (IsMade g t [] [] n m) (IsMade g t out out n m) (ends.made known)
+      (λ made.
+      record { server = made.server; outputs = sym (append-nil out) ∙ ap (λ (o : List Output). out ++ o) made.outputs; disk = made.disk }))
+      ends.failed ends
 
   -- an error that is handed on
   pub handed_ends : {knows : Type 0} {t : Stepped} {before after : List Output} {n m : Held D} (r : Result (Unit {0}) StoreFault) (e : StoreFault) → IsErrAnd r (λ x. x ≡ e) → Ends g knows t before after n m (Err e) → Ends g knows t before after n m r

@@ -1,5 +1,5 @@
 -- What is told of an evaluation.
-use Rattle.std.proofs.Common.{◌≡◌, ◌≤◌, ◌∙◌, ℕ, true, List, [], ◌∷◌, Option, Some, None, cond, IfOk, IfSome, length, Result, Ok, Err, refl, sym, ap, subst, eq-eqb}
+use Rattle.std.proofs.Common.{◌≡◌, ◌≤◌, ℕ, List, [], ◌∷◌, Option, Some, None, IfOk, IfSome, length, Result, Ok, Err, refl, sym, subst, eq-eqb}
 use Rattle.std.proofs.lemmas.Bool.{and_parts, cond_both}
 use Rattle.std.proofs.lemmas.Slice.Eq.{bytes_eq-Decides}
 use Rattle.std.specs.Prelude.{Bool, ◌==◌, ◌&&◌}
@@ -12,17 +12,10 @@ use Rattle.ubik_node.specs.declared.evaluations.Evaluation as code
 use Rattle.ubik_node.specs.Choices.{Choices}
 use Rattle.ubik_node.specs.Evaluation.{IsMadeOf, IsOutcome}
 
-both_true : (x y : Bool) → x ≡ true → y ≡ true → (x && y) ≡ true
-both_true x y first second = ap (λ (b : Bool). b && y) first ∙ second
-
 -- the outcome that is told of an evaluation is told of itself
 pub told_itself : (db : Database) (e : Evaluated) → outcome_told (Some e) db e.image e.moment e.call ≡ e.outcome
 told_itself db e =
-    let same : (bytes_eq e.image e.image && e.moment == e.moment && bytes_eq e.call e.call) ≡ true =
-    both_true (bytes_eq e.image e.image && e.moment == e.moment) _
-    (both_true (bytes_eq e.image e.image) _ ((bytes_eq-Decides e.image e.image).1 refl) (eq-eqb e.moment e.moment refl))
-    ((bytes_eq-Decides e.call e.call).1 refl) in
-    ap (λ (b : Bool). cond b e.outcome (db.call e.image e.moment e.call)) same
+    rw ((bytes_eq-Decides e.image e.image).1 refl, eq-eqb e.moment e.moment refl, (bytes_eq-Decides e.call e.call).1 refl) refl
 
 -- one evaluation is told, in a step with no other
 abbrev pub one_chosen : (d : Standing) (one : Option Evaluated) → IfSome one (MayCome d) → (short : List Bool) → Choices d

@@ -1,5 +1,5 @@
 -- A fetch: its pieces, and what the last one leads to.
-use Rattle.std.proofs.Common.{◌≡◌, ◌∙◌, ℕ, Bool, true, false, cond, Option, Some, None, IfSome, IsSome, List, [], ◌∷◌, length, take, drop, min, refl, sym, ap}
+use Rattle.std.proofs.Common.{◌≡◌, ◌∙◌, ℕ, Bool, true, false, cond, Option, Some, None, IfSome, IsSome, List, [], length, take, min, refl, sym, ap}
 use Rattle.std.specs.Option.{option_map}
 use Rattle.std.proofs.lemmas.List.{take_min}
 use Rattle.disk_base.specs.Files.{Files}
@@ -16,6 +16,7 @@ use Rattle.server_state.specs.Held.{held_image}
 use Rattle.server_state.specs.declared.state.State.{State}
 use Rattle.server_state.specs.State.{announced, server_of, server_with}
 use Rattle.ubik_node.proofs.Received.{held_text}
+use Rattle.ubik_node.proofs.Rested.{drop_none}
 
 cond_none : (b : Bool) (text : Option ReceivedText) → text ≡ None → cond b None text ≡ None
 cond_none true text is = refl
@@ -41,10 +42,6 @@ held_twice before mid after len text bytes tells is also holds = held_text befor
     by None tells is = tt
     by (Some fs) tells is = also ∙ ap (λ (o : Option (List ℕ)). option_map (λ image. effect image []) o) is
 
-drop_zero : (xs : List ℕ) → drop 0 xs ≡ xs
-drop_zero [] = refl
-drop_zero (x ∷ xs) = refl
-
 -- the first piece of a text
 pub first_of : (text piece : List ℕ) (n : ℕ) → n ≡ min 8192 (length text) → piece ≡ take n text → piece ≡ piece_from text 0
-first_of text piece n is cut = cut ∙ ap (λ (k : ℕ). take k text) is ∙ take_min 8192 text ∙ ap (take 8192) (sym (drop_zero text))
+first_of text piece n is cut = cut ∙ ap (λ (k : ℕ). take k text) is ∙ take_min 8192 text ∙ ap (take 8192) (sym (drop_none text))

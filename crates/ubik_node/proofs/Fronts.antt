@@ -2,7 +2,7 @@
 use Rattle.std.proofs.Common.{◌≡◌, ◌≢◌, ◌≤◌, ◌++◌, ◌∙◌, ⊎_elim, ℕ, Bool, true, false, cond, List, Option, Some, None, length, take, Result, Ok, Err, OnOk, OnErr, refl, sym, ap, subst, arith, length-take}
 use Rattle.std.specs.Prelude.{◌==◌}
 use Rattle.std.specs.Result.{is_err}
-use Rattle.std.proofs.lemmas.Bool.{false≢true}
+use Rattle.std.proofs.lemmas.Bool.{cond_both, false≢true}
 use Rattle.std.proofs.lemmas.List.{take-append-le, take-take}
 use Rattle.disk_base.specs.declared.disks.Disk.{Ghosts}
 use Rattle.ubik_types.specs.declared.phases.Phase.{Phase}
@@ -30,11 +30,7 @@ use Rattle.ubik_node.proofs.Endings.{ends_as, fault_is, ok_not, short_ends}
 use Rattle.ubik_node.proofs.Received.{front_of}
 
 pub same_phase : (v : Version) (r : RecoveryRecord) (text : Option ReceivedText) → phase_record v (with_text r text) ≡ phase_record v r
-same_phase v r text = by r.phase
-  where
-    by : (p : Phase) → record_in p v (with_text r text) ≡ record_in p v r
-    by phase.None = refl
-    by other = refl
+same_phase v r text = elim r.phase as (λ (p : Phase). record_in p v (with_text r text) ≡ record_in p v r) [ phase.None ↦ refl | _ ↦ refl ]
 
 -- another text is another text of the server
 pub text_put : (v : Version) (r : RecoveryRecord) (s : Server) (text : Option ReceivedText) → recovering v (with_text r text) s ≡ record (recovering v r s) { received = text }
@@ -43,31 +39,24 @@ text_put v r s text = ap (λ (p : PhaseRecord). record s { phase = p; received =
 -- the front that was given out comes back, at each server that is as the one that it was taken of
 pub front_restored : (may : Bool) (source : TextSource) (at : ℕ) (bytes front : List ℕ) (st x : State) (y : ReceivedText) → text_with may source.server source.version source.total at bytes st.recovery.text ≡ Some y
     → server_of x ≡ server_with st (front_taken at st.recovery) → front ≡ take at (received_bytes st.recovery.text) → server_with x (front_back source at front x.recovery) ≡ server_of st
-front_restored may source at bytes front st x y takes server is = by (at == 0) refl
-  where
-    by : (b : Bool) → (at == 0) ≡ b → server_with x (cond b x.recovery (with_text x.recovery (Some (text_of source front)))) ≡ server_of st
-    by true first = server ∙ ap (λ (b : Bool). server_with st (cond b st.recovery (with_text st.recovery None))) first
-    by false later =
-        let text : st.recovery.text ≡ Some (text_of source front) = front_of may source at bytes st.recovery.text y later takes ∙ ap (λ (xs : List ℕ). Some (text_of source xs)) (sym is) in
-        text_put (announced x) x.recovery (server_of x) (Some (text_of source front))
-        ∙ ap (λ (s : Server). record s { received = Some (text_of source front) }) (server ∙ ap (λ (b : Bool). server_with st (cond b st.recovery (with_text st.recovery None))) later)
-        ∙ sym (text_put (announced st) (with_text st.recovery None) (server_of st) (Some (text_of source front)))
-        ∙ ap (λ (t : Option ReceivedText). recovering (announced st) (with_text st.recovery t) (server_of st)) (sym text)
+front_restored may source at bytes front st x y takes server is =
+    cond_both (at == 0) _ _ (λ (r : RecoveryRecord). server_with x r ≡ server_of st)
+    (λ first. server ∙ ap (λ (b : Bool). server_with st (cond b st.recovery (with_text st.recovery None))) first)
+    (λ later.
+    let text : st.recovery.text ≡ Some (text_of source front) = front_of may source at bytes st.recovery.text y later takes ∙ ap (λ (xs : List ℕ). Some (text_of source xs)) (sym is) in
+    text_put (announced x) x.recovery (server_of x) (Some (text_of source front))
+    ∙ ap (λ (s : Server). record s { received = Some (text_of source front) }) (server ∙ ap (λ (b : Bool). server_with st (cond b st.recovery (with_text st.recovery None))) later)
+    ∙ sym (text_put (announced st) (with_text st.recovery None) (server_of st) (Some (text_of source front)))
+    ∙ ap (λ (t : Option ReceivedText). recovering (announced st) (with_text st.recovery t) (server_of st)) (sym text))
 
 -- a halted server keeps the same, whether the front is given out or not
 pub back_kept : (source : TextSource) (at : ℕ) (front : List ℕ) (x : State) → halted_from (server_with x (front_back source at front x.recovery)) ≡ halted_from (server_of x)
-back_kept source at front x = by (at == 0)
-  where
-    by : (b : Bool) → halted_from (server_with x (cond b x.recovery (with_text x.recovery (Some (text_of source front))))) ≡ halted_from (server_of x)
-    by true = refl
-    by false = ap halted_from (text_put (announced x) x.recovery (server_of x) (Some (text_of source front)))
+back_kept source at front x = cond_both (at == 0) _ _ (λ (r : RecoveryRecord). halted_from (server_with x r) ≡ halted_from (server_of x)) (λ _. refl)
+    (λ _. ap halted_from (text_put (announced x) x.recovery (server_of x) (Some (text_of source front))))
 
 pub taken_kept : (at : ℕ) (x : State) → halted_from (server_with x (front_taken at x.recovery)) ≡ halted_from (server_of x)
-taken_kept at x = by (at == 0)
-  where
-    by : (b : Bool) → halted_from (server_with x (cond b x.recovery (with_text x.recovery None))) ≡ halted_from (server_of x)
-    by true = refl
-    by false = ap halted_from (text_put (announced x) x.recovery (server_of x) None)
+taken_kept at x = cond_both (at == 0) _ _ (λ (r : RecoveryRecord). halted_from (server_with x r) ≡ halted_from (server_of x)) (λ _. refl)
+    (λ _. ap halted_from (text_put (announced x) x.recovery (server_of x) None))
 
 pub next_within : (at : ℕ) (text : Option ReceivedText) → IsNext at text → at ≤ length (received_bytes text)
 next_within at text next = ⊎_elim (λ first. omega (arith, first)) (λ goes. omega (arith, goes)) next
@@ -129,7 +118,3 @@ module _ {D : Type 0} (g : Ghosts D) {knows : Type 0} {t u : Stepped} {before af
     last = ends.last;
     member = here ∙ ends.member;
   }
-
--- the text with its last piece
-pub front_image : (source : TextSource) (at : ℕ) (bytes front whole : List ℕ) (text : Option ReceivedText) → front ≡ take at (received_bytes text) → whole ≡ front ++ bytes → whole ≡ take at (received_bytes text) ++ bytes
-front_image source at bytes front whole text is more = more ∙ ap (λ (xs : List ℕ). xs ++ bytes) is

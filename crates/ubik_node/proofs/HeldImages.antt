@@ -1,13 +1,14 @@
 -- The image of a store that has not failed: how long it is, and what a commit makes of it.
-use Rattle.std.proofs.Common.{◌≡◌, ◌∙◌, ℕ, List, length, replicate, Option, Some, None, IfSome, IsSome, sym, ap}
+use Rattle.std.proofs.Common.{◌≡◌, ◌∙◌, ◌-◌, ℕ, min, take, drop, List, length, replicate, Option, Some, None, IfSome, IsSome, sym, ap}
 use Rattle.std.specs.Prelude.{unwrap_or}
 use Rattle.std.specs.Option.{option_map}
-use Rattle.std.proofs.lemmas.List.{length-replicate}
+use Rattle.std.proofs.lemmas.List.{length-drop, length-replicate, take_min}
 use Rattle.ubik_types.specs.declared.images.Change.{Change}
 use Rattle.ubik_types.specs.Image.{effect}
 use Rattle.disk_base.specs.declared.disks.Disk.{Ghosts}
 use Rattle.disk_base.specs.Files.{Files}
-use Rattle.page_file.specs.Pages.{Known, AgreesIn}
+use Rattle.cell_model.specs.Pieces.{piece_from}
+use Rattle.page_file.specs.Pages.{Known, AgreesIn, image_of}
 use Rattle.ubik_store.specs.declared.stores.Store.{Store}
 use Rattle.ubik_store.specs.Store.{IsReady, image_in}
 use Rattle.server_state.specs.Held.{held_image}
@@ -30,3 +31,15 @@ pub held_after : (before after : Option Files) (len : ℕ) (changes : List Chang
 held_after None after len changes old image tells there is leads = absurd cc
 held_after (Some fs) after len changes old image tells there is leads =
     ap (λ (o : Option (List ℕ)). unwrap_or o (replicate len 0)) is ∙ ap (λ (bytes : List ℕ). effect bytes changes) there ∙ leads
+
+-- a piece that is cut from it
+piece_in : (image : List ℕ) (len at count : ℕ) → length image ≡ len → count ≡ min 8192 (len - at)
+    → take count (drop at image) ≡ piece_from image at
+piece_in image len at count long is = rw (is, ← long, ← length-drop at image) (take_min 8192 (drop at image))
+
+pub piece_is : (files : Option Files) (pages : Known) (len at count : ℕ) (piece : List ℕ) → AgreesIn pages files → pages.len ≡ len
+    → count ≡ min 8192 (len - at) → IfSome (image_in files) (λ image. piece ≡ take count (drop at image))
+    → IfSome (image_in files) (λ image. piece ≡ piece_from image at)
+piece_is None pages len at count piece agrees long is reads = tt
+piece_is (Some fs) pages len at count piece agrees long is reads =
+    reads ∙ piece_in (image_of fs.database) len at count (sym agrees.len ∙ long) is

@@ -1,5 +1,6 @@
 -- Changes from one image to another: how long the other one is, and when there are none.
 use Rattle.std.proofs.Common.{◌≡◌, ◌<◌, ◌≤◌, ◌+◌, ◌-◌, max, min, ℕ, None, List, [], ◌∷◌, length, refl, ap, ◌∙◌, inl, inr, arith}
+use Rattle.std.specs.Prelude.{Option, Some}
 use Rattle.std.proofs.lemmas.Bool.{cases_lt}
 use Rattle.std.proofs.lemmas.Grind.{common_steps}
 use Rattle.std.proofs.lemmas.Bool.Decides.{nat_tests}
@@ -9,7 +10,11 @@ use Rattle.ubik_types.specs.Image.{changed, effect}
 use Rattle.ubik_types.specs.Logged.{passed_limit, first_of_two, too_large}
 use Rattle.db_image.specs.Blocks.{changes_between}
 use Rattle.db_image.proofs.Laid.{changes_lead}
-use Rattle.ubik_node.proofs.Logging.{none_of_two}
+
+-- changes that pass no limit
+pub none_of_two : (a b : Option ℕ) → first_of_two a b ≡ None → (a ≡ None) × (b ≡ None)
+none_of_two None b is = (refl, is)
+none_of_two (Some a) b is = absurd cc
 
 -- a limit that is not passed
 within : (sum end : ℕ) → passed_limit sum end ≡ None → end ≤ 16777216

@@ -1,20 +1,11 @@
 -- The least of some ids.
-use Rattle.std.proofs.Common.{◌≡◌, ℕ, ◌+◌, ◌<◌, ◌≤◌, Option, Some, None, List, [], ◌∷◌, ◌++◌, length, map, take, slice_get, refl, sym, ap, ◌∙◌, append_assoc, arith}
-use Rattle.std.specs.List.{Contains}
+use Rattle.std.proofs.Common.{◌≡◌, ℕ, ◌+◌, ◌<◌, Option, Some, None, List, [], ◌∷◌, ◌++◌, length, map, take, slice_get, refl, sym, ap, ◌∙◌, append_assoc}
 use Rattle.std.specs.Option.{option_map}
 use Rattle.std.proofs.lemmas.List.{map-append, take_more}
 use Rattle.std.proofs.lemmas.Option.{get_or_from_slice_get}
 use Rattle.std.specs.Prelude.{option_to_list}
-use Rattle.std.proofs.lemmas.List.Elements.{All-nil, All-push}
 use Rattle.cell_model.specs.Node.{Flight, Waiting}
-use Rattle.ubik_node.specs.Unanswered.{IsLeastOf, ids_of}
-
-contains_one : (id : ℕ) → Contains (id ∷ []) id
-contains_one id = (0, omega arith, refl)
-
--- the only one
-pub least_one : (id : ℕ) → IsLeastOf (Some id) (id ∷ [])
-least_one id = (contains_one id, All-push (λ (other : ℕ). id ≤ other) [] id (All-nil (λ (other : ℕ). id ≤ other)) (omega arith))
+use Rattle.ubik_node.specs.Unanswered.{ids_of}
 
 -- the ids up to a place, and the one there
 pub ids_more : (flight : Option Flight) (waiting : List Waiting) (place id : ℕ) → place < length waiting → option_map (λ (w : Waiting). w.id) (slice_get waiting place) ≡ Some id

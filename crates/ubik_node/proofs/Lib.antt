@@ -1,11 +1,8 @@
 pub mod AfterReads
 pub mod Alike
-pub mod Alone
-pub mod Begun
 pub mod Calling
 pub mod Closing
 pub mod Committing
-pub mod Cut
 pub mod Decided
 pub mod Durables
 pub mod Ended
@@ -16,10 +13,8 @@ pub mod Fronts
 pub mod Gapless
 pub mod HeldImages
 pub mod Images
-pub mod Lapsed
 pub mod Least
 pub mod Lending
-pub mod Logging
 pub mod Made
 pub mod MadeOver
 pub mod Places
@@ -28,8 +23,6 @@ pub mod Reading
 pub mod Received
 pub mod Relabelled
 pub mod Rested
-pub mod Senders
-pub mod Served
 pub mod ShortTexts
 pub mod Stepping
 pub mod Stored

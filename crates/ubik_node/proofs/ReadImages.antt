@@ -1,6 +1,6 @@
 -- The image of a store that is lent, after a read of it.
-use Rattle.std.proofs.Common.{◌≡◌, ◌≢◌, ◌∙◌, ℕ, Bool, true, false, List, Option, Some, None, IsSome, refl, sym, ap, subst}
-use Rattle.std.specs.Prelude.{Result, Ok, Err, OnOk, IfErr, IsErrOf, is_ok}
+use Rattle.std.proofs.Common.{◌≡◌, ◌∙◌, Bool, true, false, Option, refl, sym, ap, subst}
+use Rattle.std.specs.Prelude.{Result, Ok, Err, OnOk, IfErr, IsErrOf}
 use Rattle.std.proofs.lemmas.Bool.{false≢true}
 use Rattle.disk_base.specs.declared.disks.Disk.{Ghosts}
 use Rattle.disk_base.specs.Files.{Files}

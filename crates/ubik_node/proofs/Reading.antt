@@ -19,7 +19,7 @@ use Rattle.cell_model.specs.declared.events.Output.{Output}
 use Rattle.cell_model.specs.declared.events.Output.TheVariants as output
 use Rattle.cell_model.specs.Asks.{read_reply}
 use Rattle.cell_model.specs.Evaluating.{Evaluated, MayCome, outcome_told}
-use Rattle.cell_model.specs.Node.{Flight}
+use Rattle.cell_model.specs.Node.{Flight, Server}
 use Rattle.cell_model.specs.Step.{Evaluation, Stepped}
 use Rattle.site_writes.specs.OwnWrite.{OwnRecord}
 use Rattle.ubik_node.specs.declared.evaluations.Evaluation as code
@@ -28,7 +28,6 @@ use Rattle.ubik_node.specs.Evaluation.{IsOutcome}
 use Rattle.ubik_node.specs.Node.{Held, IsKept}
 use Rattle.ubik_node.specs.Serving.{IsReadReply, ReadsFrom}
 use Rattle.server_state.specs.State.{ShowsBehind}
-use Rattle.cell_model.specs.Node.{Server}
 use Rattle.ubik_node.proofs.Durables.{IsThere}
 use Rattle.ubik_node.proofs.Evaluated.{one_chosen}
 use Rattle.ubik_node.proofs.Endings.{failed_ends, ok_not, read_ends}

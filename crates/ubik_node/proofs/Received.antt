@@ -1,28 +1,15 @@
 -- What a server takes over of another one's database.
-use Rattle.std.proofs.Common.{◌≡◌, ◌≤◌, ◌+◌, ◌++◌, ◌==◌, ℕ, zero, suc, Bool, true, false, cond, Option, Some, None, IfSome, IsSome, List, [], ◌∷◌, length, take, drop, replicate, refl, sym, ap, ◌∙◌, arith}
-use Rattle.std.proofs.lemmas.List.{append-nil, take_all}
+use Rattle.std.proofs.Common.{◌≡◌, ◌≤◌, ◌==◌, ℕ, Bool, true, false, cond, Option, Some, None, IfSome, IsSome, List, length, take, replicate, refl, sym, ap, ◌∙◌, arith}
+use Rattle.std.proofs.lemmas.List.{take_all}
 use Rattle.std.proofs.lemmas.Bool.Decides.{nat_tests}
 use Rattle.std.specs.Prelude.{unwrap_or}
-use Rattle.ubik_types.specs.declared.images.Change.TheVariants.{Cut, Put}
-use Rattle.ubik_types.specs.Image.{effect, extended}
 use Rattle.disk_base.specs.Files.{Files}
 use Rattle.ubik_store.specs.Store.{image_in}
 use Rattle.cell_model.specs.Node.{ReceivedText}
 use Rattle.cell_model.specs.Recovery.{continues, text_continued, text_with}
 use Rattle.ubik_recovery.specs.declared.texts.TextSource.{TextSource}
 use Rattle.ubik_recovery.specs.Text.{received_bytes, text_of}
-use Rattle.server_rules.proofs.Fetches.{take_zero}
 use Rattle.server_state.specs.Held.{held_image}
-
-drop_none : {A : Type 0} (n : ℕ) → ◌≡◌ {A = List A} (drop n []) []
-drop_none zero = refl
-drop_none (suc n) = refl
-
--- an install leads to its image
-pub effect_whole : (image text : List ℕ) → effect image (Cut 0 ∷ Put 0 text ∷ []) ≡ text
-effect_whole image text =
-    ap (λ (i : List ℕ). take 0 (extended i 0) ++ text ++ drop (0 + length text) i) (take_zero image)
-    ∙ ap (λ (x : List ℕ). x ++ text ++ drop (0 + length text) []) (take_zero (extended [] 0)) ∙ ap (λ (x : List ℕ). text ++ x) (drop_none (0 + length text)) ∙ append-nil text
 
 -- the image that the store holds after it
 pub held_text : (before after : Option Files) (len : ℕ) (text bytes : List ℕ) → IsSome before → IfSome before (λ _. image_in after ≡ Some text) → bytes ≡ held_image after len → bytes ≡ text

@@ -5,7 +5,7 @@ use Rattle.std.proofs.lemmas.Bool.Decides.{nat_tests}
 use Rattle.std.proofs.lemmas.List.{map-append}
 use Rattle.ubik_types.specs.declared.hosts.Host.{Host}
 use Rattle.ubik_types.specs.declared.versions.Version.{Version}
-use Rattle.ubik_types.specs.Phase.{Polled, PhaseRecord, Send, Ready}
+use Rattle.ubik_types.specs.Phase.{Polled, PhaseRecord, Spread, Send, Ready}
 use Rattle.ubik_types.specs.Quorum.{is_majority}
 use Rattle.disk_base.specs.Files.{Files}
 use Rattle.ubik_store.specs.Store.{image_in}
@@ -14,9 +14,10 @@ use Rattle.cell_model.specs.Node.{Flight, Server}
 use Rattle.cell_model.specs.Pieces.{piece_from}
 use Rattle.cell_model.specs.Polls.{entry_at}
 use Rattle.cell_model.specs.Recovery.{spread_answer}
-use Rattle.cell_model.specs.Step.{Member, Shown, Stepped, cell_size, outputs_of, sends_from, sends_to_each}
+use Rattle.cell_model.specs.Step.{Member, Shown, Stepped, announcing, cell_size, outputs_of, quiet, showing, with_phase}
+use Rattle.cell_model.specs.Step.{sends_from, sends_to_each}
 use Rattle.cell_model.specs.declared.events.Output.{Output}
-use Rattle.cell_model.specs.Writes.{settled, settled_in}
+use Rattle.cell_model.specs.Writes.{ended_write, flight_settled, settled, settled_in}
 use Rattle.server_rules.proofs.Turns.{sends_same}
 use Rattle.server_state.specs.declared.spreading.Given.{Given}
 use Rattle.server_state.specs.Spreading.{given_bodies}
@@ -45,13 +46,10 @@ spread_same m poll old after total piece inside long first = by (ltb 1 (length m
     by : (b : Bool) → ltb 1 (length m.hosts) ≡ b
         → sends_to_each m (λ k. given_bodies (given_as poll.number old after.version total piece) (entry_at poll.answers k)) ≡ sends_to_each m (λ k. spread_answer after poll old (entry_at poll.answers k))
     by true more =
-        ap (λ (n : ℕ). sends_to_each m (λ k. given_bodies (given_as poll.number old after.version n piece) (entry_at poll.answers k))) long
-        ∙ ap (λ (bytes : List ℕ). sends_to_each m (λ k. given_bodies (given_as poll.number old after.version (length after.image) bytes) (entry_at poll.answers k))) (first (grind (arith, nat_tests)))
-        ∙ sends_same m 0 m.hosts (λ k. given_bodies (given_as poll.number old after.version (length after.image) (piece_from after.image 0)) (entry_at poll.answers k)) (λ k. spread_answer after poll old (entry_at poll.answers k))
-        (λ k. bodies_same poll old after (entry_at poll.answers k))
+        rw (long, first (grind (arith, nat_tests))) (sends_same m 0 m.hosts _ _ (λ k. bodies_same poll old after (entry_at poll.answers k)))
     by false few =
-        alone_sends m (λ k. given_bodies (given_as poll.number old after.version total piece) (entry_at poll.answers k)) (grind (arith, nat_tests)) inside
-        ∙ sym (alone_sends m (λ k. spread_answer after poll old (entry_at poll.answers k)) (grind (arith, nat_tests)) inside)
+        let one : length m.hosts ≤ 1 = grind (arith, nat_tests) in
+        alone_sends m _ one inside ∙ sym (alone_sends m _ one inside)
 
 -- what a relabelling puts out
 pub relabel_outputs : (m : Member) (poll : Polled) (old : Version) (after : Server) (number total : ℕ) (piece : List ℕ) (first mid last : List Output) (rest : List Shown) → m.me < length m.hosts → number ≡ poll.number
@@ -59,24 +57,31 @@ pub relabel_outputs : (m : Member) (poll : Polled) (old : Version) (after : Serv
     → mid ≡ first ++ outputs_of (sends_to_each m (λ k. given_bodies (given_as number old after.version total piece) (entry_at poll.answers k))) → last ≡ mid ++ outputs_of rest
     → last ≡ first ++ outputs_of (sends_to_each m (λ k. spread_answer after poll old (entry_at poll.answers k)) ++ rest)
 relabel_outputs m poll old after number total piece first mid last rest inside same long starts given then =
-    let sent = sends_to_each m (λ k. spread_answer after poll old (entry_at poll.answers k)) in
-    let is : mid ≡ first ++ outputs_of sent = given
-    ∙ ap (λ (n : ℕ). first ++ outputs_of (sends_to_each m (λ k. given_bodies (given_as n old after.version total piece) (entry_at poll.answers k)))) same
-    ∙ ap (λ (shown : List Shown). first ++ outputs_of shown) (spread_same m poll old after total piece inside long starts) in
-    then ∙ ap (λ (o : List Output). o ++ outputs_of rest) is ∙ append_assoc first (outputs_of sent) (outputs_of rest)
-    ∙ ap (λ (o : List Output). first ++ o) (sym (map-append (λ (one : Shown). one.output) sent rest))
+    rw (then, given, same, spread_same m poll old after total piece inside long starts) (simp (append_assoc, map-append))
 
 -- a piece that was read is one of the image
 pub piece_known : (files : Option Files) (piece image : List ℕ) (at : ℕ) → IsSome files → IfSome (image_in files) (λ there. piece ≡ piece_from there at) → IfSome (image_in files) (λ there. there ≡ image) → piece ≡ piece_from image at
 piece_known None piece image at told is there = absurd cc
 piece_known (Some fs) piece image at told is there = is ∙ ap (λ (bytes : List ℕ). piece_from bytes at) there
 
--- what holders lead to makes no durable call
-settled_by : (m : Member) (s : Server) (phase : PhaseRecord) (flight : Option Flight) → (settled_in m (record s { flight = flight }) phase).calls ≡ []
-settled_by m s (Send poll spread) flight = cond_both (is_majority (cell_size m) spread.holders) _ _ (λ (t : Stepped). t.calls ≡ []) (λ _. refl) (λ _. refl)
-settled_by m s (Ready poll spread announced) None = refl
-settled_by m s (Ready poll spread announced) (Some f) = cond_both (is_majority (cell_size m) spread.holders) _ _ (λ (t : Stepped). t.calls ≡ []) (λ _. refl) (λ _. refl)
-settled_by m s other flight = refl
+-- what holders lead to: a version that was sent is announced, a write is over, or nothing changes
+pub settled_is : (m : Member) (s : Server) (P : Stepped → Type 0) → P (quiet s)
+    → ((poll : Polled) (spread : Spread) → s.phase ≡ Send poll spread → P (showing (with_phase s (Ready poll spread s.version)) (announcing s.version ∷ [])))
+    → ((poll : Polled) (spread : Spread) (announced : Version) (f : Flight) → s.phase ≡ Ready poll spread announced → P (ended_write s f poll spread announced))
+    → P (settled m s)
+settled_is m s P rests sent over = by s.phase refl
+  where
+    by_flight : (poll : Polled) (spread : Spread) (announced : Version) → s.phase ≡ Ready poll spread announced → (o : Option Flight)
+        → P (flight_settled m s poll spread announced o)
+    by_flight poll spread announced is None = rests
+    by_flight poll spread announced is (Some f) =
+        cond_both (is_majority (cell_size m) spread.holders) _ _ P (λ _. over poll spread announced f is) (λ _. rests)
 
+    by : (p : PhaseRecord) → s.phase ≡ p → P (settled_in m s p)
+    by (Send poll spread) is = cond_both (is_majority (cell_size m) spread.holders) _ _ P (λ _. sent poll spread is) (λ _. rests)
+    by (Ready poll spread announced) is = by_flight poll spread announced is s.flight
+    by other is = rests
+
+-- no durable call
 pub settled_calls : (m : Member) (s : Server) → (settled m s).calls ≡ []
-settled_calls m s = settled_by m s s.phase s.flight
+settled_calls m s = settled_is m s (λ (t : Stepped). t.calls ≡ []) refl (λ poll spread is. refl) (λ poll spread announced f is. refl)

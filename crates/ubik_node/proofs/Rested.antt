@@ -1,18 +1,18 @@
 -- A step after the lapse.
-use Rattle.std.proofs.Common.{◌≡◌, ℕ, zero, suc, Bool, true, false, cond, Option, Some, None, List, [], ◌∷◌, ◌++◌, drop, replicate, refl, sym, ap, ◌∙◌}
+use Rattle.std.proofs.Common.{◌≡◌, ℕ, zero, suc, Bool, false, Option, Some, None, List, [], ◌∷◌, ◌++◌, drop, replicate, refl, sym, ap, ◌∙◌}
 use Rattle.std.specs.Prelude.{count_by}
+use Rattle.std.proofs.lemmas.Bool.{cond_both}
 use Rattle.ubik_types.specs.declared.phases.Phase.{Phase}
 use Rattle.ubik_types.specs.declared.phases.Phase.TheVariants as phase
 use Rattle.ubik_types.specs.declared.versions.Version.{Version}
 use Rattle.ubik_types.specs.Phase.{phase_of}
 use Rattle.cell_model.specs.Evaluating.{Databases}
 use Rattle.cell_model.specs.declared.events.NodeEvent.{NodeEvent}
-use Rattle.cell_model.specs.Durable.{Made}
 use Rattle.cell_model.specs.Lapse.{lapsed}
 use Rattle.cell_model.specs.Node.{HaltedServer, ReceivedText, Server, halted_from}
 use Rattle.cell_model.specs.NodeRule.{step_by, handled}
-use Rattle.cell_model.specs.Step.{Member, Shown, Stepped, is_reply}
-use Rattle.ubik_recovery.specs.Record.{RecoveryRecord, is_fetch, phase_record, record_in, restored, with_text}
+use Rattle.cell_model.specs.Step.{Member, Shown, is_reply}
+use Rattle.ubik_recovery.specs.Record.{RecoveryRecord, is_fetch, phase_record, record_in, restored}
 use Rattle.server_state.specs.declared.lapse.Dropped.{Dropped}
 use Rattle.server_state.specs.declared.state.State.{State}
 use Rattle.server_state.specs.Lapsing.{returned}
@@ -23,13 +23,17 @@ use Rattle.server_state.specs.Writing.{announced_of, flight_of, own_of, waiting_
 abbrev pub short_behind : List Shown → List Bool → List Bool
 short_behind shown short = replicate (count_by (λ (one : Shown). is_reply one.output) shown) false ++ short
 
-pub drop_none : (short : List Bool) → drop 0 short ≡ short
+pub drop_none : {A : Type 0} (xs : List A) → drop 0 xs ≡ xs
 drop_none [] = refl
-drop_none (first ∷ short) = refl
+drop_none (first ∷ rest) = refl
 
 pub drop_past : (n : ℕ) (short : List Bool) → drop n (replicate n false ++ short) ≡ short
 drop_past zero short = drop_none short
 drop_past (suc n) short = drop_past n short
+
+-- what is so of the server that the lapse leaves, at its place
+pub lapsed_there : (P : Member → Server → Type 0) {m at : Member} {s mid : Server} → s ≡ mid → at ≡ m → P m s → P at mid
+lapsed_there P is same so = rw (same, ← is) so
 
 -- a step shows what the lapse shows, and then is what the event makes of the server that the lapse leaves
 pub step_comes : (dbs : Databases) (m : Member) (s mid : Server) (now : ℕ) (e : NodeEvent) (short : List Bool) → (lapsed m s now).server ≡ mid → (lapsed m s now).calls ≡ []
@@ -37,12 +41,7 @@ pub step_comes : (dbs : Databases) (m : Member) (s mid : Server) (now : ℕ) (e 
     step_by dbs m s now e (short_behind (lapsed m s now).shown short) ≡ record { server = u.server; calls = u.calls; shown = (lapsed m s now).shown ++ u.shown })
 unfolding step_by
 step_comes dbs m s mid now e short server calls =
-    let t = lapsed m s now in
-    let at : Server → List Bool → List Made → Stepped = λ x choices before.
-    record { server = (handled dbs m x now e choices).server; calls = before ++ (handled dbs m x now e choices).calls; shown = t.shown ++ (handled dbs m x now e choices).shown } in
-    ap (λ (choices : List Bool). at t.server choices t.calls) (drop_past (count_by (λ (one : Shown). is_reply one.output) t.shown) short)
-    ∙ ap (λ (x : Server). at x short t.calls) server
-    ∙ ap (λ (before : List Made). at mid short before) calls
+    rw (drop_past (count_by (λ (one : Shown). is_reply one.output) (lapsed m s now).shown) short, server, calls) refl
 
 -- what is given out comes back over what the server received since
 abbrev left_over : RecoveryRecord → Option ReceivedText → RecoveryRecord
@@ -58,18 +57,10 @@ back_over d s =
     }
 
 restored_phase : (given left : RecoveryRecord) → (restored given left).phase ≡ given.phase
-restored_phase given left = by (is_fetch given.phase)
-  where
-    by : (b : Bool) → (cond b given (with_text given left.text)).phase ≡ given.phase
-    by true = refl
-    by false = refl
+restored_phase given left = cond_both (is_fetch given.phase) _ _ (λ (r : RecoveryRecord). r.phase ≡ given.phase) (λ _. refl) (λ _. refl)
 
 pub phase_is : (v : Version) (r : RecoveryRecord) → phase_of (phase_record v r) ≡ r.phase
-phase_is v r = by r.phase
-  where
-    by : (p : Phase) → phase_of (record_in p v r) ≡ p
-    by phase.None = refl
-    by other = refl
+phase_is v r = elim r.phase as (λ (p : Phase). phase_of (record_in p v r) ≡ p) [ phase.None ↦ refl | _ ↦ refl ]
 
 abbrev in_phase : HaltedServer → Phase → HaltedServer
 in_phase h p = record h { phase = p }

@@ -9,7 +9,7 @@ use Rattle.ubik_types.specs.Logged.{passed_limit, first_of_two, too_large}
 use Rattle.db_image.specs.Blocks.{PutSome, PutsSome}
 use Rattle.xdr_base.specs.ChangeText.{change_spelling, text_of}
 use Rattle.xdr_base.specs.Spelling.{padding}
-use Rattle.ubik_node.proofs.Logging.{none_of_two}
+use Rattle.ubik_node.proofs.Images.{none_of_two}
 
 -- a limit that is not passed
 few : (sum end : ℕ) → passed_limit sum end ≡ None → sum ≤ 1048576

@@ -8,9 +8,7 @@ use Rattle.std.proofs.lemmas.Bool.{false≢true}
 use Rattle.std.proofs.lemmas.List.{append-nil, map-append, take_all}
 use Rattle.ubik_types.specs.declared.images.Change.{Change}
 use Rattle.ubik_types.specs.Logged.{too_large}
-use Rattle.ubik_types.specs.Phase.{PhaseRecord, Polled, Spread, NoPhase, Send, Ready, phase_of}
-use Rattle.ubik_types.specs.Quorum.{is_majority}
-use Rattle.ubik_types.specs.declared.versions.Version.{Version}
+use Rattle.ubik_types.specs.Phase.{PhaseRecord, NoPhase, Ready, phase_of}
 use Rattle.disk_base.specs.declared.disks.Disk.{Ghosts}
 use Rattle.db_image.specs.declared.services.CallReply.{CallReply}
 use Rattle.db_image.specs.declared.services.CallReply.TheVariants as call_reply
@@ -21,11 +19,10 @@ use Rattle.ubik_store.proofs.Telling.{ok_map}
 use Rattle.cell_model.specs.declared.events.Output.{Output}
 use Rattle.cell_model.specs.Durable.{Made}
 use Rattle.cell_model.specs.Evaluating.{Databases, behind_first}
-use Rattle.cell_model.specs.Node.{Flight, Server, Waiting, halted_from}
-use Rattle.cell_model.specs.Step.{Member, Shown, Stepped, announcing, cell_size, followed, is_ready, is_reply, is_short, outputs_of}
-use Rattle.cell_model.specs.Step.{quiet, short_after, showing, with_phase}
-use Rattle.cell_model.specs.Writes.{ended_write, flight_settled, is_free, is_free_in, last_counter, next_turns, settled, settled_in}
-use Rattle.cell_model.specs.Writes.{settled_with_turns, turned, write_turn, written_in, written_within}
+use Rattle.cell_model.specs.Node.{Server, Waiting, halted_from}
+use Rattle.cell_model.specs.Step.{Member, Shown, Stepped, cell_size, followed, is_ready, is_reply, is_short, outputs_of, quiet, short_after}
+use Rattle.cell_model.specs.Writes.{is_free, is_free_in, last_counter, next_turns, settled, settled_with_turns, turned}
+use Rattle.cell_model.specs.Writes.{write_turn, written_in, written_within}
 use Rattle.site_writes.specs.OwnWrite.{OwnRecord}
 use Rattle.ubik_node.specs.Disk.{FailsIn}
 use Rattle.ubik_node.specs.Node.{Ends, Held, IsMade, durable_in}
@@ -37,6 +34,7 @@ use Rattle.ubik_node.proofs.Committing.{one_is_few}
 use Rattle.ubik_node.proofs.Durables.{fails_none}
 use Rattle.ubik_node.proofs.Decided.{decided_ends}
 use Rattle.ubik_node.proofs.Endings.{ends_as, never_short, same_ends}
+use Rattle.ubik_node.proofs.Relabelled.{settled_is}
 use Rattle.ubik_node.proofs.Rested.{drop_none, drop_past}
 
 -- no write can begin where one is in flight
@@ -119,10 +117,7 @@ module _ {D : Type 0} (g : Ghosts D) {knows : Type 0} {t : Stepped} {before afte
 -- ---- a turn
 
 followed_rest : (t : Stepped) (next : Server → Stepped) → next t.server ≡ quiet t.server → followed t next ≡ t
-followed_rest t next is =
-    ap (λ (u : Stepped). stepped u.server (t.calls ++ u.calls) (t.shown ++ u.shown)) is
-    ∙ ap (λ (calls : List Made). stepped t.server calls (t.shown ++ [])) (append-nil t.calls)
-    ∙ ap (λ (shown : List Shown). stepped t.server t.calls shown) (append-nil t.shown)
+followed_rest t next is = rw (is, append-nil t.calls, append-nil t.shown) refl
 
 module _ (dbs : Databases) (m : Member) (s : Server) (now : ℕ) (w : Waiting) (waiting : List Waiting) (b : Bool) (free : is_free s ≡ true)
     (line : s.waiting ≡ w ∷ waiting) where
@@ -145,19 +140,12 @@ module _ (dbs : Databases) (m : Member) (s : Server) (now : ℕ) (w : Waiting) (
       → (let u = next_turns (behind_first dbs) m now waiting (with_line s waiting) short in
       next_turns dbs m now s.waiting s (b ∷ short) ≡ stepped u.server u.calls (turn.shown ++ u.shown))
   turn_then short same calls one =
-      let at : Server → List Bool → List Made → Stepped = λ x choices made.
-      (let u = next_turns (behind_first dbs) m now waiting x choices in
-      stepped u.server (made ++ u.calls) (turn.shown ++ u.shown)) in
-      first_turn short
-      ∙ ap (λ (choices : List Bool). at turn.server choices turn.calls) (ap (λ (k : ℕ). drop k (b ∷ short)) one ∙ drop_none short)
-      ∙ ap (λ (x : Server). at x short turn.calls) same
-      ∙ ap (λ (made : List Made). at (with_line s waiting) short made) calls
+      first_turn short ∙ rw (one, drop_none short, same, calls) refl
 
 named : (db : Database) (now : ℕ) (w : Waiting) (b : Bool) (m place : Member) (s t : Server) → place ≡ m → s ≡ t
     → write_turn db m t now w.id w.call b ≡ write_turn db place s now w.id w.call b
 named db now w b m place s t at is =
-    ap (λ (k : Member). write_turn db k t now w.id w.call b) (sym at) ∙ ap (λ (x : Server). write_turn db place x now w.id w.call b)
-    (sym is)
+    rw (at, is) refl
 
 -- an end that is known
 pub named_as : {D : Type 0} (g : Ghosts D) {knows : Type 0} {t : Stepped} {before after : List Output} {n m : Held D}
@@ -267,61 +255,22 @@ pub settled_comes : (dbs : Databases) (m : Member) (s mid : Server) (now : ℕ) 
     settled_with_turns dbs m s now (replicate (replies (settled m s).shown) false ++ short) ≡ stepped u.server u.calls
     ((settled m s).shown ++ u.shown))
 settled_comes dbs m s mid now short server calls =
-    let t = settled m s in
-    let at : Server → List Bool → List Made → Stepped = λ x choices made.
-    (let u = next_turns dbs m now x.waiting x choices in
-    stepped u.server (made ++ u.calls) (t.shown ++ u.shown)) in
-    ap (λ (choices : List Bool). at t.server choices t.calls) (drop_past (replies t.shown) short)
-    ∙ ap (λ (x : Server). at x short t.calls) server
-    ∙ ap (λ (made : List Made). at mid short made) calls
+    rw (drop_past (replies (settled m s).shown) short, server, calls) refl
 
-module _ (m : Member) (s : Server) where
-  ended_keeps : (poll : Polled) (spread : Spread) (announced : Version) → s.phase ≡ Ready poll spread announced → (o : Option Flight)
-      → halted_from (flight_settled m s poll spread announced o).server ≡ halted_from s
-  ended_keeps poll spread announced is None = refl
-  ended_keeps poll spread announced is (Some f) = by (is_majority (cell_size m) spread.holders)
-    where
-      by : (b : Bool) → halted_from (cond b (ended_write s f poll spread announced) (quiet s)).server ≡ halted_from s
-      by true = ap (λ (p : PhaseRecord). record (halted_from s) { phase = phase_of p }) (sym is)
-      by false = refl
+pub settled_line : (m : Member) (s : Server) → (settled m s).server.waiting ≡ s.waiting
+settled_line m s =
+    settled_is m s (λ (t : Stepped). t.server.waiting ≡ s.waiting) refl (λ poll spread is. refl) (λ poll spread announced f is. refl)
 
-  -- a server that serves goes on to, as a halted one tells
-  pub settled_keeps : is_ready s.phase ≡ true → halted_from (settled m s).server ≡ halted_from s
-  settled_keeps ready = by s.phase refl ready
-    where
-      by : (p : PhaseRecord) → s.phase ≡ p → is_ready p ≡ true → halted_from (settled_in m s p).server ≡ halted_from s
-      by (Ready poll spread announced) is ready = ended_keeps poll spread announced is s.flight
-      by other is ready = absurd (false≢true ready)
-
-  ended_line : (poll : Polled) (spread : Spread) (announced : Version) (o : Option Flight)
-      → (flight_settled m s poll spread announced o).server.waiting ≡ s.waiting
-  ended_line poll spread announced None = refl
-  ended_line poll spread announced (Some f) = by (is_majority (cell_size m) spread.holders)
-    where
-      by : (b : Bool) → (cond b (ended_write s f poll spread announced) (quiet s)).server.waiting ≡ s.waiting
-      by true = refl
-      by false = refl
-
-  pub settled_line : (settled m s).server.waiting ≡ s.waiting
-  settled_line = by s.phase
-    where
-      by_majority : (poll : Polled) (spread : Spread) (b : Bool)
-          → (cond b (showing (with_phase s (Ready poll spread s.version)) (announcing s.version ∷ [])) (quiet s)).server.waiting ≡ s.waiting
-      by_majority poll spread true = refl
-      by_majority poll spread false = refl
-
-      by : (p : PhaseRecord) → (settled_in m s p).server.waiting ≡ s.waiting
-      by (Send poll spread) = by_majority poll spread (is_majority (cell_size m) spread.holders)
-      by (Ready poll spread announced) = ended_line poll spread announced s.flight
-      by other = refl
-
--- so does one at which nobody waits, or one whose disk does not fail
+-- A server that serves goes on to, as a halted one tells; so does one at which nobody waits, or one whose disk does not fail.
 pub settled_halts : (m : Member) (s mid : Server) → (settled m s).server ≡ mid
     → (is_ready s.phase ≡ false → halted_from mid ≡ halted_from s) → halted_from mid ≡ halted_from s
 settled_halts m s mid is rests = by (is_ready s.phase) refl
   where
     by : (b : Bool) → is_ready s.phase ≡ b → halted_from mid ≡ halted_from s
-    by true ready = sym (ap halted_from is) ∙ settled_keeps m s ready
+    by true ready =
+        sym (ap halted_from is) ∙ settled_is m s (λ (t : Stepped). halted_from t.server ≡ halted_from s) refl
+        (λ poll spread sends. absurd (false≢true (ap is_ready (sym sends) ∙ ready)))
+        (λ poll spread announced f serves. ap (λ (p : PhaseRecord). record (halted_from s) { phase = phase_of p }) (sym serves))
     by false ready = rests ready
 
 -- ---- the line

@@ -1,31 +1,27 @@
 -- Two durable calls of a store, one after the other.
-use Rattle.std.proofs.Common.{◌≡◌, ◌≤◌, ◌+◌, ◌≢◌, ◌++◌, ⊎_elim, inl, inr, ℕ, zero, suc, Bool, true, false, List, [], ◌∷◌, length, take, Option, Some, None, IfSome, IsSome, IsErrOf, Ok, Err, refl, sym, ap, subst, ◌∙◌, arith}
-use Rattle.std.specs.Prelude.{◌==◌, nat_lt, not, if◌then◌else◌}
+use Rattle.std.proofs.Common.{◌≡◌, ◌+◌, ◌≢◌, ◌++◌, ⊎_elim, inl, inr, ℕ, suc, Bool, true, false, List, [], ◌∷◌, length, take, Option, Some, None, IfSome, IsSome, IsErrOf, Ok, Err, refl, sym, ap, subst, ◌∙◌, arith}
+use Rattle.std.specs.Prelude.{◌==◌, nat_lt, not}
 use Rattle.std.proofs.lemmas.Bool.{false≢true}
 use Rattle.std.proofs.lemmas.Bool.Decides.{nat_tests}
-use Rattle.ubik_types.specs.declared.images.Change.{Change}
-use Rattle.ubik_types.specs.declared.limits.TheConstants.{MAX_IMAGE}
+use Rattle.std.proofs.lemmas.Option.{IfSome_then}
 use Rattle.ubik_types.specs.declared.versions.Version.{Version}
 use Rattle.ubik_types.specs.Image.{effect}
 use Rattle.ubik_types.specs.Version.{version_lt, zero_version}
 use Rattle.disk_base.specs.declared.disks.Disk.{Ghosts}
-use Rattle.disk_base.specs.Crash.{LeavesOnly, Narrows, RisesAtMost}
+use Rattle.disk_base.specs.Crash.{RisesAtMost}
 use Rattle.disk_base.specs.Files.{Files}
 use Rattle.disk_base.specs.Stops.{Advances, DiskStop, IsStopped, after_changes}
 use Rattle.disk_base.proofs.Runs.{joined, widened}
 use Rattle.disk_base.proofs.Stopping.{after_changes-add}
 use Rattle.page_file.specs.declared.label.TheConstants.{LABEL_LEN}
-use Rattle.page_file.specs.Label.{version_by, version_of_database, version_of_label}
+use Rattle.page_file.specs.Label.{version_of_database}
 use Rattle.ubik_store.specs.declared.stores.Store.{Store}
-use Rattle.page_file.specs.Pages.{image_of}
 use Rattle.ubik_store.specs.declared.faults.StoreFault.{StoreFault}
 use Rattle.ubik_store.specs.declared.faults.StoreFault.TheVariants.{DiskFault, BadLabel, TooLarge, NotNewer, NoMemory}
 use Rattle.ubik_store.specs.DurableCall.{Commits, EndsAs, IsDurable, IsDurableIn, IsNeverLong, Rewrites}
 use Rattle.ubik_store.specs.Rewrite.{Rewrite, rewritten, rewrite_calls, most_calls, KeepsPuts}
 use Rattle.ubik_store.specs.Rewrite.Rewrite.{Changed}
-use Rattle.ubik_store.specs.Gaps.{CutsNoPut, IsPlain}
-use Rattle.ubik_store.specs.Moments.{head_calls}
-use Rattle.ubik_store.specs.Rest.{IsAtRest}
+use Rattle.ubik_store.specs.Gaps.{IsPlain}
 use Rattle.ubik_store.specs.Store.{IsReady, IsSound, image_in}
 use Rattle.ubik_store.proofs.Applied.{calls_as, calls_joined}
 use Rattle.ubik_store.proofs.Telling.{told, of_told}
@@ -36,7 +32,7 @@ use Rattle.cell_model.specs.Step.{Member, Stepped, outputs_of}
 use Rattle.ubik_node.specs.Disk.{FailsIn, LeavesWithin, Serves, StandsAs, StandsBetween, StandsWithin, TakenCutsNoPut, calls_made, has_label}
 use Rattle.ubik_node.specs.Node.{Ends, Held, IsKept, durable_in}
 use Rattle.ubik_node.proofs.Calling.{call_failed, ended, failed_leaves, told_by}
-use Rattle.ubik_node.proofs.Durables.{CallsAs, IsThere, calls_one, fails_one, image_then, leaves_one, serves_one}
+use Rattle.ubik_node.proofs.Durables.{CallsAs, IsThere, calls_one, fails_one, image_then, leaves_one, none_or_one, serves_one}
 use Rattle.ubik_node.proofs.Endings.{ends_as, made_ends, reads_none}
 
 -- a database file that is shorter than a label is an empty one, of the first version
@@ -45,12 +41,8 @@ unfolding version_of_database
 unlabelled file v is short = by (length file == 0) refl
   where
     by : (b : Bool) → (length file == 0) ≡ b → v ≡ zero_version
-    by true empty =
-        let first : Some zero_version ≡ Some v = sym (ap (λ (b : Bool). if b then Some zero_version else version_by (length file) (take LABEL_LEN file)) empty) ∙ is in cc
-    by false some =
-        let none : None ≡ Some v =
-        sym (ap (λ (b : Bool). if b then Some zero_version else version_by (length file) (take LABEL_LEN file)) some
-        ∙ ap (λ (b : Bool). if b then None else (if nat_lt (LABEL_LEN + MAX_IMAGE) (length file) then None else version_of_label (take LABEL_LEN file))) short) ∙ is in cc
+    by true empty = let first : Some zero_version ≡ Some v = rw empty at is in cc
+    by false some = let none : None ≡ Some v = rw (some, short) at is in cc
 
 none_before : (own : Version) → version_lt own zero_version ≡ false
 none_before own = grind (arith, nat_tests)
@@ -67,15 +59,6 @@ there_files : (files : Option Files) → IsSome files → (fs : Files) × (files
 there_files None tells = absurd (false≢true tells)
 there_files (Some fs) tells = (fs, refl)
 
-added : (a b c x y : ℕ) → b ≡ a + (x + 0) → c ≡ b + (y + 0) → c ≡ a + (x + (y + 0))
-added a b c x y one two = omega arith
-
-at_least : (a b c x y : ℕ) → b ≡ a + (x + 0) → b + y ≤ c → a + (x + y) ≤ c
-at_least a b c x y one two = omega arith
-
-at_most : (a b c x y : ℕ) → b ≡ a + (x + 0) → c ≤ b + y → c ≤ a + (x + y)
-at_most a b c x y one two = omega arith
-
 one_more : (n : ℕ) → suc (n + 1) ≡ suc n + 1
 one_more n = omega arith
 
@@ -86,13 +69,11 @@ module _ {D : Type 0} (g : Ghosts D) (old mid : D) (d : Durable) (first second :
   abbrev middle : Durable
   middle = durable_after d first.call
 
+  between_first : (c : Files) → StandsWithin d (first ∷ []) c → StandsBetween d both 0 c
+  between_first c stands = none_or_one (λ (n : ℕ). StandsAs (durable_after_all d (take n (first ∷ []))) c) stands.0 stands.1 stands.2
+
   within_first : (c : Files) → StandsWithin d (first ∷ []) c → StandsWithin d both c
-  within_first c stands = by stands.0 stands.1 stands.2
-    where
-      by : (n : ℕ) → n ≤ length (first ∷ []) → StandsAs (durable_after_all d (take n (first ∷ []))) c → StandsWithin d both c
-      by zero few is = (0, omega arith, is)
-      by (suc zero) few is = (1, omega arith, is)
-      by (suc (suc n)) few is = absurd (omega (arith, few))
+  within_first c stands = ⊎_elim (λ none. (0, omega arith, none)) (λ one. (1, omega arith, one)) (between_first c stands)
 
   within_second : (c : Files) → StandsWithin middle (second ∷ []) c → StandsWithin d both c
   within_second c stands = (suc stands.0, omega (arith, stands.1), stands.2)
@@ -100,34 +81,20 @@ module _ {D : Type 0} (g : Ghosts D) (old mid : D) (d : Durable) (first second :
   -- the first call failed
   pub fails_first : (was now : Store D) (rewrite : Rewrite) → was.disk ≡ old → now.disk ≡ mid → IsReady g was → CallsAs first rewrite
       → LeavesWithin g d old mid (first ∷ []) → IfSome (g.files old) (λ fs. RisesAtMost (rewrite_calls rewrite fs.database) (g.steps old) (g.steps mid)) → FailsIn g d old mid both
-  fails_first was now rewrite before after ready count leaves few =
-      let run : (fs : Files) → g.files old ≡ Some fs → LeavesOnly g.steps g.left_since old mid (StandsWithin d (first ∷ [])) =
-      λ fs is. of_told (g.files old) fs (λ _. LeavesOnly g.steps g.left_since old mid (StandsWithin d (first ∷ []))) is leaves.moments in
-      let rose : (fs : Files) → g.files old ≡ Some fs → RisesAtMost (rewrite_calls rewrite fs.database) (g.steps old) (g.steps mid) =
-      λ fs is. of_told (g.files old) fs (λ fs. RisesAtMost (rewrite_calls rewrite fs.database) (g.steps old) (g.steps mid)) is few in
-      record {
-        leaves = record {
-          moments = told (g.files old) (λ _. LeavesOnly g.steps g.left_since old mid (StandsWithin d both)) (λ fs is.
-              widened g.steps g.left_since old mid (StandsWithin d (first ∷ [])) (StandsWithin d both) within_first (run fs is));
-          plain = λ taken. leaves.plain (taken.0, tt);
-        };
-        whole = 0;
-        now = told (g.files old) (λ _. Narrows (StandsBetween d both 0) (g.may_leave mid)) (λ fs is c left.
-            let stands = (run fs is).each c (g.counts_now mid (g.steps old) c (run fs is).later left) in
-            either c stands.0 stands.1 stands.2);
-        least = told (g.files old) (λ fs. g.steps old + calls_made (has_label fs.database) [] ≤ g.steps mid) (λ fs is. let low = (rose fs is).0 in omega (arith, low));
-        most = told (g.files old) (λ fs. g.steps mid ≤ g.steps old + calls_made (has_label fs.database) (first ∷ [])) (λ fs is.
-            let high = (rose fs is).1 in
-            let one = calls_one fs.database first rewrite count in
-            omega (arith, high, one));
-        running = told (g.files old) (λ fs. ¬ IsStopped (after_changes (calls_made (has_label fs.database) []) (g.stop old))) (λ fs is.
-            subst (λ (disk : D). ¬ IsStopped (g.stop disk)) before ready.runs);
-      }
-    where
-      either : (c : Files) (n : ℕ) → n ≤ length (first ∷ []) → StandsAs (durable_after_all d (take n (first ∷ []))) c → StandsBetween d both 0 c
-      either c zero few is = inl is
-      either c (suc zero) few is = inr is
-      either c (suc (suc n)) few is = absurd (omega (arith, few))
+  fails_first was now rewrite before after ready count leaves few = record {
+    leaves = record {
+      moments = IfSome_then (g.files old) leaves.moments (λ fs run. widened g.steps g.left_since old mid _ (StandsWithin d both) within_first run);
+      plain = λ taken. leaves.plain (taken.0, tt);
+    };
+    whole = 0;
+    now = IfSome_then (g.files old) leaves.moments (λ fs run c left.
+        between_first c (run.each c (g.counts_now mid (g.steps old) c run.later left)));
+    least = IfSome_then (g.files old) few (λ fs rose. omega (arith, rose.0));
+    most = IfSome_then (g.files old) few (λ fs rose.
+        let one = calls_one fs.database first rewrite count in
+        omega (arith, rose.1, one));
+    running = told (g.files old) _ (λ fs is. rw (← before) ready.runs);
+  }
 
   module _ (new : D) (tells : IsSome (g.files old) → IsSome (g.files mid)) where
     between : (fs : Files) → g.files old ≡ Some fs → (gs : Files) × (g.files mid ≡ Some gs)
@@ -135,38 +102,35 @@ module _ {D : Type 0} (g : Ghosts D) (old mid : D) (d : Durable) (first second :
 
     leaves_both : LeavesWithin g d old mid (first ∷ []) → LeavesWithin g middle mid new (second ∷ []) → LeavesWithin g d old new both
     leaves_both one two = record {
-      moments = told (g.files old) (λ _. LeavesOnly g.steps g.left_since old new (StandsWithin d both)) (λ fs is.
+      moments = told (g.files old) _ (λ fs is.
           let there = between fs is in
           joined g.steps g.left_since old mid new (StandsWithin d both)
-          (widened g.steps g.left_since old mid (StandsWithin d (first ∷ [])) (StandsWithin d both) within_first
-          (of_told (g.files old) fs (λ _. LeavesOnly g.steps g.left_since old mid (StandsWithin d (first ∷ []))) is one.moments))
-          (widened g.steps g.left_since mid new (StandsWithin middle (second ∷ [])) (StandsWithin d both) within_second
-          (of_told (g.files mid) there.0 (λ _. LeavesOnly g.steps g.left_since mid new (StandsWithin middle (second ∷ []))) there.1 two.moments)));
-      plain = λ taken. told (g.files old) (λ fs. IsPlain fs → LeavesOnly g.steps g.left_since old new IsPlain) (λ fs is plain.
+          (widened g.steps g.left_since old mid _ (StandsWithin d both) within_first (of_told (g.files old) fs _ is one.moments))
+          (widened g.steps g.left_since mid new _ (StandsWithin d both) within_second (of_told (g.files mid) there.0 _ there.1 two.moments)));
+      plain = λ taken. told (g.files old) _ (λ fs is plain.
           let there = between fs is in
-          let run = of_told (g.files old) fs (λ fs. IsPlain fs → LeavesOnly g.steps g.left_since old mid IsPlain) is (one.plain (taken.0, tt)) plain in
+          let run = of_told (g.files old) fs _ is (one.plain (taken.0, tt)) plain in
           let still : IsPlain there.0 = run.each there.0 (g.counts_now mid (g.steps old) there.0 run.later (g.may_be_read mid there.0 there.1)) in
-          joined g.steps g.left_since old mid new IsPlain run
-          (of_told (g.files mid) there.0 (λ fs. IsPlain fs → LeavesOnly g.steps g.left_since mid new IsPlain) there.1 (two.plain taken.1) still));
+          joined g.steps g.left_since old mid new IsPlain run (of_told (g.files mid) there.0 _ there.1 (two.plain taken.1) still));
     }
 
     module _ (label : IfSome (g.files mid) (λ fs. has_label fs.database ≡ true)) (one : Serves g d old mid (first ∷ [])) where
-      labelled : (fs : Files) → g.files mid ≡ Some fs → has_label fs.database ≡ true
-      labelled fs is = of_told (g.files mid) fs (λ fs. has_label fs.database ≡ true) is label
-
-      rose : (fs : Files) → g.files old ≡ Some fs → g.steps mid ≡ g.steps old + calls_made (has_label fs.database) (first ∷ [])
-      rose fs is = of_told (g.files old) fs (λ fs. g.steps mid ≡ g.steps old + calls_made (has_label fs.database) (first ∷ [])) is one.steps
+      -- what is known where the files before and between are told
+      known : (fs : Files) → g.files old ≡ Some fs
+          → (gs : Files) × (g.files mid ≡ Some gs) × (has_label gs.database ≡ true)
+          × (g.steps mid ≡ g.steps old + calls_made (has_label fs.database) (first ∷ []))
+      known fs is =
+          let there = between fs is in
+          (there.0, there.1, of_told (g.files mid) there.0 _ there.1 label, of_told (g.files old) fs _ is one.steps)
 
       -- both were made
       pub serves_both : Serves g middle mid new (second ∷ []) → Serves g d old new both
       serves_both two = record {
         leaves = leaves_both one.leaves two.leaves;
-        steps = told (g.files old) (λ fs. g.steps new ≡ g.steps old + calls_made (has_label fs.database) both) (λ fs is.
-            let there = between fs is in
-            let more : g.steps new ≡ g.steps mid + calls_made true (second ∷ []) =
-            of_told (g.files mid) there.0 (λ fs. g.steps new ≡ g.steps mid + calls_made (has_label fs.database) (second ∷ [])) there.1 two.steps
-            ∙ ap (λ (b : Bool). g.steps mid + calls_made b (second ∷ [])) (labelled there.0 there.1) in
-            added _ _ _ _ _ (rose fs is) more);
+        steps = told (g.files old) _ (λ fs is.
+            let so = known fs is in
+            let more = of_told (g.files mid) so.0 _ so.1 two.steps in
+            omega (arith, so.3, rw so.2 at more));
       }
 
       -- the second one failed
@@ -174,37 +138,30 @@ module _ {D : Type 0} (g : Ghosts D) (old mid : D) (d : Durable) (first second :
       fails_second run two = record {
         leaves = leaves_both one.leaves two.leaves;
         whole = suc two.whole;
-        now = told (g.files old) (λ _. Narrows (StandsBetween d both (suc two.whole)) (g.may_leave new)) (λ fs is c left.
-            let there = between fs is in
-            later c two.whole (of_told (g.files mid) there.0 (λ _. Narrows (StandsBetween middle (second ∷ []) two.whole) (g.may_leave new)) there.1 two.now c left));
-        least = told (g.files old) (λ fs. g.steps old + calls_made (has_label fs.database) (take (suc two.whole) both) ≤ g.steps new) (λ fs is.
-            let there = between fs is in
-            at_least _ _ _ _ _ (rose fs is)
-            (subst (λ (b : Bool). g.steps mid + calls_made b (take two.whole (second ∷ [])) ≤ g.steps new) (labelled there.0 there.1)
-            (of_told (g.files mid) there.0 (λ fs. g.steps mid + calls_made (has_label fs.database) (take two.whole (second ∷ [])) ≤ g.steps new) there.1 two.least)));
-        most = told (g.files old) (λ fs. g.steps new ≤ g.steps old + calls_made (has_label fs.database) (take (suc two.whole + 1) both)) (λ fs is.
-            let there = between fs is in
-            subst (λ (k : ℕ). g.steps new ≤ g.steps old + calls_made (has_label fs.database) (take k both)) (one_more two.whole)
-            (at_most (g.steps old) (g.steps mid) (g.steps new) _ (calls_made true (take (two.whole + 1) (second ∷ []))) (rose fs is)
-            (subst (λ (b : Bool). g.steps new ≤ g.steps mid + calls_made b (take (two.whole + 1) (second ∷ []))) (labelled there.0 there.1)
-            (of_told (g.files mid) there.0 (λ fs. g.steps new ≤ g.steps mid + calls_made (has_label fs.database) (take (two.whole + 1) (second ∷ []))) there.1 two.most))));
-        running = told (g.files old) (λ fs. ¬ IsStopped (after_changes (calls_made (has_label fs.database) (take (suc two.whole) both)) (g.stop old))) (λ fs is.
-            let there = between fs is in
+        now = told (g.files old) _ (λ fs is c left.
+            let so = known fs is in
+            later c two.whole (of_told (g.files mid) so.0 _ so.1 two.now c left));
+        least = told (g.files old) _ (λ fs is.
+            let so = known fs is in
+            let low = of_told (g.files mid) so.0 _ so.1 two.least in
+            omega (arith, so.3, rw so.2 at low));
+        most = told (g.files old) _ (λ fs is.
+            let so = known fs is in
+            let high = of_told (g.files mid) so.0 _ so.1 two.most in
+            omega (arith, so.3, rw so.2 at high, ap (λ (k : ℕ). calls_made (has_label fs.database) (take k both)) (one_more two.whole)));
+        running = told (g.files old) _ (λ fs is.
+            let so = known fs is in
             let count = calls_made true (take two.whole (second ∷ [])) in
-            let runs : ¬ IsStopped (after_changes count (g.stop mid)) =
-            subst (λ (b : Bool). ¬ IsStopped (after_changes (calls_made b (take two.whole (second ∷ []))) (g.stop mid))) (labelled there.0 there.1)
-            (of_told (g.files mid) there.0 (λ fs. ¬ IsStopped (after_changes (calls_made (has_label fs.database) (take two.whole (second ∷ []))) (g.stop mid))) there.1 two.running) in
-            let whole : run.calls + count ≡ calls_made (has_label fs.database) (take (suc two.whole) both) = as_many _ _ _ _ _ (rose fs is) run.steps in
+            let runs = of_told (g.files mid) so.0 _ so.1 two.running in
+            let whole : run.calls + count ≡ calls_made (has_label fs.database) (take (suc two.whole) both) = omega (arith, so.3, run.steps) in
             let same : after_changes count (g.stop mid) ≡ after_changes (calls_made (has_label fs.database) (take (suc two.whole) both)) (g.stop old) =
             ap (after_changes count) run.stop ∙ after_changes-add count run.calls (g.stop old) ∙ ap (λ (n : ℕ). after_changes n (g.stop old)) whole in
-            subst (λ (stop : DiskStop). ¬ IsStopped stop) same runs);
+            subst (λ (stop : DiskStop). ¬ IsStopped stop) same (rw so.2 at runs));
       }
         where
           later : (c : Files) (n : ℕ) → StandsBetween middle (second ∷ []) n c → StandsBetween d both (suc n) c
-          later c n stands = ⊎_elim (λ here. inl here) (λ next. inr (subst (λ (k : ℕ). StandsAs (durable_after_all d (take k both)) c) (one_more n) next)) stands
-
-          as_many : (a b x n y : ℕ) → b ≡ a + (x + 0) → b ≡ a + n → n + y ≡ x + y
-          as_many a b x n y one run = omega arith
+          later c n stands =
+              ⊎_elim (λ here. inl here) (λ next. inr (subst (λ (k : ℕ). StandsAs (durable_after_all d (take k both)) c) (one_more n) next)) stands
 
 module _ {D : Type 0} (g : Ghosts D) (n : Held D) (was : IsKept g n) (up : n.store.failed ≡ false) (mid : Store D) (sound : IsSound g mid) (rewrite : Rewrite) (v : Version) (image : List ℕ)
     (first second : Made) (leads : rewritten rewrite n.server.image ≡ image) (same : durable_after (durable_in n.server) first.call ≡ durable v image) (cuts : TakenCutsNoPut first.reason first.call → KeepsPuts rewrite) (count : CallsAs first rewrite) where
@@ -214,8 +171,7 @@ module _ {D : Type 0} (g : Ghosts D) (n : Held D) (was : IsKept g n) (up : n.sto
   first_failed {knows} {t} {before} {after} calls long e ends newer fits durably =
       let one : Ends g knows (record t { calls = first ∷ [] }) before after n (record n { store = mid }) (Err e) =
       call_failed g n was up n.store (reads_none g n.store.disk) (λ none. none) was up mid rewrite v image first leads same cuts count refl long e ends newer fits durably in
-      ends_as g (λ _. tt) (λ known _.
-      subst (λ (all : List Made). FailsIn g (durable_in n.server) n.store.disk mid.disk all) (sym calls)
+      ends_as g (λ _. tt) (λ known _. rw calls
       (fails_first g n.store.disk mid.disk (durable_in n.server) first second n.store mid rewrite refl refl (was.sound.ready up) count
       (leaves_one g n.store mid (durable_in n.server) rewrite v image first (was.image up) (was.version up) leads same cuts durably) durably.few)) one
 
@@ -231,8 +187,7 @@ module _ {D : Type 0} (g : Ghosts D) (n : Held D) (was : IsKept g n) (up : n.sto
     tells = told_by (rewritten rewrite) (g.files n.store.disk) (g.files mid.disk) done.image
 
     label : IfSome (g.files mid.disk) (λ fs. has_label fs.database ≡ true)
-    label = told (g.files mid.disk) (λ fs. has_label fs.database ≡ true) (λ fs is.
-        let rests = of_told (g.files mid.disk) fs (λ fs. IsAtRest mid.version (image_of fs.database) fs) is ready.rests in
+    label = IfSome_then (g.files mid.disk) ready.rests (λ fs rests.
         label_after fs.database n.store.version v (rests.label ∙ ap Some done.version) done.newer)
 
     one : Serves g (durable_in n.server) n.store.disk mid.disk (first ∷ [])
@@ -251,9 +206,8 @@ module _ {D : Type 0} (g : Ghosts D) (n : Held D) (was : IsKept g n) (up : n.sto
           server = shown.0;
           outputs = shown.1;
           disk =
-              subst (λ (all : List Made). Serves g (durable_in n.server) n.store.disk later.disk all) (sym calls)
-              (serves_both g n.store.disk mid.disk (durable_in n.server) first second later.disk tells label one
-              (subst (λ (e : Durable). Serves g e mid.disk later.disk (second ∷ [])) (sym same)
+              rw calls (serves_both g n.store.disk mid.disk (durable_in n.server) first second later.disk tells label one
+              (rw same
               (serves_one g mid later (durable v image) (Changed []) w image second there done.version refl next (λ _. tt) none also.steps durably_too)));
         })
 
@@ -263,9 +217,9 @@ module _ {D : Type 0} (g : Ghosts D) (n : Held D) (was : IsKept g n) (up : n.sto
     second_failed calls DiskFault ends some newer durably_too = record {
       made = λ _. tt;
       failed = λ known _.
-          subst (λ (all : List Made). FailsIn g (durable_in n.server) n.store.disk later.disk all) (sym calls)
+          rw calls
           (fails_second g n.store.disk mid.disk (durable_in n.server) first second later.disk tells label one durably.calls.advances
-          (subst (λ (e : Durable). FailsIn g e mid.disk later.disk (second ∷ [])) (sym same)
+          (rw same
           (fails_one g mid later (durable v image) (Changed []) w image second ready there done.version refl next (λ _. tt) none durably_too)));
       leaves = failed_leaves g later ends.failed (most_calls rewrite + 14, calls_as (omega arith) (λ failed. failed) (λ failed. failed) (calls_joined durably.calls went durably_too.calls));
       state = λ other. refl;

@@ -2,12 +2,8 @@ use Rattle.std.proofs.Common.{◌≡◌, ◌∙◌, ◌<◌, true, false, None, 
 use Rattle.std.proofs.lemmas.Bool.Decides.{nat_tests}
 use Rattle.ubik_types.specs.declared.phases.Phase.TheVariants as phase
 use Rattle.ubik_types.specs.declared.versions.Version.{Version}
-use Rattle.ubik_types.specs.Phase.{Polled, Relabel}
 use Rattle.ubik_types.specs.Version.{IsVersion, version_lt}
-use Rattle.cell_model.specs.Recovery.{first_of_epoch, installed, relabelled, relabelled_to}
-use Rattle.cell_model.specs.Step.{Stepped, followed, quiet, with_phase}
-use Rattle.cell_model.specs.Node.{Server}
-use Rattle.cell_model.specs.Writes.{settled}
+use Rattle.cell_model.specs.Recovery.{first_of_epoch, relabelled}
 use Rattle.ubik_recovery.specs.Record.{RecoveryRecord, adopted, best_of, in_phase, is_fetch, polled_of, with_text}
 use Rattle.ubik_recovery.specs.Text.{with_piece}
 use Rattle.server_state.specs.declared.state.State.{State}
@@ -15,7 +11,7 @@ use Rattle.server_state.specs.Recovering.{IsOfCell}
 use Rattle.server_state.specs.State.{announced, member_of, server_of, server_with}
 use Rattle.server_state.proofs.Polled.{version_best}
 use Rattle.server_rules.specs.Acts.{IsOver, MayTake}
-use Rattle.server_rules.proofs.Fetches.{fetched_new, fetched_relabels, fetched_waits, installed_comes, later_epoch, of_relabelling, past_newer}
+use Rattle.server_rules.proofs.Fetches.{fetched_relabels, later_epoch, of_relabelling, past_newer}
 use Rattle.server_rules.proofs.recovery.image_fetched.Goals as goal
 
 -- the recovery that goes on
@@ -50,35 +46,18 @@ returns-then-not-newer-clause-step c = λ dbs short.
 pub returns-then-early-clause-step : goal.returns-then-early-clause-step
 returns-then-early-clause-step c = λ dbs short.
     let st = c.args.state.now in
-    let r = st.recovery in
-    let image = (with_piece c.args.source c.args.offset c.args.bytes.now r.text).bytes in
     let is : c.set_phase.new.self ≡ relabelling st = c.set_phase.ensures ∙ ap (λ (x : RecoveryRecord). in_phase x phase.Relabel st.me) c.marks-next.ensures in
-    let waits : Version → Polled → Stepped = λ best poll. followed (installed (server_of st) best image) (λ (s : Server). quiet (with_phase s (Relabel poll))) in
     let more : version_lt st.version c.args.source.version ≡ true = search rules in
-    let newer : version_lt st.version (best_of r) ≡ true = ap (version_lt st.version) (sym c.requires.best) ∙ more in
-    let before : nat_lt c.args.source.version.epoch c.args.now ≡ false = grind (arith, nat_tests) in
-    let early : nat_lt (best_of r).epoch c.args.now ≡ false = ap (λ (w : Version). nat_lt w.epoch c.args.now) (sym c.requires.best) ∙ before in
-    fetched_waits (member_of st) (server_of st) c.args.now (polled_of r) (best_of r) image newer early
-    ∙ ap (λ (w : Version). waits w (polled_of r)) (sym c.requires.best)
-    ∙ ap (λ (x : RecoveryRecord). waits c.args.source.version (polled_of x)) (sym is)
+    let early : nat_lt c.args.source.version.epoch c.args.now ≡ false = grind (arith, nat_tests) in
+    rw (← c.requires.best, more, early, is) refl
 
 pub returns-clause-step : goal.returns-clause-step
 returns-clause-step c = λ dbs short.
     let st = c.args.state.now in
-    let m = member_of st in
-    let r = st.recovery in
-    let image = (with_piece c.args.source c.args.offset c.args.bytes.now r.text).bytes in
     let is : c.set_phase.new.self ≡ relabelling st = c.set_phase.ensures ∙ ap (λ (x : RecoveryRecord). in_phase x phase.Relabel st.me) c.marks-next.ensures in
-    let goes : Version → Polled → Stepped = λ best poll.
-    followed (installed (server_of st) best image) (λ (s : Server). followed (relabelled_to m s poll (first_of_epoch c.args.now)) (settled m)) in
     let more : version_lt st.version c.args.source.version ≡ true = search rules in
-    let newer : version_lt st.version (best_of r) ≡ true = ap (version_lt st.version) (sym c.requires.best) ∙ more in
     let past : c.args.source.version.epoch < c.args.now = omega arith in
-    let late : nat_lt (best_of r).epoch c.args.now ≡ true = ap (λ (w : Version). nat_lt w.epoch c.args.now) (sym c.requires.best) ∙ later_epoch c.args.source.version.epoch c.args.now past in
-    fetched_new m (server_of st) c.args.now (polled_of r) (best_of r) image newer
-    ∙ installed_comes m (server_of st) (best_of r) image (polled_of r) c.args.now late
-    ∙ ap (λ (w : Version). goes w (polled_of r)) (sym c.requires.best)
-    ∙ ap (λ (x : RecoveryRecord). goes c.args.source.version (polled_of x)) (sym is)
+    rw (← c.requires.best, more, later_epoch c.args.source.version.epoch c.args.now past, is) refl
 
 pub returns-then-early-clause-leaves : goal.returns-then-early-clause-leaves
 returns-then-early-clause-leaves c =

@@ -26,9 +26,8 @@ returns-then-whole-clause-step c = λ dbs short.
 
 pub image_fetched-requires-clause-best : goal.image_fetched-requires-clause-best
 image_fetched-requires-clause-best c =
-    let st = c.args.state.now in
     let asked : c.is_asked.result ≡ true = search rules in
-    best_asked c.is_asked.result c.args.source.server c.args.poll c.args.source.version st.recovery c.is_asked.ensures asked
+    best_asked c.is_asked.result c.args.source.server c.args.poll c.args.source.version c.args.state.now.recovery c.is_asked.ensures asked
 
 pub returns-clause-leaves : goal.returns-clause-leaves
 returns-clause-leaves c =

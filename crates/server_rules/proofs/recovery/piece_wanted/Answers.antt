@@ -5,5 +5,4 @@ use Rattle.server_rules.proofs.recovery.piece_wanted.Goals as goal
 
 pub returns-clause-can : goal.returns-clause-can
 returns-clause-can c =
-    let st = c.args.state.now in
-    subst IsVersion (sym c.best.ensures.version) (version_best st.recovery st.of_cell.answers)
+    subst IsVersion (sym c.best.ensures.version) (version_best c.args.state.now.recovery c.args.state.now.of_cell.answers)

@@ -1,6 +1,6 @@
 use Rattle.std.proofs.Common.{◌≡◌, take, drop, List, ℕ, IfSome, rules, sym, subst}
 use Rattle.ubik_store.specs.Store.{image_in}
-use Rattle.ubik_node.proofs.Cut.{piece_is}
+use Rattle.ubik_node.proofs.HeldImages.{piece_is}
 use Rattle.ubik_node.proofs.pieces.read_piece.Goals as goal
 
 pub returns-clause-piece : goal.returns-clause-piece

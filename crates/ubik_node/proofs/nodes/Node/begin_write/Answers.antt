@@ -5,10 +5,10 @@ use Rattle.ubik_types.specs.declared.images.Change.{Change}
 use Rattle.ubik_types.specs.declared.versions.Version.{Version}
 use Rattle.ubik_types.specs.Image.{effect}
 use Rattle.ubik_types.specs.Logged.{logged, too_large}
-use Rattle.ubik_types.specs.Version.{version_lt}
+use Rattle.ubik_types.specs.Version.{IsVersion, version_lt}
 use Rattle.xdr_base.specs.ChangeText.{text_of}
 use Rattle.cell_model.specs.declared.events.Output.{Output}
-use Rattle.cell_model.specs.Durable.{Transaction}
+use Rattle.cell_model.specs.Durable.{Transaction, label_calls}
 use Rattle.cell_model.specs.Node.{Server}
 use Rattle.cell_model.specs.Polls.{is_marked}
 use Rattle.cell_model.specs.Step.{Member, Shown, outputs_of, sends_to_each, with_database}
@@ -18,7 +18,6 @@ use Rattle.ubik_recovery.specs.Record.{RecoveryRecord, held_alone}
 use Rattle.ubik_store.specs.declared.faults.StoreFault.TheVariants.{DiskFault}
 use Rattle.ubik_store.specs.DurableCall.{Commits, IsDurable, IsNeverLong}
 use Rattle.ubik_store.specs.Gaps.{CutsNoPut}
-use Rattle.cell_model.specs.Durable.{label_calls}
 use Rattle.ubik_store.specs.Rewrite.Rewrite.{Changed}
 use Rattle.ubik_node.specs.Node.{held}
 use Rattle.server_state.specs.State.{announced, member_of, server_of}
@@ -27,14 +26,12 @@ use Rattle.ubik_write.specs.Undo.{image_before}
 use Rattle.ubik_types.specs.Quorum.{marked}
 use Rattle.ubik_node.specs.Verdict.{IsWritten}
 use Rattle.server_state.specs.Writing.{write_begun}
-use Rattle.ubik_node.proofs.Begun.{commit_ended}
-use Rattle.ubik_node.proofs.Calling.{ended, held_as, known_call_failed, known_call_made, short_ends_read, unread_ends}
+use Rattle.ubik_node.proofs.Calling.{commit_ended, ended, held_as, known_call_failed, known_call_made, short_ends_read, unread_ends}
 use Rattle.ubik_node.proofs.Committing.{flown, next_is_newer, spread_to_each, undone_here, written_begun}
 use Rattle.ubik_node.proofs.Endings.{handed_ends, ok_not, told_still}
 use Rattle.ubik_node.proofs.HeldImages.{held_after, held_length, held_there}
 use Rattle.ubik_node.proofs.ShortTexts.{short_text}
-use Rattle.ubik_node.proofs.Stored.{made_keeps, read_keeps}
-use Rattle.ubik_types.specs.Version.{IsVersion}
+use Rattle.ubik_node.proofs.Stored.{made_keeps, read_keeps, unmade_keeps}
 use Rattle.server_state.specs.Plain.{IsAnswer}
 use Rattle.server_state.proofs.Plain.{own_version}
 use Rattle.ubik_node.proofs.nodes.Node.begin_write.Goals as goal
@@ -142,6 +139,19 @@ returns-clause-ends g c = λ image.
           ∙ ap (λ (shown : List Shown). c.args.out.now ++ outputs_of shown) (spread_to_each m (length st.cell) 20 (replicate 20 false) flight.old_version st.version v flight.text (text_of given) refl of.old_version of.text)
           ∙ ap (λ (o : List Output). c.args.out.now ++ o) (sym (leads known).outputs),
     ))
+
+pub invariant_of-self-in-Break-branch-4 : goal.invariant_of-self-in-Break-branch-4
+invariant_of-self-in-Break-branch-4 g c =
+    let went = λ (failed : _). false≢true (ap is_err failed) in
+    let first = c.flight_over.new.store in
+    let still = read_keeps g.D.Disk first c.in_ok-flight.ensures.sound c.args.self.now.stored (c.in_ok-flight.ensures.same went)
+    c.in_ok-flight.ensures.disk went in
+    let e = c.in_err-commit_all.field-0.0 in
+    rw (ap (λ (s : Server). s.version) c.hold_place.ensures.server, ap (λ (s : Server). s.image) c.hold_place.ensures.server)
+    (record {
+      stored = unmade_keeps g.D.Disk c.commit_all.new.store c.in_err-commit_all.ensures.sound e still
+          (λ is. c.commit_all.ensures.failed (c.in_err-commit_all.was ∙ ap Err is)) c.in_err-commit_all.ensures.refused;
+    })
 
 pub invariant_of-self-2 : goal.invariant_of-self-2
 invariant_of-self-2 g c =

@@ -19,10 +19,8 @@ use Rattle.cell_model.specs.Durable.{label_calls}
 use Rattle.ubik_store.specs.Rewrite.Rewrite.{Changed}
 use Rattle.ubik_node.specs.Node.{held}
 use Rattle.server_state.specs.State.{announced, member_of, server_of}
-use Rattle.ubik_node.proofs.Alone.{is_alone}
-use Rattle.ubik_node.proofs.Begun.{commit_ended}
-use Rattle.ubik_node.proofs.Calling.{ended, known_call_failed, known_call_made}
-use Rattle.ubik_node.proofs.Committing.{next_is_newer, written_alone}
+use Rattle.ubik_node.proofs.Calling.{commit_ended, ended, known_call_failed, known_call_made}
+use Rattle.ubik_node.proofs.Committing.{is_alone, next_is_newer, written_alone}
 use Rattle.ubik_node.proofs.Endings.{handed_ends, ok_not, reads_none}
 use Rattle.ubik_node.proofs.HeldImages.{held_after}
 use Rattle.server_state.proofs.Writes.{no_own}
@@ -56,7 +54,6 @@ returns-clause-ends g c = λ now call image.
     let st = n.state in
     let v = c.next_version-next.result in
     let later = c.commit_all.new.store in
-    let last = c.take_commit.new.self in
     let given = c.args.changes.now in
     let kept = logged (length st.image) given in
     let only = is_alone st.cell st.me c.requires.alone st.place in
@@ -66,7 +63,7 @@ returns-clause-ends g c = λ now call image.
     known_call_made g.D.Disk (held n) c.args.self.now.stored c.requires.not_halted n.store (reads_none g.D.Disk n.store.disk) (λ none. none) c.args.self.now.stored c.requires.not_halted later
     (Changed kept) v image (own_commit v given image (record { moment = now; call = call }))
     (λ known. record { leads = ap (effect st.image) known.1.kept ∙ known.1.leads; same = refl; cuts = λ _. subst CutsNoPut (sym known.1.kept) known.1.puts; count = λ labelled. ap (λ (n : ℕ). 13 + n + label_calls labelled) (ap length (sym known.1.kept)); calls = leads.calls })
-    (server_of last) (member_of last) c.take_commit.ensures.place done
+    (server_of c.take_commit.new.self) (member_of c.take_commit.new.self) c.take_commit.ensures.place done
     (subst (λ (cs : List Change). IsDurable g.D.Disk cs v n.store later (IsErrOf c.commit_all.result DiskFault)) same c.commit_all.ensures.durable) (λ failed. ok_not c.in_ok-commit_all.field-0 (sym c.in_ok-commit_all.was ∙ failed))
     (λ known.
     let here : c.of-image.result ≡ image = c.of-image.ensures

@@ -26,7 +26,6 @@ returns-in_err-act-clause-ends g c =
 pub returns-clause-ends : goal.returns-clause-ends
 returns-clause-ends g c =
     let n = c.args.self.now in
-    let st = n.state in
     let mid = c.packet_heard.new.state in
     let files = g.D.Disk.files n.store.disk in
     let says = c.in_ok-act.ensures in
@@ -37,7 +36,7 @@ returns-clause-ends g c =
       made.0,
       decided_ends g.D.Disk (held n) (server_of mid) (member_of mid) c.perform.result (says.step (dbs_of made.0) made.0.short)
           (λ needed. needs_there files act kept.member (needs needed))
-          (ap (λ (v : Version). durable v mid.image) kept.version ∙ ap (durable st.version) kept.image) kept.member
+          (ap (λ (v : Version). durable v mid.image) kept.version ∙ ap (durable n.state.version) kept.image) kept.member
           (fails_so act c.perform.result _ c.perform.ensures.fine says.leaves.halts)
           (stays_so act c.perform.result _ c.perform.ensures.memory says.leaves.stays) made.1,
     )

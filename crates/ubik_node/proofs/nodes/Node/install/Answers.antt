@@ -56,12 +56,10 @@ returns-clause-resting g c = λ serves. c.requires.resting (sym (same_phase c.ta
 
 pub returns-clause-bytes : goal.returns-clause-bytes
 returns-clause-bytes g c =
-    let n = c.args.self.now in
-    let st = n.state in
+    let st = c.args.self.now.state in
     let text = c.args.text.now in
-    let later = c.install.new.self in
     let done = c.in_ok-install.ensures.ended in (
       c.of.result,
-      ap length c.of.ensures ∙ held_length g.D.Disk later (c.install.ensures.sound.ready done.failed) ∙ done.len,
+      ap length c.of.ensures ∙ held_length g.D.Disk c.install.new.self (c.install.ensures.sound.ready done.failed) ∙ done.len,
       c.take_over.ensures.after,
     )

@@ -36,13 +36,12 @@ returns-in_err-give-clause-ends g c =
 pub returns-in_err-install-clause-ends : goal.returns-in_err-install-clause-ends
 returns-in_err-install-clause-ends g c =
     let n = c.args.self.now in
-    let st = n.state in
-    let m = member_of st in
+    let m = member_of n.state in
     let text = c.args.text.now in
     let best = c.args.best in
     let v = c.args.new in
     let installs : Made = record { call = durable.Install best text; reason = Received } in
-    let s = with_database (server_of st) best text in
+    let s = with_database (server_of n.state) best text in
     handed_ends g.D.Disk c.from_residual-in_err-install.result c.in_err-install.field-0.0 c.from_residual-in_err-install.ensures.1
     (first_failed g.D.Disk (held n) c.args.self.now.stored c.requires.not_halted c.install.new.self c.install.ensures.sound (Replaced text) best text installs (own_relabelling v) refl refl (λ _. tt) (λ _. refl)
     (ap (λ (calls : List Made). installs ∷ own_relabelling v ∷ calls) (settled_calls m (relabelled_to m s (polled_of c.args.next) v).server)) (IsTooLong text) c.in_err-install.field-0.0 c.in_err-install.ensures.ended
@@ -51,13 +50,12 @@ returns-in_err-install-clause-ends g c =
 pub returns-in_err-relabel-clause-ends : goal.returns-in_err-relabel-clause-ends
 returns-in_err-relabel-clause-ends g c =
     let n = c.args.self.now in
-    let st = n.state in
-    let m = member_of st in
+    let m = member_of n.state in
     let text = c.args.text.now in
     let best = c.args.best in
     let v = c.args.new in
     let installs : Made = record { call = durable.Install best text; reason = Received } in
-    let s = with_database (server_of st) best text in
+    let s = with_database (server_of n.state) best text in
     let done = c.in_ok-install.ensures.ended in
     handed_ends g.D.Disk c.from_residual-in_err-relabel.result c.in_err-relabel.field-0.0 c.from_residual-in_err-relabel.ensures.1
     (second_failed g.D.Disk (held n) c.args.self.now.stored c.requires.not_halted c.install.new.self c.install.ensures.sound (Replaced text) best text installs (own_relabelling v) refl refl (λ _. tt) (λ _. refl)

@@ -37,12 +37,11 @@ wait-requires-clause-of_cell g c = subst (λ (m : Member). IsOfCell (length m.ho
 pub returns-clause-alike : goal.returns-clause-alike
 returns-clause-alike g c =
     let s = server_of c.args.self.now.state in
-    let v = c.args.version in
     let took = c.in_ok-install.ensures.bytes in
     let poll = polled_of c.args.next in
     record {
       server =
-          blank_image (with_phase (with_database s v c.args.text.now) (Relabel poll)) c.args.text.now took.0 (sym took.1)
-          ∙ ap blank (waits_at s v took.0 poll c.install.new.self.state c.args.next (sym took.2) ∙ sym c.wait.ensures.after);
+          blank_image (with_phase (with_database s c.args.version c.args.text.now) (Relabel poll)) c.args.text.now took.0 (sym took.1)
+          ∙ ap blank (waits_at s c.args.version took.0 poll c.install.new.self.state c.args.next (sym took.2) ∙ sym c.wait.ensures.after);
       outputs = refl;
     }

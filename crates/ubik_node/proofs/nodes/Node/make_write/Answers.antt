@@ -1,14 +1,10 @@
-use Rattle.std.proofs.Common.{◌≡◌, ◌++◌, ◌∙◌, List, [], ◌∷◌, true, length, IsSome, Ok, refl, sym, ap, length-append, arith}
+use Rattle.std.proofs.Common.{◌≡◌, ◌++◌, ◌∙◌, List, [], ◌∷◌, true, length, IsSome, refl, sym, ap, length-append, arith}
 use Rattle.std.specs.Result.{is_err}
 use Rattle.std.proofs.lemmas.Bool.{false≢true}
 use Rattle.cell_model.specs.declared.events.Output.{Output}
 use Rattle.cell_model.specs.declared.events.Output.TheVariants as output
-use Rattle.cell_model.specs.Evaluating.{outcome_told}
 use Rattle.cell_model.specs.Node.{Server}
-use Rattle.cell_model.specs.Step.{Stepped, outputs_of}
 use Rattle.cell_model.specs.Writes.{is_free}
-use Rattle.ubik_store.specs.declared.faults.StoreFault.{StoreFault}
-use Rattle.ubik_store.specs.Store.{image_in}
 use Rattle.ubik_store.proofs.Telling.{ok_map}
 use Rattle.ubik_node.specs.declared.verdicts.Verdict.TheVariants as verdict
 use Rattle.ubik_node.specs.Choices.{none_chosen}
@@ -18,8 +14,7 @@ use Rattle.server_state.specs.State.{member_of, server_of}
 use Rattle.server_state.specs.Writing.{own_of}
 use Rattle.ubik_node.proofs.Calling.{after_reads, known_so, unread_ends}
 use Rattle.ubik_node.proofs.Endings.{handed_ends, known_read_ends, reads_as, told_still}
-use Rattle.ubik_node.proofs.Evaluated.{answers_of, never_less, one_chosen}
-use Rattle.ubik_node.proofs.Made.{judged_here}
+use Rattle.ubik_node.proofs.Made.{turned_so}
 use Rattle.ubik_node.proofs.Turns.{front_whole, writes_busy}
 use Rattle.ubik_node.proofs.nodes.Node.make_write.Goals as goal
 
@@ -37,18 +32,14 @@ returns-in_err-made-clause-front g c = front_whole c.from_residual.result c.args
 pub returns-in-Reply-clause-ends : goal.returns-in-Reply-clause-ends
 returns-in-Reply-clause-ends g c =
     let n = c.args.self.now in
-    let st = n.state in
-    let d = g.V.DraftService.standing in
-    let files = g.D.Disk.files n.store.disk in
     let went = λ (failed : _). false≢true (ap is_err failed) in
-    let told = answers_of {E = StoreFault} d (image_in files) c.args.now c.args.call.now (Ok c.in_ok-made.made) c.in_ok-made.ensures.made in
-    let reads = c.in_ok-made.ensures.disk in
-    let judged = λ (tells : IsSome files). judged_here d told.one (member_of st) st files c.args.now c.args.id c.args.call.now c.in_ok-made.made (verdict.Reply c.in-Reply.reply) (never_less d g.met.V.DraftService.never_shrinks told.one told.may st.image c.args.now c.args.call.now)
-    c.in-Reply.ensures.judged told.says (c.args.self.now.stored.image c.requires.not_halted) tells in (
-      one_chosen d told.one told.may [],
-      known_read_ends g.D.Disk (held n) (record (held n) { store = c.evaluate.new.store }) refl refl c.args.self.now.stored c.requires.not_halted reads went ((c.in_ok-made.ensures.same went).failed ∙ c.requires.not_halted)
+    let turn = turned_so g.V.DraftService.standing g.met.V.DraftService.never_shrinks (member_of n.state) n.state (g.D.Disk.files n.store.disk)
+    c.args.now c.args.id c.args.call.now c.in_ok-made.made (verdict.Reply c.in-Reply.reply) c.in_ok-made.ensures.made c.in-Reply.ensures.judged
+    (n.stored.image c.requires.not_halted) in (
+      turn.chosen,
+      known_read_ends g.D.Disk (held n) (record (held n) { store = c.evaluate.new.store }) refl refl n.stored c.requires.not_halted c.in_ok-made.ensures.disk went ((c.in_ok-made.ensures.same went).failed ∙ c.requires.not_halted)
           (λ tells.
-          let leads = judged tells in (
+          let leads = turn.judged tells in (
             leads.calls,
             leads.server,
             c.put_reply.ensures ∙ ap (λ (o : List Output). c.args.out.now ++ o) (sym leads.outputs),
@@ -67,25 +58,16 @@ returns-in-Reply-clause-rests g c = λ more free.
 pub returns-in-NewPoll-clause-ends : goal.returns-in-NewPoll-clause-ends
 returns-in-NewPoll-clause-ends g c =
     let n = c.args.self.now in
-    let st = n.state in
     let last = c.last_counter.new.self in
-    let d = g.V.DraftService.standing in
-    let files = g.D.Disk.files n.store.disk in
     let went = λ (failed : _). false≢true (ap is_err failed) in
-    let told = answers_of {E = StoreFault} d (image_in files) c.args.now c.args.call.now (Ok c.in_ok-made.made) c.in_ok-made.ensures.made in
-    let reads = c.in_ok-made.ensures.disk in
-    let shows = c.last_counter.ensures.shows in
-    let kept = c.last_counter.ensures.kept in
-    let judged = λ (tells : IsSome files). judged_here d told.one (member_of st) st files c.args.now c.args.id c.args.call.now c.in_ok-made.made verdict.NewPoll (never_less d g.met.V.DraftService.never_shrinks told.one told.may st.image c.args.now c.args.call.now)
-    c.in-NewPoll.ensures.judged told.says (c.args.self.now.stored.image c.requires.not_halted) tells in (
-      one_chosen d told.one told.may [],
-      known_read_ends g.D.Disk (held n) (record (held n) { store = c.evaluate.new.store; server = server_of last; member = member_of last }) refl kept.member c.args.self.now.stored c.requires.not_halted reads went ((c.in_ok-made.ensures.same went).failed ∙ c.requires.not_halted)
-          (λ tells.
-          let is = judged tells in (
-            ap (λ (t : Stepped). t.calls) is ∙ shows.calls,
-            ap (λ (t : Stepped). t.server) is ∙ shows.server,
-            shows.outputs ∙ ap (λ (t : Stepped). c.args.out.now ++ outputs_of t.shown) (sym is),
-          )),
+    let turn = turned_so g.V.DraftService.standing g.met.V.DraftService.never_shrinks (member_of n.state) n.state (g.D.Disk.files n.store.disk)
+    c.args.now c.args.id c.args.call.now c.in_ok-made.made verdict.NewPoll c.in_ok-made.ensures.made c.in-NewPoll.ensures.judged
+    (n.stored.image c.requires.not_halted) in (
+      turn.chosen,
+      known_read_ends g.D.Disk (held n) (record (held n) { store = c.evaluate.new.store; server = server_of last; member = member_of last }) refl
+          c.last_counter.ensures.kept.member n.stored c.requires.not_halted c.in_ok-made.ensures.disk went
+          ((c.in_ok-made.ensures.same went).failed ∙ c.requires.not_halted)
+          (λ tells. rw (turn.judged tells) (c.last_counter.ensures.shows.calls, c.last_counter.ensures.shows.server, c.last_counter.ensures.shows.outputs)),
     )
 
 pub returns-in-NewPoll-clause-rests : goal.returns-in-NewPoll-clause-rests
@@ -97,18 +79,14 @@ returns-in-NewPoll-clause-line g c = omega (arith, ap (λ (s : Server). length s
 pub returns-then-len-eq1-clause-ends : goal.returns-then-len-eq1-clause-ends
 returns-then-len-eq1-clause-ends g c =
     let n = c.args.self.now in
-    let st = n.state in
-    let d = g.V.DraftService.standing in
-    let files = g.D.Disk.files n.store.disk in
     let went = λ (failed : _). false≢true (ap is_err failed) in
-    let told = answers_of {E = StoreFault} d (image_in files) c.args.now c.args.call.now (Ok c.in_ok-made.made) c.in_ok-made.ensures.made in
-    let reads = c.in_ok-made.ensures.disk in
-    let image = (outcome_told told.one d.database st.image c.args.now c.args.call.now).image in
-    let judged = λ (tells : IsSome files). judged_here d told.one (member_of st) st files c.args.now c.args.id c.args.call.now c.in_ok-made.made (verdict.Commit c.in-Commit.answer c.in-Commit.changes) (never_less d g.met.V.DraftService.never_shrinks told.one told.may st.image c.args.now c.args.call.now)
-    c.in-Commit.ensures.judged told.says (c.args.self.now.stored.image c.requires.not_halted) tells in (
-      one_chosen d told.one told.may [],
-      after_reads g.D.Disk (held n) c.evaluate.new.store (held c.commit.new.self) c.commit.result reads went
-          (known_so g.D.Disk c.commit.result (λ (tells : IsSome files). ((told_still g.D.Disk reads went tells, (judged tells).0), (judged tells).1)) (c.commit.ensures.ends c.args.now c.args.call.now image)),
+    let turn = turned_so g.V.DraftService.standing g.met.V.DraftService.never_shrinks (member_of n.state) n.state (g.D.Disk.files n.store.disk)
+    c.args.now c.args.id c.args.call.now c.in_ok-made.made (verdict.Commit c.in-Commit.answer c.in-Commit.changes) c.in_ok-made.ensures.made c.in-Commit.ensures.judged
+    (n.stored.image c.requires.not_halted) in (
+      turn.chosen,
+      after_reads g.D.Disk (held n) c.evaluate.new.store (held c.commit.new.self) c.commit.result c.in_ok-made.ensures.disk went
+          (known_so g.D.Disk c.commit.result (λ tells. ((told_still g.D.Disk c.in_ok-made.ensures.disk went tells, (turn.judged tells).0), (turn.judged tells).1))
+          (c.commit.ensures.ends c.args.now c.args.call.now turn.image)),
     )
 
 pub returns-then-len-eq1-clause-rests : goal.returns-then-len-eq1-clause-rests
@@ -117,18 +95,14 @@ returns-then-len-eq1-clause-rests g c = λ more. absurd (omega (arith, more, c.i
 pub returns-clause-ends : goal.returns-clause-ends
 returns-clause-ends g c =
     let n = c.args.self.now in
-    let st = n.state in
-    let d = g.V.DraftService.standing in
-    let files = g.D.Disk.files n.store.disk in
     let went = λ (failed : _). false≢true (ap is_err failed) in
-    let told = answers_of {E = StoreFault} d (image_in files) c.args.now c.args.call.now (Ok c.in_ok-made.made) c.in_ok-made.ensures.made in
-    let reads = c.in_ok-made.ensures.disk in
-    let image = (outcome_told told.one d.database st.image c.args.now c.args.call.now).image in
-    let judged = λ (tells : IsSome files). judged_here d told.one (member_of st) st files c.args.now c.args.id c.args.call.now c.in_ok-made.made (verdict.Commit c.in-Commit.answer c.in-Commit.changes) (never_less d g.met.V.DraftService.never_shrinks told.one told.may st.image c.args.now c.args.call.now)
-    c.in-Commit.ensures.judged told.says (c.args.self.now.stored.image c.requires.not_halted) tells in (
-      one_chosen d told.one told.may [],
-      after_reads g.D.Disk (held n) c.evaluate.new.store (held c.begin_write.new.self) c.begin_write.result reads went
-          (known_so g.D.Disk c.begin_write.result (λ (tells : IsSome files). ((told_still g.D.Disk reads went tells, (judged tells).0), (judged tells).1)) (c.begin_write.ensures.ends image)),
+    let turn = turned_so g.V.DraftService.standing g.met.V.DraftService.never_shrinks (member_of n.state) n.state (g.D.Disk.files n.store.disk)
+    c.args.now c.args.id c.args.call.now c.in_ok-made.made (verdict.Commit c.in-Commit.answer c.in-Commit.changes) c.in_ok-made.ensures.made c.in-Commit.ensures.judged
+    (n.stored.image c.requires.not_halted) in (
+      turn.chosen,
+      after_reads g.D.Disk (held n) c.evaluate.new.store (held c.begin_write.new.self) c.begin_write.result c.in_ok-made.ensures.disk went
+          (known_so g.D.Disk c.begin_write.result (λ tells. ((told_still g.D.Disk c.in_ok-made.ensures.disk went tells, (turn.judged tells).0), (turn.judged tells).1))
+          (c.begin_write.ensures.ends turn.image)),
     )
 
 pub returns-clause-rests : goal.returns-clause-rests

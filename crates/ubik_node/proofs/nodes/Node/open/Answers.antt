@@ -1,12 +1,11 @@
-use Rattle.std.proofs.Common.{◌≡◌, ◌≤◌, ◌∙◌, ℕ, List, [], length, Option, None, refl, sym, ap, subst, arith}
+use Rattle.std.proofs.Common.{◌≡◌, ◌≤◌, ◌∙◌, ℕ, List, length, Option, refl, sym, ap, subst, arith}
 use Rattle.std.proofs.lemmas.Bool.{false≢true}
 use Rattle.ubik_types.specs.declared.limits.TheConstants.{MAX_IMAGE}
 use Rattle.ubik_types.specs.declared.versions.Version.{Version}
 use Rattle.ubik_votes.specs.Voter.{Voter}
 use Rattle.disk_base.specs.Files.{Files}
 use Rattle.cell_model.specs.Durable.{durable}
-use Rattle.cell_model.specs.Node as model
-use Rattle.ubik_recovery.specs.Record.{RecoveryRecord, no_recovery, phase_record}
+use Rattle.ubik_recovery.specs.Record.{RecoveryRecord, no_recovery}
 use Rattle.ubik_store.specs.Files.{StandsFor}
 use Rattle.ubik_store.specs.Rest.{RestsAs}
 use Rattle.ubik_store.proofs.Telling.{told, of_told}
@@ -15,7 +14,6 @@ use Rattle.server_state.specs.Held.{held_image}
 use Rattle.ubik_node.proofs.HeldImages.{held_length}
 use Rattle.server_state.specs.Recovering.{IsOfCell}
 use Rattle.server_state.proofs.Polled.{of_none}
-use Rattle.ubik_node.proofs.Stepping.{opened_is, up_if}
 use Rattle.ubik_node.proofs.nodes.Node.open.Goals as goal
 
 -- what the store told
@@ -33,21 +31,8 @@ stands_held files fs version told len bytes same opens held =
 pub returns-clause-opened : goal.returns-clause-opened
 returns-clause-opened g c = (
   durable c.version.result c.of.result,
-  up_if _ _ _ c.in_ok-store.ensures.fresh.1 ∙ ap (λ (r : RecoveryRecord). model.Up (record {
-    version = c.version.result;
-    image = c.of.result;
-    votes = c.start.result.votes;
-    starts = c.start.result.starts;
-    opened = c.start.result.opened;
-    phase = phase_record c.version.result r;
-    beacon = None;
-    kept = None;
-    received = r.text;
-    flight = None;
-    waiting = [];
-  })) c.in_cell.ensures
-      ∙ opened_is c.start.result c.len-servers.result (length c.args.cell) c.args.me c.args.now c.version.result c.of.result c.start.ensures c.len-servers.ensures.len,
-  told (g.D.Disk.files c.args.disk) (StandsAs (durable c.version.result c.of.result)) (λ fs is.
+  rw (c.in_ok-store.ensures.fresh.1, c.in_cell.ensures, c.start.ensures, c.len-servers.ensures.len) refl,
+  told (g.D.Disk.files c.args.disk) _ (λ fs is.
       let s = c.in_ok-store.store in
       stands_held (g.D.Disk.files s.disk) fs s.version c.version.result s.len c.of.result c.version.ensures
       (of_told (g.D.Disk.files c.args.disk) fs (OpensAs s.version s.len (g.D.Disk.files s.disk)) is c.in_ok-store.ensures.stands) c.of.ensures),

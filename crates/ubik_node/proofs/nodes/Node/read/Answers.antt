@@ -47,9 +47,8 @@ returns-clause-ends g c =
 
 pub evaluate_before-made-requires-clause-fits : goal.evaluate_before-made-requires-clause-fits
 evaluate_before-made-requires-clause-fits g c =
-    let st = c.args.self.now.state in
-    let own : own_of st.writes ≡ Some c.in-Some.write.now = sym c.in_flight.ensures ∙ ap option_copied c.in-Some.is in
-    let undone = st.written.undone c.in-Some.write.now own in
+    let own : own_of c.args.self.now.state.writes ≡ Some c.in-Some.write.now = sym c.in_flight.ensures ∙ ap option_copied c.in-Some.is in
+    let undone = c.args.self.now.state.written.undone c.in-Some.write.now own in
     omega (arith, undone.fits, ap (λ (f : FlightRecord). f.old_len) c.flight.ensures.flight)
 
 pub returns-in_default-clause-alike : goal.returns-in_default-clause-alike

@@ -45,15 +45,13 @@ returns-clause-ends g c =
 
 pub returns-clause-alike : goal.returns-clause-alike
 returns-clause-alike g c =
-    let n = c.args.self.now in
-    let st = n.state in
-    let bytes = c.in_ok-bytes.bytes in
+    let st = c.args.self.now.state in
     let m = member_of st in
     record {
       server = refl;
       outputs =
           ap blank_outputs (c.send.ensures.sent ∙ ap (λ (x : Body). c.args.out.now ++ outputs_of (sends_to m c.args.to x)) c.piece_of-piece.ensures.piece)
           ∙ send_alike m c.args.to _ (own_piece (server_of st) c.args.poll c.args.at c.args.asked) c.args.out.now
-          (piece_alike (server_of st) c.args.poll c.args.at c.args.asked bytes
+          (piece_alike (server_of st) c.args.poll c.args.at c.args.asked c.in_ok-bytes.bytes
           (c.in_ok-bytes.ensures.len ∙ ap (λ (k : ℕ). min 8192 (k - c.args.at)) (c.args.self.now.stored.len c.requires.not_halted) ∙ sym (piece_long st.image c.args.at)));
     }

@@ -40,10 +40,9 @@ returns-clause-ends g c =
 
 pub returns-clause-alike : goal.returns-clause-alike
 returns-clause-alike g c = λ none.
-    let st = c.args.self.now.state in
     let mid = c.settle.new.self in
-    let m = member_of st in
-    let s = server_of st in
+    let m = member_of c.args.self.now.state in
+    let s = server_of c.args.self.now.state in
     let shows = c.settle.ensures.shows in
     let line : (server_of mid).waiting ≡ [] = ap (λ (x : Server). x.waiting) (sym shows.server) ∙ settled_line m s ∙ none in
     on_made c.take_turns.result (c.take_turns.ensures.still line)

@@ -1,6 +1,6 @@
-use Rattle.ubik_node.specs.Alike.{AlikeSo, Frees, NeedsTurn, StepsAlike, free_dbs}
+use Rattle.ubik_node.specs.Alike.{AlikeSo, Frees, NeedsTurn, NeedsTurnThen, StepsAlike, free_dbs}
 use Rattle.ubik_node.proofs.Alike.{alike_behind, closed_alike, on_made}
-use Rattle.std.proofs.Common.{◌≡◌, ◌∙◌, ◌++◌, [], List, refl, sym, ap, subst}
+use Rattle.std.proofs.Common.{◌≡◌, ◌∙◌, ◌++◌, [], List, sym, ap, subst}
 use Rattle.cell_model.specs.Durable.{durable}
 use Rattle.ubik_types.specs.declared.versions.Version.{Version}
 use Rattle.cell_model.specs.declared.events.Output.{Output}
@@ -11,13 +11,12 @@ use Rattle.cell_model.specs.NodeRule.{handled}
 use Rattle.cell_model.specs.Step.{Member, Stepped, outputs_of}
 use Rattle.server_state.specs.Lapsing.{returned}
 use Rattle.ubik_node.specs.Choices.{dbs_of}
-use Rattle.ubik_node.specs.Node.{HoldsStates, Needs, StepsFreely, durable_in, held, node_of}
+use Rattle.ubik_node.specs.Node.{HoldsStates, Needs, NeedsThen, StepsFreely, durable_in, held, node_of}
 use Rattle.server_state.specs.State.{member_of, server_of}
 use Rattle.ubik_node.proofs.Closing.{closed, closed_memory, closed_step, err_map}
 use Rattle.ubik_node.proofs.Endings.{behind_ends}
-use Rattle.ubik_node.proofs.Lapsed.{needs_lapsed, turn_lapsed}
-use Rattle.ubik_node.proofs.Rested.{back_keeps, back_same, short_behind, step_comes}
-use Rattle.ubik_node.proofs.Stepping.{steps_at, steps_keep, steps_meant, up_if}
+use Rattle.ubik_node.proofs.Rested.{back_keeps, back_same, lapsed_there, short_behind, step_comes}
+use Rattle.ubik_node.proofs.Stepping.{steps_keep, steps_meant, up_if}
 use Rattle.ubik_node.proofs.nodes.Node.step_up.Goals as goal
 
 pub returns : goal.returns
@@ -46,10 +45,11 @@ returns g c =
     let so = closed g.D.Disk e first (held later) (held c.end.new.self) c.handle-end.new.out c.end.new.out back c.end.result c.requires.not_halted c.handle-end.result ends c.end.ensures in
     let step : Needs d.database (member_of st) (node_of n) e now (g.D.Disk.files n.store.disk)
     → StepsFreely g.D.Disk d (member_of st) c.end.result e now (node_of n) (node_of c.end.new.self) c.end.new.out n.store.disk c.end.new.self.store.disk = λ needs.
-    steps_at g.D.Disk d (member_of st) c.end.result e e (server_of st) now _ _ _ _ n.store.disk c.end.new.self.store.disk up refl refl
+    rw up
     (closed_step g.D.Disk d (member_of st) (server_of st) e now (at (member_of mid)) first (held later) (held c.end.new.self) c.handle-end.new.out c.end.new.out back c.end.result
     c.requires.not_halted (record o { short = short_behind shown o.short }) comes same c.handle-end.result ends
-    (needs_lapsed d.database (member_of st) (member_of mid) (server_of st) (server_of mid) e now (g.D.Disk.files n.store.disk) shows.server kept.member (subst (λ (x : model.Node). Needs d.database (member_of st) x e now (g.D.Disk.files n.store.disk)) up needs)) returns
+    (lapsed_there (λ (k : Member) (s : model.Server). NeedsThen d.database k s e now (g.D.Disk.files n.store.disk)) shows.server kept.member
+    (subst (λ (x : model.Node). Needs d.database (member_of st) x e now (g.D.Disk.files n.store.disk)) up needs)) returns
     (λ failed. back_keeps c.lapse-given.result later.state mid (ends.keeps failed) ∙ sym (ap model.halted_from c.lapse-given.ensures.back)) c.end.ensures) in
     let keeps : KeepsStates d = λ image s now call stands.
     ((d.meaning.call s now call).state, (g.met.V.DraftService.is_meant image s now call stands).stands) in
@@ -65,7 +65,9 @@ returns g c =
           first (held later) (held c.end.new.self) c.handle-end.new.out c.end.new.out back c.end.result
           (λ free. step_comes (free_dbs d.database free) (member_of st) (server_of st) (server_of mid) now e free.short shows.server shows.calls ∙ ap (λ (k : Member). let u = handled (free_dbs d.database free) k (server_of mid) now e free.short in record { server = u.server; calls = u.calls; shown = shown ++ u.shown }) (sym kept.member))
           c.handle-end.result ends
-          (on_made c.handle-end.result (c.handle-end.ensures.alike (turn_lapsed d.database (member_of st) (member_of mid) (server_of st) (server_of mid) e now (g.D.Disk.files n.store.disk) shows.server kept.member (subst (λ (x : model.Node). NeedsTurn d.database (member_of st) x e now (g.D.Disk.files n.store.disk)) up needs)))
+          (on_made c.handle-end.result (c.handle-end.ensures.alike
+          (lapsed_there (λ (k : Member) (s : model.Server). NeedsTurnThen d.database k s e now (g.D.Disk.files n.store.disk)) shows.server kept.member
+          (subst (λ (x : model.Node). NeedsTurn d.database (member_of st) x e now (g.D.Disk.files n.store.disk)) up needs)))
           (λ (made : AlikeSo d.database (λ (free : Frees d.database). handled (free_dbs d.database free) (member_of mid) (server_of mid) now e free.short) (server_of later.state) c.lapse-given.new.out c.handle-end.new.out). (made.0, alike_behind {before = []} shown empty made.1)))
           returns (λ failed. back_keeps c.lapse-given.result later.state mid (ends.keeps failed) ∙ sym (ap model.halted_from c.lapse-given.ensures.back)) c.end.ensures);
       member = so.member ∙ kept.member;

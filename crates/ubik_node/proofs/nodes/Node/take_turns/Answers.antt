@@ -46,7 +46,6 @@ loop-self-preserved g c =
     let b = is_short turn.0.short in
     let files = g.D.Disk.files n.store.disk in
     let kept = c.next_asked.ensures.kept in
-    let made = c.in_ok-write_turn.ensures in
     let last = c.write_turn.new.self in
     let out = c.write_turn.new.out in
     let ends = same_ends g.D.Disk (ap (λ (call : List ℕ). write_turn (dbs_of turn.0 0) (member_of now) (server_of now) c.args.now w.id call b) (sym c.as_slice.ensures)) (named_as g.D.Disk c.write_turn.result (Ok c.in_ok-write_turn.field-0) c.in_ok-write_turn.was turn.1) in
@@ -54,12 +53,12 @@ loop-self-preserved g c =
     record {
       not_halted = ends.leaves.runs (λ failed. ok_not c.in_ok-write_turn.field-0 failed);
       few = λ ready.
-          let replied = made.rests several_now ready in
+          let replied = c.in_ok-write_turn.ensures.rests several_now ready in
           omega (arith, inv.few free, replied.few, c.write_turn.ensures.line, ap length line, ap (λ (s : Server). length s.waiting) c.next_asked.ensures.after);
       nobody = λ none. let nobody : waiting_of st.writes ≡ [] = inv.nobody none in absurd cc;
       still = λ none. let nobody : waiting_of st.writes ≡ [] = inv.nobody none in absurd cc;
       goes = λ ready after new r fine later.
-          let replied = made.rests several_now ready in
+          let replied = c.in_ok-write_turn.ensures.rests several_now ready in
           let o = chosen_first d turn.0 later.0 in
           inv.goes free after new r fine (
             o,
@@ -117,11 +116,10 @@ returns-in_default-clause-ends g c =
     let inv = c.loop-self.invariant in
     let free : is_free (server_of st) ≡ true = sym c.is_free.ensures ∙ c.loop-self-test.true in
     let now = c.next_asked.new.self in
-    let kept = c.next_asked.ensures.kept in
     let none = line_none (waiting_of st.writes) (sym c.in_default.is ∙ c.next_asked.ensures.first) in
     inv.goes free c.loop-self.out (record (held n) { server = server_of now; member = member_of now }) (Ok tt) (inr refl) (
       none_chosen g.V.DraftService.standing,
-      shown_ends g.D.Disk (held n) st now n.stored inv.not_halted refl kept
+      shown_ends g.D.Disk (held n) st now n.stored inv.not_halted refl c.next_asked.ensures.kept
           (nobody_left (dbs_of (none_chosen g.V.DraftService.standing)) (member_of st) c.args.now (server_of st) (server_of now) [] c.loop-self.out none c.next_asked.ensures.after),
     )
 

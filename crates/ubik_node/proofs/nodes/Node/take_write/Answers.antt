@@ -17,8 +17,7 @@ use Rattle.ubik_store.specs.declared.faults.StoreFault.TheVariants.{DiskFault}
 use Rattle.ubik_store.specs.DurableCall.{Commits, IsDurable, IsNeverLong}
 use Rattle.ubik_node.specs.Node.{held}
 use Rattle.server_state.specs.State.{member_of, server_of}
-use Rattle.ubik_node.proofs.Begun.{commit_ended}
-use Rattle.ubik_node.proofs.Calling.{call_failed, call_made, ended}
+use Rattle.ubik_node.proofs.Calling.{call_failed, call_made, commit_ended, ended}
 use Rattle.ubik_node.proofs.Endings.{handed_ends, ok_not, reads_none}
 use Rattle.ubik_node.proofs.HeldImages.{held_after, held_length}
 use Rattle.ubik_node.proofs.nodes.Node.take_write.Goals as goal

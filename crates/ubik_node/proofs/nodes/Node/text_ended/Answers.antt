@@ -1,5 +1,5 @@
 use Rattle.ubik_node.proofs.Alike.{on_made, quiet_alike}
-use Rattle.ubik_node.proofs.Begun.{quiet_ends}
+use Rattle.ubik_node.proofs.Endings.{quiet_ends}
 use Rattle.ubik_node.proofs.nodes.Node.text_ended.Goals as goal
 
 pub returns-in-Told-clause-ends : goal.returns-in-Told-clause-ends

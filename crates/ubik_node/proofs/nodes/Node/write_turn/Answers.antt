@@ -11,8 +11,7 @@ use Rattle.ubik_node.proofs.nodes.Node.write_turn.Goals as goal
 
 pub returns-in-DiskFault-clause-ends : goal.returns-in-DiskFault-clause-ends
 returns-in-DiskFault-clause-ends g c =
-    let made = c.in-Err.ensures.ends in
-    (record made.0 { short = [] }, named_fault g.D.Disk c.in-Err.fault c.in-DiskFault.is made.1)
+    (record c.in-Err.ensures.ends.0 { short = [] }, named_fault g.D.Disk c.in-Err.fault c.in-DiskFault.is c.in-Err.ensures.ends.1)
 
 pub returns-in_default-clause-ends : goal.returns-in_default-clause-ends
 returns-in_default-clause-ends g c =
@@ -30,16 +29,14 @@ returns-in_default-clause-ends g c =
 
 pub returns-in_default-clause-rests : goal.returns-in_default-clause-rests
 returns-in_default-clause-rests g c = λ more free.
-    let ends = c.in-Err.ensures.ends.1 in
     let other : c.in-Err.fault ≢ DiskFault = c.in_default.not-DiskFault in
     let front = c.cut.ensures ∙ ap (λ (k : ℕ). take k c.make_write.new.out) c.len-before.ensures ∙ c.in-Err.ensures.front in
     record {
-      server = ends.state other;
-      reads = (ends.leaves.short other).1;
+      server = c.in-Err.ensures.ends.1.state other;
+      reads = (c.in-Err.ensures.ends.1.leaves.short other).1;
       few = omega (arith, ap length c.put_reply.ensures, length-append c.cut.new.self (output.Reply c.args.id reply.NoMemory ∷ []), ap length front);
     }
 
 pub returns-in-Ok-clause-ends : goal.returns-in-Ok-clause-ends
 returns-in-Ok-clause-ends g c =
-    let made = c.in-Ok.ensures.ends in
-    (record made.0 { short = [] }, made.1)
+    (record c.in-Ok.ensures.ends.0 { short = [] }, c.in-Ok.ensures.ends.1)

@@ -1,6 +1,6 @@
 use Rattle.std.proofs.Common.{◌≡◌, refl, subst}
 use Rattle.ubik_node.specs.StoreImages.{ComesByReads, Lent, told_image}
-use Rattle.ubik_node.proofs.ReadImages.{IsRead, read_comes, told_stays}
+use Rattle.ubik_node.proofs.ReadImages.{read_comes, told_stays}
 use Rattle.ubik_node.proofs.store_images.StoreImageImageRead.read.Goals as goal
 
 pub returns-then-is_ok-clause-came : goal.returns-then-is_ok-clause-came
@@ -15,8 +15,7 @@ returns-then-is_ok-clause-came g c =
 pub returns-clause-held : goal.returns-clause-held
 returns-clause-held g c =
     let e = c.read.ensures in
-    let d = c.read.new.self.disk in
-    subst (λ (i : Lent g.row.D.Denot). told_image (g.D.Disk.tells d) (g.D.Disk.files d)
+    subst (λ (i : Lent g.row.D.Denot). told_image (g.D.Disk.tells c.read.new.self.disk) (g.D.Disk.files c.read.new.self.disk)
     ≡ told_image (g.D.Disk.tells i.store.now.disk) (g.D.Disk.files i.store.now.disk)) c.self.view_is
     (told_stays g.D.Disk c.self.inside.store.now c.read.new.self c.read.result
     (record { same = e.same; kept = e.kept; fault = e.fault; rests = e.rests; disk = e.disk }))
