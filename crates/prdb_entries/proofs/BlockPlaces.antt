@@ -16,7 +16,8 @@ laid image at bytes = take at image ++ bytes ++ drop (at + length bytes) image
 pub changed_laid : (image bytes : List ℕ) (at : ℕ) → at ≤ length image → changed image (Put at bytes) ≡ laid image at bytes
 unfolding laid
 changed_laid image bytes at within =
-    ap (λ (front : List ℕ). front ++ bytes ++ drop (at + length bytes) image) (take-append-le at image (replicate (at - length image) 0) within)
+    ap (λ (front : List ℕ). front ++ bytes ++ drop (at + length bytes) image)
+    (take-append-le at image (replicate (at - length image) 0) within)
 
 laid_before : (image bytes : List ℕ) (at i : ℕ) → at ≤ length image → i < at → slice_index (laid image at bytes) i ≡ slice_index image i
 unfolding laid
@@ -40,13 +41,15 @@ part_same : (a b : List ℕ) (at len : ℕ) → at + len ≤ length a → at + l
     → ((i : ℕ) → at ≤ i → i < at + len → slice_index a i ≡ slice_index b i) → take len (drop at a) ≡ take len (drop at b)
 part_same a b at len in_a in_b same =
     same_number_lists (take len (drop at a)) (take len (drop at b))
-    (length-take-le len (drop at a) (omega (arith, length-drop at a)) ∙ sym (length-take-le len (drop at b) (omega (arith, length-drop at b))))
+    (length-take-le len (drop at a) (omega (arith, length-drop at a))
+    ∙ sym (length-take-le len (drop at b) (omega (arith, length-drop at b))))
     (λ k below.
     let short : k < len = omega (arith, below, length-take-le len (drop at a) (omega (arith, length-drop at a))) in
     get_or-take len (drop at a) k 0 short ∙ get_or-drop at a k 0 ∙ same (at + k) (omega arith) (omega arith)
     ∙ sym (get_or-take len (drop at b) k 0 short ∙ get_or-drop at b k 0))
 
-take_laid : (image bytes : List ℕ) (at m : ℕ) → at + length bytes ≤ m → m ≤ length image → take m (laid image at bytes) ≡ laid (take m image) at bytes
+take_laid : (image bytes : List ℕ) (at m : ℕ) → at + length bytes ≤ m → m ≤ length image
+    → take m (laid image at bytes) ≡ laid (take m image) at bytes
 unfolding laid
 take_laid image bytes at m fits within = same_lists _ _ (search (rules, places)) (λ k d h. grind (arith, places))
 
@@ -72,7 +75,8 @@ apart image bytes k j n size len within below other =
     part_same (laid image (block_place k) bytes) image (block_place j) 192 (omega arith) (omega arith)
     (λ i from less. laid_before image bytes (block_place k) i (omega arith) (omega arith)))
     (λ (behind : k ≤ j).
-    part_same (laid image (block_place k) bytes) image (block_place j) 192 (omega (arith, laid_len image bytes (block_place k) (omega arith))) (omega arith)
+    part_same (laid image (block_place k) bytes) image (block_place j) 192
+    (omega (arith, laid_len image bytes (block_place k) (omega arith))) (omega arith)
     (λ i from less. laid_behind image bytes (block_place k) i (omega arith) (omega arith)))
     (cases_lt j k)
 
@@ -87,7 +91,8 @@ front : (image bytes : List ℕ) (at m : ℕ) → m ≤ at → at ≤ length ima
 unfolding laid
 front image bytes at m before within = same_lists _ _ (search (rules, places)) (λ k d h. grind (arith, places))
 
-pub put_block : (image block : List ℕ) (k n : ℕ) → length image ≡ block_place n → length block ≡ 192 → k < n → IsPut k block image (with_block k block image) n
+pub put_block : (image block : List ℕ) (k n : ℕ) → length image ≡ block_place n → length block ≡ 192 → k < n
+    → IsPut k block image (with_block k block image) n
 unfolding block_in
 put_block image block k n size len below =
     let is : with_block k block image ≡ laid image (block_place k) block = changed_laid image block (block_place k) (omega arith) in
@@ -99,7 +104,8 @@ put_block image block k n size len below =
       others = λ j less other. apart image block k j n size len (omega arith) (omega arith) other;
     }
 
-pub add_block : (image block : List ℕ) (n : ℕ) → length image ≡ block_place n → length block ≡ 192 → IsPut n block image (with_block n block image) (n + 1)
+pub add_block : (image block : List ℕ) (n : ℕ) → length image ≡ block_place n → length block ≡ 192
+    → IsPut n block image (with_block n block image) (n + 1)
 unfolding block_in
 add_block image block n size len =
     let is : with_block n block image ≡ laid image (block_place n) block = changed_laid image block (block_place n) (omega arith) in
@@ -118,7 +124,8 @@ pub record IsHeadPut (old new made : List ℕ) : Type 0 where
   pub head : take 2112 new ≡ made
   pub others : (j : ℕ) → j < block_count old → block_in new j ≡ block_in old j
 
-head_put : (image bytes old_head new_head : List ℕ) (at n : ℕ) → length image ≡ block_place n → at + length bytes ≤ 2112 → take 2112 image ≡ old_head
+head_put : (image bytes old_head new_head : List ℕ) (at n : ℕ) → length image ≡ block_place n → at + length bytes ≤ 2112
+    → take 2112 image ≡ old_head
     → laid old_head at bytes ≡ new_head → IsHeadPut image (changed image (Put at bytes)) new_head
 unfolding block_in
 head_put image bytes old_head new_head at n size fits is made =
@@ -127,7 +134,9 @@ head_put image bytes old_head new_head at n size fits is made =
     subst (λ (new : List ℕ). IsHeadPut image new new_head) (sym whole) record {
       size = laid_len image bytes at (omega arith);
       head = take_laid image bytes at 2112 fits (omega arith) ∙ ap (λ (h : List ℕ). laid h at bytes) is ∙ made;
-      others = λ j less. part_same (laid image at bytes) image (block_place j) 192 (omega (arith, laid_len image bytes at (omega arith))) (omega arith)
+      others =
+          λ j less. part_same (laid image at bytes) image (block_place j) 192 (omega (arith, laid_len image bytes at (omega arith)))
+          (omega arith)
           (λ i from below. laid_behind image bytes at i (omega arith) (omega arith));
     }
 
@@ -135,10 +144,12 @@ count_head : (user group : ℤ) (old new : ℕ) → laid (head_with user group o
 unfolding laid words
 count_head user group old new = refl
 
-pub put_count : (image : List ℕ) (user group : ℤ) (old new n : ℕ) → length image ≡ block_place n → take 2112 image ≡ head_with user group old
+pub put_count : (image : List ℕ) (user group : ℤ) (old new n : ℕ) → length image ≡ block_place n
+    → take 2112 image ≡ head_with user group old
     → IsHeadPut image (with_count new image) (head_with user group new)
 put_count image user group old new n size is =
-    head_put image (word new) (head_with user group old) (head_with user group new) 16 n size (omega arith) is (count_head user group old new)
+    head_put image (word new) (head_with user group old) (head_with user group new) 16 n size (omega arith) is
+    (count_head user group old new)
 
 maxima_head : (user group u g : ℤ) (n : ℕ) → laid (head_with user group n) 8 (word (bits u) ++ word (bits g)) ≡ head_with u g n
 unfolding laid words
@@ -147,7 +158,8 @@ maxima_head user group u g n = refl
 pub put_maxima : (image : List ℕ) (user group u g : ℤ) (n : ℕ) → length image ≡ block_place n → take 2112 image ≡ head_with user group n
     → IsHeadPut image (changed image (Put 8 (word (bits u) ++ word (bits g)))) (head_with u g n)
 put_maxima image user group u g n size is =
-    head_put image (word (bits u) ++ word (bits g)) (head_with user group n) (head_with u g n) 8 n size (omega arith) is (maxima_head user group u g n)
+    head_put image (word (bits u) ++ word (bits g)) (head_with user group n) (head_with u g n) 8 n size (omega arith) is
+    (maxima_head user group u g n)
 
 pub block_len : (image : List ℕ) (k n : ℕ) → length image ≡ block_place n → k < n → length (block_in image k) ≡ 192
 unfolding block_in

@@ -16,7 +16,8 @@ int_same : (a b : ℤ) → a ≡ b → int_eq a b ≡ true
 int_same a b e = (Decides-int_eq a b).1 e
 
 int_other : (a b : ℤ) → a ≢ b → int_eq a b ≡ false
-int_other a b other = ⊎_elim (λ (t : int_eq a b ≡ true). absurd (other ((Decides-int_eq a b).0 t))) (λ (f : int_eq a b ≡ false). f) (cases_Bool (int_eq a b))
+int_other a b other =
+    ⊎_elim (λ (t : int_eq a b ≡ true). absurd (other ((Decides-int_eq a b).0 t))) (λ (f : int_eq a b ≡ false). f) (cases_Bool (int_eq a b))
 
 -- the entries with this under an id
 abbrev pub set_under : ℤ → Option PrEntry → (ℤ → Option PrEntry) → ℤ → Option PrEntry
@@ -29,7 +30,8 @@ pub under_other : (x id : ℤ) (content : Option PrEntry) (entry : ℤ → Optio
 under_other x id content entry other = ap (λ (b : Bool). cond b content (entry id)) (int_other id x other)
 
 pub by_id : {P : Type 0} (a b : ℤ) → (a ≡ b → P) → (a ≢ b → P) → P
-by_id {P} a b same other = ⊎_elim (λ (t : int_eq a b ≡ true). same ((Decides-int_eq a b).0 t)) (λ (f : int_eq a b ≡ false). other (λ e. let t = int_same a b e in absurd cc)) (cases_Bool (int_eq a b))
+by_id {P} a b same other = ⊎_elim (λ (t : int_eq a b ≡ true). same ((Decides-int_eq a b).0 t))
+    (λ (f : int_eq a b ≡ false). other (λ e. let t = int_same a b e in absurd cc)) (cases_Bool (int_eq a b))
 
 pub some_same : {X : Type 0} {x y : X} → Some x ≡ Some y → x ≡ y
 some_same e = cc
@@ -52,7 +54,8 @@ pub record IsStep (old new : List ℕ) (k m : ℕ) (block : List ℕ) : Type 0 w
   pub kept : block_count old ≤ m
   pub only : (j : ℕ) → j < m → j ≢ k → j < block_count old
 
-new_there : (old new : List ℕ) (k m : ℕ) (block : List ℕ) (x : ℤ) (content : Option PrEntry) (r : Registry) → IsLaidOut old r → IsStep old new k m block
+new_there : (old new : List ℕ) (k m : ℕ) (block : List ℕ) (x : ℤ) (content : Option PrEntry) (r : Registry) → IsLaidOut old r
+    → IsStep old new k m block
     → IsAlone old k x → IsContent x content block → (j : ℕ) → j < m → kind_of (block_in new j) ≡ 1
     → set_under x content r.entry (entry_in (block_in new j)).id ≡ Some (entry_in (block_in new j))
 new_there old new k m block x None r laid next alone is j below kind =
@@ -82,7 +85,8 @@ new_there old new k m block x (Some e) r laid next alone is j below kind =
 abbrev StandsIn : List ℕ → ℕ → PrEntry → Type 0
 StandsIn image m e = (k : ℕ) × (k < m) × (kind_of (block_in image k) ≡ 1) × (entry_in (block_in image k) ≡ e)
 
-old_stands : (old new : List ℕ) (k m : ℕ) (block : List ℕ) (x id : ℤ) (r : Registry) (e : PrEntry) → IsLaidOut old r → IsRegistry r → IsStep old new k m block
+old_stands : (old new : List ℕ) (k m : ℕ) (block : List ℕ) (x id : ℤ) (r : Registry) (e : PrEntry) → IsLaidOut old r → IsRegistry r
+    → IsStep old new k m block
     → IsAlone old k x → id ≢ x → r.entry id ≡ Some e → StandsIn new m e
 old_stands old new k m block x id r e laid valid next alone other at =
     let o = laid.only id e at in
@@ -118,7 +122,8 @@ stood old new k m block x next alone j below other kind =
     let b : block_in new j ≡ block_in old j = next.put.others j was other in
     λ same. alone.others j was other (ap kind_of (sym b) ∙ kind) (ap (λ (c : List ℕ). (entry_in c).id) (sym b) ∙ same)
 
-new_one : (old new : List ℕ) (k m : ℕ) (block : List ℕ) (x : ℤ) (content : Option PrEntry) (r : Registry) → IsLaidOut old r → IsStep old new k m block
+new_one : (old new : List ℕ) (k m : ℕ) (block : List ℕ) (x : ℤ) (content : Option PrEntry) (r : Registry) → IsLaidOut old r
+    → IsStep old new k m block
     → IsAlone old k x → IsContent x content block → (i j : ℕ) → i < m → j < m → kind_of (block_in new i) ≡ 1 → kind_of (block_in new j) ≡ 1
     → (entry_in (block_in new i)).id ≡ (entry_in (block_in new j)).id → i ≡ j
 new_one old new k m block x content r laid next alone is i j in_i in_j kind_i kind_j same =
@@ -158,7 +163,8 @@ pub record HaveBlocks (image : List ℕ) (m : ℕ) (entry : ℤ → Option PrEnt
   pub one : (j k : ℕ) → j < m → k < m → kind_of (block_in image j) ≡ 1 → kind_of (block_in image k) ≡ 1
       → (entry_in (block_in image j)).id ≡ (entry_in (block_in image k)).id → j ≡ k
 
-pub have_new : (old new : List ℕ) (k m : ℕ) (block : List ℕ) (x : ℤ) (content : Option PrEntry) (r : Registry) → IsLaidOut old r → IsRegistry r
+pub have_new : (old new : List ℕ) (k m : ℕ) (block : List ℕ) (x : ℤ) (content : Option PrEntry) (r : Registry) → IsLaidOut old r
+    → IsRegistry r
     → IsStep old new k m block → IsAlone old k x → IsContent x content block → IsBlock block
     → HaveBlocks new m (set_under x content r.entry)
 have_new old new k m block x content r laid valid next alone is block_is = record {
@@ -169,20 +175,26 @@ have_new old new k m block x content r laid valid next alone is block_is = recor
 }
 
 -- the same blocks in another image
-pub have_same : (old new : List ℕ) (m : ℕ) (entry : ℤ → Option PrEntry) → ((j : ℕ) → j < m → block_in new j ≡ block_in old j) → HaveBlocks old m entry
+pub have_same : (old new : List ℕ) (m : ℕ) (entry : ℤ → Option PrEntry) → ((j : ℕ) → j < m → block_in new j ≡ block_in old j)
+    → HaveBlocks old m entry
     → HaveBlocks new m entry
 have_same old new m entry same h = record {
   blocks = λ k below. subst IsBlock (sym (same k below)) (h.blocks k below);
-  there = λ k below kind. subst (λ (c : List ℕ). entry (entry_in c).id ≡ Some (entry_in c)) (sym (same k below)) (h.there k below (ap kind_of (sym (same k below)) ∙ kind));
+  there =
+      λ k below kind. subst (λ (c : List ℕ). entry (entry_in c).id ≡ Some (entry_in c)) (sym (same k below))
+      (h.there k below (ap kind_of (sym (same k below)) ∙ kind));
   only = λ id e at. let o = h.only id e at in (o.0, o.1, ap kind_of (same o.0 o.1) ∙ o.2, ap entry_in (same o.0 o.1) ∙ o.3);
-  one = λ j k in_j in_k kind_j kind_k ids. h.one j k in_j in_k (ap kind_of (sym (same j in_j)) ∙ kind_j) (ap kind_of (sym (same k in_k)) ∙ kind_k)
+  one =
+      λ j k in_j in_k kind_j kind_k ids. h.one j k in_j in_k (ap kind_of (sym (same j in_j)) ∙ kind_j)
+      (ap kind_of (sym (same k in_k)) ∙ kind_k)
       (ap (λ (c : List ℕ). (entry_in c).id) (sym (same j in_j)) ∙ ids ∙ ap (λ (c : List ℕ). (entry_in c).id) (same k in_k));
 }
 
 pub blocks_of_laid : (image : List ℕ) (r : Registry) → IsLaidOut image r → HaveBlocks image (block_count image) r.entry
 blocks_of_laid image r laid = record { blocks = laid.blocks; there = laid.there; only = laid.only; one = laid.one }
 
-pub laid_from : (image : List ℕ) (m : ℕ) (r : Registry) → length image ≡ block_place m → take 2112 image ≡ head_with r.max_user r.max_group m
+pub laid_from : (image : List ℕ) (m : ℕ) (r : Registry) → length image ≡ block_place m
+    → take 2112 image ≡ head_with r.max_user r.max_group m
     → HaveBlocks image m r.entry → IsLaidOut image r
 laid_from image m r size head h =
     let count : block_count image ≡ m = count_is image m size in

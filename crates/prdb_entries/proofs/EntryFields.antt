@@ -25,7 +25,14 @@ front e block = numbers e ++ take 8 (drop 24 block)
 
 length-front : (e : PrEntry) (block : List ℕ) → length block ≡ 192 → length (front e block) ≡ 32
 unfolding front
-length-front e block len = omega (arith, length-append (numbers e) (take 8 (drop 24 block)), length-numbers e, length-take-le 8 (drop 24 block) (omega (arith, length-drop 24 block)))
+length-front e block len =
+    omega (
+      arith,
+      length-append (numbers e) (take 8 (drop 24 block)),
+      length-numbers e,
+      length-take-le 8 (drop 24 block)
+          (omega (arith, length-drop 24 block)),
+    )
 
 length-filled : (name : List ℕ) → length name ≤ 63 → length (filled 64 name) ≡ 64
 length-filled name short = omega (arith, length-append name (zeros (64 - length name)), length-zeros (64 - length name))
@@ -34,7 +41,8 @@ split : (e : PrEntry) (block : List ℕ) → with_fields e block ≡ front e blo
 unfolding front numbers with_fields
 split e block = append_assoc (numbers e ++ take 8 (drop 24 block)) (filled 64 e.name) (drop 96 block)
 
-pub name_field : (e : PrEntry) (block : List ℕ) → length block ≡ 192 → length e.name ≤ 63 → take 64 (drop 32 (with_fields e block)) ≡ filled 64 e.name
+pub name_field : (e : PrEntry) (block : List ℕ) → length block ≡ 192 → length e.name ≤ 63
+    → take 64 (drop 32 (with_fields e block)) ≡ filled 64 e.name
 name_field e block len short =
     ap (λ (x : List ℕ). take 64 (drop 32 x)) (split e block)
     ∙ ap (take 64) (drop_at (front e block) (filled 64 e.name ++ drop 96 block) 32 (length-front e block len))
@@ -102,7 +110,8 @@ entry_with e block len is =
     let quota = quota_with e block is.quota in
     rw (name, flags, id, owner, creator, quota) refl
 
-pub is_block_with : (e : PrEntry) (block : List ℕ) → length block ≡ 192 → IsPrEntry e → take 16 (drop 96 block) ≡ zeros 16 → drop 188 block ≡ zeros 4
+pub is_block_with : (e : PrEntry) (block : List ℕ) → length block ≡ 192 → IsPrEntry e → take 16 (drop 96 block) ≡ zeros 16
+    → drop 188 block ≡ zeros 4
     → IsBlock (with_fields e block)
 is_block_with e block len is chains behind =
     let rest = behind_name e block len is.name_len in

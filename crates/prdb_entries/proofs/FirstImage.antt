@@ -60,7 +60,8 @@ found_at (suc (suc (suc (suc (suc (suc k)))))) below = absurd (omega arith)
 
 -- ---- what is found among entries
 
-find_step : (b : Bool) (x e : PrEntry) (o : Option PrEntry) (P : Type 0) → cond b (Some x) o ≡ Some e → (b ≡ true → x ≡ e → P) → (o ≡ Some e → P) → P
+find_step : (b : Bool) (x e : PrEntry) (o : Option PrEntry) (P : Type 0) → cond b (Some x) o ≡ Some e → (b ≡ true → x ≡ e → P)
+    → (o ≡ Some e → P) → P
 find_step true x e o P is here later = here refl cc
 find_step false x e o P is here later = later is
 
@@ -69,7 +70,8 @@ found_one : (es : List PrEntry) (id : ℤ) (e d : PrEntry) → find (λ x. int_e
     → (k : ℕ) × (k < length es) × (get_or es k d ≡ e) × (e.id ≡ id)
 found_one [] id e d is = absurd cc
 found_one (x ∷ es) id e d is =
-    find_step (int_eq x.id id) x e (find (λ y. int_eq y.id id) es) ((k : ℕ) × (k < length (x ∷ es)) × (get_or (x ∷ es) k d ≡ e) × (e.id ≡ id)) is
+    find_step (int_eq x.id id) x e (find (λ y. int_eq y.id id) es)
+    ((k : ℕ) × (k < length (x ∷ es)) × (get_or (x ∷ es) k d ≡ e) × (e.id ≡ id)) is
     (λ passes same. (0, omega arith, same, ap (λ (y : PrEntry). y.id) (sym same) ∙ (Decides-int_eq x.id id).0 passes))
     (λ later. let o = found_one es id e d later in (suc o.0, omega (arith, o.1), o.2, o.3))
 
@@ -100,13 +102,15 @@ names_less j k less in_k same =
 ids_apart : (j k : ℕ) → j < 6 → k < 6 → (nth j).id ≡ (nth k).id → j ≡ k
 ids_apart j k in_j in_k same =
     ⊎_elim (λ (less : j < k). absurd (ids_less j k less in_k same))
-    (λ (more : k ≤ j). ⊎_elim (λ (less : k < j). absurd (ids_less k j less in_j (sym same))) (λ (no_less : j ≤ k). omega arith) (cases_lt k j))
+    (λ (more : k ≤ j). ⊎_elim (λ (less : k < j). absurd (ids_less k j less in_j (sym same))) (λ (no_less : j ≤ k). omega arith)
+    (cases_lt k j))
     (cases_lt j k)
 
 names_apart : (j k : ℕ) → j < 6 → k < 6 → (nth j).name ≡ (nth k).name → j ≡ k
 names_apart j k in_j in_k same =
     ⊎_elim (λ (less : j < k). absurd (names_less j k less in_k same))
-    (λ (more : k ≤ j). ⊎_elim (λ (less : k < j). absurd (names_less k j less in_j (sym same))) (λ (no_less : j ≤ k). omega arith) (cases_lt k j))
+    (λ (more : k ≤ j). ⊎_elim (λ (less : k < j). absurd (names_less k j less in_j (sym same))) (λ (no_less : j ≤ k). omega arith)
+    (cases_lt k j))
     (cases_lt j k)
 
 blocks_first : HaveBlocks (layout initial_state) 6 first_registry.entry
@@ -187,7 +191,14 @@ valid_first = record {
       let k : o.0 ≡ p.0 = names_apart o.0 p.0 o.1 p.1 (ap (λ (x : PrEntry). x.name) o.2 ∙ same ∙ ap (λ (x : PrEntry). x.name) (sym p.2)) in
       sym o.3 ∙ ap (λ (x : PrEntry). x.id) (sym o.2 ∙ ap nth k ∙ p.2) ∙ p.3;
   fixed = fixed_first;
-  maxima = record { user_low = omega (arith, ints); user_high = omega (arith, ints); group_low = omega (arith, ints); group_high = omega (arith, ints) };
+  maxima =
+      record {
+        user_low = omega (arith, ints);
+        user_high = omega (arith, ints);
+        group_low = omega (arith, ints);
+        group_high = omega
+            (arith, ints);
+      };
 }
 
 pub empty_holds : Holds [] first_registry

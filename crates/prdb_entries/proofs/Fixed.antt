@@ -10,11 +10,14 @@ six_pushed : (f : PrEntry → List ℕ) (out : List ℕ) (a b c d e g : PrEntry)
 six_pushed f out a b c d e g = simp (append_assoc, append-nil)
 
 pub fixed_pushed : (f : PrEntry → List ℕ) (out : List ℕ)
-    → (((((out ++ f (fixed (codes "system:anyuser") group_flags (negsuc 100))) ++ f (fixed (codes "system:authuser") group_flags (negsuc 101)))
-    ++ f (fixed (codes "system:ptsviewers") group_flags (negsuc 202))) ++ f (fixed (codes "system:administrators") group_flags administrators))
+    → (((((out ++ f (fixed (codes "system:anyuser") group_flags (negsuc 100)))
+    ++ f (fixed (codes "system:authuser") group_flags (negsuc 101)))
+    ++ f (fixed (codes "system:ptsviewers") group_flags (negsuc 202)))
+    ++ f (fixed (codes "system:administrators") group_flags administrators))
     ++ f (fixed (codes "system:backup") group_flags (negsuc 204))) ++ f (fixed (codes "anonymous") user_flags anonymous)
     ≡ out ++ flat_map f fixed_entries
 unfolding fixed_entries
-fixed_pushed f out = six_pushed f out (fixed (codes "system:anyuser") group_flags (negsuc 100)) (fixed (codes "system:authuser") group_flags (negsuc 101))
+fixed_pushed f out =
+    six_pushed f out (fixed (codes "system:anyuser") group_flags (negsuc 100)) (fixed (codes "system:authuser") group_flags (negsuc 101))
     (fixed (codes "system:ptsviewers") group_flags (negsuc 202)) (fixed (codes "system:administrators") group_flags administrators)
     (fixed (codes "system:backup") group_flags (negsuc 204)) (fixed (codes "anonymous") user_flags anonymous)

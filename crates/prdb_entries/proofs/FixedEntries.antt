@@ -20,7 +20,8 @@ differs : {A : Type 0} (b : Bool) (x y : A) → (x ≡ y → b ≡ true) → not
 differs true x y says e = absurd cc
 differs false x y says e = λ same. let b = says same in absurd cc
 
-all_differ : {A : Type 0} (equal : A → A → Bool) (decides : (a b : A) → Decides (equal a b) (a ≡ b)) (x : A) (xs : List A) → list_all (λ y. not (equal x y)) xs ≡ true → AllByRecursion (λ y. x ≢ y) xs
+all_differ : {A : Type 0} (equal : A → A → Bool) (decides : (a b : A) → Decides (equal a b) (a ≡ b)) (x : A) (xs : List A)
+    → list_all (λ y. not (equal x y)) xs ≡ true → AllByRecursion (λ y. x ≢ y) xs
 all_differ equal decides x [] e = tt
 all_differ equal decides x (y ∷ ys) e =
     let p = and_parts (not (equal x y)) (list_all (λ z. not (equal x z)) ys) e in
@@ -32,12 +33,14 @@ pairs_cons R x xs first others zero (suc j) d lt in_range = first j d (omega ari
 pairs_cons R x xs first others (suc i) zero d lt in_range = absurd (omega arith)
 pairs_cons R x xs first others (suc i) (suc j) d lt in_range = others i j d (omega arith) (omega arith)
 
-pairs_differ : {A : Type 0} (equal : A → A → Bool) (decides : (a b : A) → Decides (equal a b) (a ≡ b)) (xs : List A) → distinct equal xs ≡ true → AllPairs (λ a b. a ≢ b) xs
+pairs_differ : {A : Type 0} (equal : A → A → Bool) (decides : (a b : A) → Decides (equal a b) (a ≡ b)) (xs : List A)
+    → distinct equal xs ≡ true → AllPairs (λ a b. a ≢ b) xs
 unfolding distinct
 pairs_differ equal decides [] e = λ i j d lt in_range. absurd (omega arith)
 pairs_differ equal decides (x ∷ xs) e =
     let p = and_parts (list_all (λ y. not (equal x y)) xs) (distinct equal xs) e in
-    pairs_cons (λ a b. a ≢ b) x xs (All-from_recursion (λ y. x ≢ y) xs (all_differ equal decides x xs p.0)) (pairs_differ equal decides xs p.1)
+    pairs_cons (λ a b. a ≢ b) x xs (All-from_recursion (λ y. x ≢ y) xs (all_differ equal decides x xs p.0))
+    (pairs_differ equal decides xs p.1)
 
 -- ---- the fixed entries
 

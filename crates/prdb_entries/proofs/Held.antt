@@ -89,7 +89,8 @@ inserted_end image r e laid valid is new =
       here = λ in_k kind. absurd (omega arith);
       others = λ j in_j other kind. none_has image r e laid new j in_j kind;
     } in
-    let blocks = have_new image mid n (n + 1) (new_block e) e.id (Some e) r laid valid step alone (new_content e (zeros 192) zeros_len is) (is_new_block e is.fields) in
+    let blocks = have_new image mid n (n + 1) (new_block e) e.id (Some e) r laid valid step alone
+    (new_content e (zeros 192) zeros_len is) (is_new_block e is.fields) in
     let put = put_count mid r.max_user r.max_group n (n + 1) (n + 1) step.put.size (step.put.head ∙ laid.head) in
     let count = count_is mid (n + 1) step.put.size in
     laid_from (with_count (n + 1) mid) (n + 1) (with_entry e r) (put.size ∙ step.put.size) put.head
@@ -100,7 +101,8 @@ whole_of_laid : (image : List ℕ) (r : Registry) → IsLaidOut image r → whol
 whole_of_laid image r laid = whole_same image (omega (arith, laid.size))
 
 holds_from : (image : List ℕ) (r : Registry) → IsRegistry r → IsLaidOut image r → Holds image r
-holds_from image r valid laid = record { valid = valid; laid = subst (λ (i : List ℕ). IsLaidOut i r) (sym (whole_of_laid image r laid)) laid }
+holds_from image r valid laid =
+    record { valid = valid; laid = subst (λ (i : List ℕ). IsLaidOut i r) (sym (whole_of_laid image r laid)) laid }
 
 pub holds_inserted : (image : List ℕ) (r : Registry) (e : PrEntry) → Holds image r → IsRecord e → MayBeAdded e r
     → Holds (after_insert e image) (with_entry e r)
@@ -119,13 +121,15 @@ holds_inserted image r e holds is may =
     (λ (last : n ≤ k).
     let same : k ≡ n = omega arith in
     rw (le-ltb k n last) (subst (λ (j : ℕ). Holds (with_count (j + 1) (with_block j (new_block e) old)) (with_entry e r)) (sym same)
-    (holds_from (with_count (n + 1) (with_block n (new_block e) old)) (with_entry e r) valid (inserted_end old r e holds.laid holds.valid is may.id))))
+    (holds_from (with_count (n + 1) (with_block n (new_block e) old)) (with_entry e r) valid
+    (inserted_end old r e holds.laid holds.valid is may.id))))
     (cases_lt k n)
 
 -- ---- other fields for an entry
 
 -- the block of an id is alone with it
-alone_at : (image : List ℕ) (r : Registry) (id : ℤ) (k : ℕ) → IsLaidOut image r → k < block_count image → has_id id (block_in image k) ≡ true
+alone_at : (image : List ℕ) (r : Registry) (id : ℤ) (k : ℕ) → IsLaidOut image r → k < block_count image
+    → has_id id (block_in image k) ≡ true
     → IsAlone image k id
 alone_at image r id k laid below has =
     let p = id_parts id (block_in image k) has in
@@ -148,10 +152,12 @@ replaced_in old new r id e k laid valid is same below has put =
     let len = block_len old k (block_count old) laid.size below in
     let p = id_parts id (block_in old k) has in
     let parts = entry_parts (block_in old k) (laid.blocks k below) p.0 in
-    let step : IsStep old new k (block_count old) (with_fields e (block_in old k)) = record { put = put; below = below; kept = omega arith; only = λ j less other. less } in
+    let step : IsStep old new k (block_count old)
+    (with_fields e (block_in old k)) = record { put = put; below = below; kept = omega arith; only = λ j less other. less } in
     let alone : IsAlone old k e.id = subst (IsAlone old k) (sym same) (alone_at old r id k laid below has) in
     laid_from new (block_count old) (with_entry e r) put.size (put.head ∙ laid.head)
-    (have_new old new k (block_count old) (with_fields e (block_in old k)) e.id (Some e) r laid valid step alone (new_content e (block_in old k) len is)
+    (have_new old new k (block_count old) (with_fields e (block_in old k)) e.id (Some e) r laid valid step alone
+    (new_content e (block_in old k) len is)
     (is_block_with e (block_in old k) len is.fields parts.chains parts.behind))
 
 pub holds_replaced : (image : List ℕ) (r : Registry) (id : ℤ) (e : PrEntry) → Holds image r → IsRecord e → MayReplace id e r
@@ -167,11 +173,19 @@ holds_replaced image r id e holds is may below =
     let len : length block ≡ 192 = length-with_fields e (block_in old k) (block_len old k n holds.laid.size below) is.fields.name_len in
     ⊎_elim
     (λ (same : bytes_eq block (block_in old k) ≡ true).
-    let put : IsPut k block old old n = record { size = holds.laid.size; head = refl; here = sym ((bytes_eq-Decides block (block_in old k)).0 same); others = λ j less other. refl } in
+    let put : IsPut k block old old n =
+    record {
+      size = holds.laid.size;
+      head = refl;
+      here = sym
+          ((bytes_eq-Decides block (block_in old k)).0 same);
+      others = λ j less other. refl;
+    } in
     rw same (record { valid = valid; laid = replaced_in old old r id e k holds.laid holds.valid is may.same_id below has put }))
     (λ (other : bytes_eq block (block_in old k) ≡ false).
     rw other (holds_from (with_block k block old) (with_entry e r) valid
-    (replaced_in old (with_block k block old) r id e k holds.laid holds.valid is may.same_id below has (put_block old block k n holds.laid.size len below))))
+    (replaced_in old (with_block k block old) r id e k holds.laid holds.valid is may.same_id below has
+    (put_block old block k n holds.laid.size len below))))
     (cases_Bool (bytes_eq block (block_in old k)))
 
 -- ---- one entry less
@@ -187,7 +201,8 @@ holds_removed image r id holds may below =
     let step = step_in old (zeros 192) k r holds.laid zeros_len below in
     holds_from (with_block k (zeros 192) old) (without_entry id r) (registry_removed r id holds.valid may)
     (laid_from (with_block k (zeros 192) old) n (without_entry id r) step.put.size (step.put.head ∙ holds.laid.head)
-    (have_new old (with_block k (zeros 192) old) k n (zeros 192) id None r holds.laid holds.valid step (alone_at old r id k holds.laid below has)
+    (have_new old (with_block k (zeros 192) old) k n (zeros 192) id None r holds.laid holds.valid step
+    (alone_at old r id k holds.laid below has)
     (λ kind. omega (arith, kind, zero_kind)) (inl refl)))
 
 -- ---- other maxima
@@ -198,20 +213,25 @@ fits_max (negsuc n) low high = record { sfits = omega (arith, ints) }
 
 max_user_at : (user group : ℤ) (n : ℕ) (rest : List ℕ) → FitsSigned w32 user → signed_at (head_with user group n ++ rest) 8 ≡ user
 unfolding words
-max_user_at user group n rest fits = ap (cast_signed w32) (from_be_bytes-to_be_bytes_4 (bits user) (bits_below user fits)) ∙ to_z-of_z w32 user fits
+max_user_at user group n rest fits =
+    ap (cast_signed w32) (from_be_bytes-to_be_bytes_4 (bits user) (bits_below user fits)) ∙ to_z-of_z w32 user fits
 
 max_group_at : (user group : ℤ) (n : ℕ) (rest : List ℕ) → FitsSigned w32 group → signed_at (head_with user group n ++ rest) 12 ≡ group
 unfolding words
-max_group_at user group n rest fits = ap (cast_signed w32) (from_be_bytes-to_be_bytes_4 (bits group) (bits_below group fits)) ∙ to_z-of_z w32 group fits
+max_group_at user group n rest fits =
+    ap (cast_signed w32) (from_be_bytes-to_be_bytes_4 (bits group) (bits_below group fits)) ∙ to_z-of_z w32 group fits
 
-pub maxima_of : (image : List ℕ) (r : Registry) → IsLaidOut image r → AreMaxima r.max_user r.max_group → maxima_in image ≡ (r.max_user, r.max_group)
+pub maxima_of : (image : List ℕ) (r : Registry) → IsLaidOut image r → AreMaxima r.max_user r.max_group
+    → maxima_in image ≡ (r.max_user, r.max_group)
 maxima_of image r laid max =
     let split : image ≡ head_with r.max_user r.max_group (block_count image) ++ drop 2112 image =
     sym (take-append-drop 2112 image) ∙ ap (λ (h : List ℕ). h ++ drop 2112 image) laid.head in
     let user : signed_at image 8 ≡ r.max_user = ap (λ (i : List ℕ). signed_at i 8) split
-    ∙ max_user_at r.max_user r.max_group (block_count image) (drop 2112 image) (fits_max r.max_user (omega (arith, ints, max.user_low)) max.user_high) in
+    ∙ max_user_at r.max_user r.max_group (block_count image) (drop 2112 image)
+    (fits_max r.max_user (omega (arith, ints, max.user_low)) max.user_high) in
     let group : signed_at image 12 ≡ r.max_group = ap (λ (i : List ℕ). signed_at i 12) split
-    ∙ max_group_at r.max_user r.max_group (block_count image) (drop 2112 image) (fits_max r.max_group max.group_low (omega (arith, ints, max.group_high))) in
+    ∙ max_group_at r.max_user r.max_group (block_count image) (drop 2112 image)
+    (fits_max r.max_group max.group_low (omega (arith, ints, max.group_high))) in
     ap (λ (u : ℤ). (u, signed_at image 12)) user ∙ ap (λ (g : ℤ). (r.max_user, g)) group
 
 maxima_set : (image : List ℕ) (r : Registry) (user group : ℤ) → IsLaidOut image r
@@ -245,5 +265,6 @@ holds_maxima image r user group holds max =
     let g : r.max_group ≡ group = sym (ap (λ (m : ℤ × ℤ). m.1) told) ∙ (Decides-int_eq (signed_at old 12) group).0 p.1 in
     rw same (record { valid = valid; laid = maxima_kept old r user group holds.laid u g }))
     (λ (other : (int_eq (signed_at old 8) user && int_eq (signed_at old 12) group) ≡ false).
-    rw other (holds_from (changed old (Put 8 (word (bits user) ++ word (bits group)))) (with_maxima user group r) valid (maxima_set old r user group holds.laid)))
+    rw other (holds_from (changed old (Put 8 (word (bits user) ++ word (bits group)))) (with_maxima user group r) valid
+    (maxima_set old r user group holds.laid)))
     (cases_Bool (int_eq (signed_at old 8) user && int_eq (signed_at old 12) group))

@@ -34,9 +34,11 @@ bad_size (Some image) len at fault is told other =
 pub bad_kind : (bytes : Option (List ℕ)) (number : ℕ) (block : List ℕ) → IfSome bytes (λ image. block ≡ block_in image number)
     → 2 < kind_of block → HoldNone bytes (λ image r. kind_of (block_in image number) ≤ 2)
 bad_kind None number block is high = tt
-bad_kind (Some image) number block is high = λ r small. let same : kind_of block ≡ kind_of (block_in image number) = ap kind_of is in omega (arith, same, small, high)
+bad_kind (Some image) number block is high =
+    λ r small. let same : kind_of block ≡ kind_of (block_in image number) = ap kind_of is in omega (arith, same, small, high)
 
-pub bad_block : (bytes : Option (List ℕ)) (count number : ℕ) (fault : RecordFault) → IfSome bytes (λ image. length image ≡ block_place count)
+pub bad_block : (bytes : Option (List ℕ)) (count number : ℕ) (fault : RecordFault)
+    → IfSome bytes (λ image. length image ≡ block_place count)
     → number < count → HasCause bytes (λ image r. kind_of (block_in image number) ≤ 2) fault → HasCause bytes IsLaidOut fault
 bad_block bytes count number DiskFault told below cause = tt
 bad_block bytes count number NoMemory told below cause = tt

@@ -34,7 +34,8 @@ text_end name k more text =
     position_or_len_is (λ b. eqb b 0) (name ++ zeros k) (length name) 0 (omega (arith, length-append name (zeros k)))
     (λ i lt. rw (get_or_append_left name (zeros k) 0 i lt) (not_zero (get_or name i 0) (text i 0 lt)))
     (λ lt. is_zero (get_or (name ++ zeros k) (length name) 0)
-    (get_or-append_right name (zeros k) (length name) (length name) 0 refl (omega arith) ∙ get_or-zeros k (length name - length name) 0 (omega arith)))
+    (get_or-append_right name (zeros k) (length name) (length name) 0 refl (omega arith)
+    ∙ get_or-zeros k (length name - length name) 0 (omega arith)))
 
 pub fits_id : (z : ℤ) → IsId z → FitsSigned w32 z
 fits_id (pos n) h = record { sfits = omega arith }

@@ -4,7 +4,8 @@ use Rattle.std.specs.Prelude.{IfSome}
 use Rattle.std.specs.List.{find, range_with_len}
 use Rattle.prdb_entries.specs.Meaning.{ids_above}
 
-found_or_later : (b : Bool) (x bound : ℕ) (later : Option ℕ) → x ≤ bound → IfSome later (λ y. y ≤ bound) → IfSome (cond b (Some x) later) (λ y. y ≤ bound)
+found_or_later : (b : Bool) (x bound : ℕ) (later : Option ℕ) → x ≤ bound → IfSome later (λ y. y ≤ bound)
+    → IfSome (cond b (Some x) later) (λ y. y ≤ bound)
 found_or_later true x bound later h k = h
 found_or_later false x bound later h k = k
 

@@ -37,7 +37,8 @@ fixed_with : (r : Registry) (e f : PrEntry) → IsSomeAnd (r.entry f.id) (λ g. 
     → IsSomeAnd ((with_entry e r).entry f.id) (λ g. g.name ≡ f.name)
 fixed_with r e f was name =
     by_id f.id e.id
-    (λ same. subst (λ (o : Option PrEntry). IsSomeAnd o (λ g. g.name ≡ f.name)) (sym (under_same e.id f.id (Some e) r.entry same)) (name same))
+    (λ same. subst (λ (o : Option PrEntry). IsSomeAnd o (λ g. g.name ≡ f.name)) (sym (under_same e.id f.id (Some e) r.entry same))
+    (name same))
     (λ other. subst (λ (o : Option PrEntry). IsSomeAnd o (λ g. g.name ≡ f.name)) (sym (under_other e.id f.id (Some e) r.entry other)) was)
 
 pub registry_with : (r : Registry) (e : PrEntry) → IsRegistry r → IsRecord e → IsAmong (with_entry e r).entry e
@@ -48,7 +49,8 @@ registry_with r e valid is among name fixed = record {
   ids = each_with r e (λ id f. f.id ≡ id) refl valid.ids;
   records = each_with r e (λ id f. IsRecord f) is valid.records;
   among = each_with r e (λ id f. IsAmong (with_entry e r).entry f) among (λ id f at. among_with r e f (valid.among id f at));
-  names = λ a b f g at_a at_b same. each_with r e (λ z h. (c : ℤ) (k : PrEntry) → (with_entry e r).entry c ≡ Some k → h.name ≡ k.name → z ≡ c)
+  names =
+      λ a b f g at_a at_b same. each_with r e (λ z h. (c : ℤ) (k : PrEntry) → (with_entry e r).entry c ≡ Some k → h.name ≡ k.name → z ≡ c)
       (each_with r e (λ c k. e.name ≡ k.name → e.id ≡ c) (λ eq. refl) (λ c k at eq. sym (name c k at (sym eq))))
       (λ z h at. each_with r e (λ c k. h.name ≡ k.name → z ≡ c) (λ eq. name z h at eq) (λ c k other eq. valid.names z c h k at other eq))
       a f at_a b g at_b same;
@@ -64,7 +66,8 @@ pub registry_added : (r : Registry) (e : PrEntry) → IsRegistry r → IsRecord 
 registry_added r e valid is may =
     registry_with r e valid is may.among
     (λ other f at same. absurd (may.name other f at same))
-    (λ i d below same. absurd (not_none (r.entry (get_or fixed_entries i d).id) (get_or fixed_entries i d) (valid.fixed i d below) (ap r.entry same ∙ may.id)))
+    (λ i d below same. absurd
+    (not_none (r.entry (get_or fixed_entries i d).id) (get_or fixed_entries i d) (valid.fixed i d below) (ap r.entry same ∙ may.id)))
 
 pub registry_replaced : (r : Registry) (id : ℤ) (e : PrEntry) → IsRegistry r → IsRecord e → MayReplace id e r → IsRegistry (with_entry e r)
 registry_replaced r id e valid is may =
@@ -83,11 +86,14 @@ each_without r gone P others id f at =
 
 among_without : (r : Registry) (gone : ℤ) (f : PrEntry) → IsAmong r.entry f → f.owner ≢ gone → IsAmong (without_entry gone r).entry f
 among_without r gone f is other = record {
-  owner = ⊎_elim (λ none. inl none) (λ some. inr (subst (λ (o : Option PrEntry). IsSome o) (sym (under_other gone f.owner None r.entry other)) some)) is.owner;
+  owner =
+      ⊎_elim (λ none. inl none)
+      (λ some. inr (subst (λ (o : Option PrEntry). IsSome o) (sym (under_other gone f.owner None r.entry other)) some)) is.owner;
   creator = is.creator;
 }
 
-fixed_other : (gone : ℤ) (i : ℕ) (d : PrEntry) → (below : i < length fixed_entries) → ¬ IsFixedId gone → (get_or fixed_entries i d).id ≢ gone
+fixed_other : (gone : ℤ) (i : ℕ) (d : PrEntry) → (below : i < length fixed_entries) → ¬ IsFixedId gone
+    → (get_or fixed_entries i d).id ≢ gone
 fixed_other gone i d below not = λ same. not (
   i,
   omega (arith, below, length-map fixed_entries (λ (e : PrEntry). e.id)),
@@ -98,12 +104,17 @@ pub registry_removed : (r : Registry) (gone : ℤ) → IsRegistry r → MayBeRem
 registry_removed r gone valid may = record {
   ids = each_without r gone (λ id f. f.id ≡ id) valid.ids;
   records = each_without r gone (λ id f. IsRecord f) valid.records;
-  among = each_without r gone (λ id f. IsAmong (without_entry gone r).entry f) (λ id f at. among_without r gone f (valid.among id f at) (may.owns_nothing id f at));
-  names = λ a b f g at_a at_b same. each_without r gone (λ z h. (c : ℤ) (k : PrEntry) → (without_entry gone r).entry c ≡ Some k → h.name ≡ k.name → z ≡ c)
+  among =
+      each_without r gone (λ id f. IsAmong (without_entry gone r).entry f)
+      (λ id f at. among_without r gone f (valid.among id f at) (may.owns_nothing id f at));
+  names =
+      λ a b f g at_a at_b same. each_without r gone
+      (λ z h. (c : ℤ) (k : PrEntry) → (without_entry gone r).entry c ≡ Some k → h.name ≡ k.name → z ≡ c)
       (λ z h at. each_without r gone (λ c k. h.name ≡ k.name → z ≡ c) (λ c k other eq. valid.names z c h k at other eq))
       a f at_a b g at_b same;
   fixed = λ i d below. subst (λ (o : Option PrEntry). IsSomeAnd o (λ e. e.name ≡ (get_or fixed_entries i d).name))
-      (sym (under_other gone (get_or fixed_entries i d).id None r.entry (fixed_other gone i d below may.not_fixed))) (valid.fixed i d below);
+      (sym (under_other gone (get_or fixed_entries i d).id None r.entry (fixed_other gone i d below may.not_fixed)))
+      (valid.fixed i d below);
   maxima = valid.maxima;
 }
 

@@ -16,11 +16,13 @@ entry_told image r laid valid id =
     let n = block_count image in
     let within : k ≤ 0 + n = first_within (λ j. has_id id (block_in image j)) 0 n in
     ⊎_elim
-    (λ (last : k ≡ n). sym (id_absent image r id laid valid last) ∙ sym (ap (λ (b : Bool). cond b None (Some (entry_in (block_in image k)))) (eq-eqb k n last)))
+    (λ (last : k ≡ n). sym (id_absent image r id laid valid last)
+    ∙ sym (ap (λ (b : Bool). cond b None (Some (entry_in (block_in image k)))) (eq-eqb k n last)))
     (λ (other : k ≡ n → ⊥).
     let below : k < n = omega arith in
     let p = id_parts id (block_in image k) (first_met (λ j. has_id id (block_in image j)) 0 n (omega arith)) in
-    ap r.entry (sym p.1) ∙ laid.there k below p.0 ∙ sym (ap (λ (b : Bool). cond b None (Some (entry_in (block_in image k)))) (ne_eqb k n other)))
+    ap r.entry (sym p.1) ∙ laid.there k below p.0
+    ∙ sym (ap (λ (b : Bool). cond b None (Some (entry_in (block_in image k)))) (ne_eqb k n other)))
     (cases_eq k n)
 
 pub registry_told : (image : List ℕ) (r : Registry) → Holds image r → r ≡ registry_in (whole image)

@@ -35,7 +35,8 @@ pub record HasForm (name : List ℕ) : Type 0 where
 pub form : (name : List ℕ) → is_user_name name ≡ true → HasForm name
 unfolding is_user_name
 form name e =
-    let p = and_parts (leb 1 (length name) && leb (length name) 63 && list_all is_name_byte name) (not (bytes_eq name (codes "system"))) e in
+    let p = and_parts (leb 1 (length name) && leb (length name) 63 && list_all is_name_byte name)
+    (not (bytes_eq name (codes "system"))) e in
     let q = and_parts (leb 1 (length name) && leb (length name) 63) (list_all is_name_byte name) p.0 in
     let r = and_parts (leb 1 (length name)) (leb (length name) 63) q.0 in
     let all = All-from_recursion IsVisible name (all_visible name q.1) in

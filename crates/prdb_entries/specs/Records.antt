@@ -1,5 +1,5 @@
 -- How an image holds a registry, and the image after each change (layout of format 1).
-use Rattle.std.specs.Prelude.{ℕ, ℤ, ◌≡◌, ◌+◌, ◌-◌, ◌*◌, ◌<◌, ◌<ℤ◌, ◌≤ℤ◌, ◌⊎◌, zero, suc, Bool, true, ◌&&◌, ◌==◌, nat_lt, int_lt, if◌then◌else◌, List, [], ◌∷◌, ◌++◌, length, take, drop, Option, Some, None}
+use Rattle.std.specs.Prelude.{ℕ, ℤ, ◌≡◌, ◌+◌, ◌-◌, ◌*◌, ◌<◌, ◌⊎◌, zero, suc, Bool, ◌&&◌, ◌==◌, nat_lt, if◌then◌else◌, List, [], ◌∷◌, ◌++◌, length, take, drop, Option, Some, None}
 use Rattle.std.specs.Int.{w32, cast_signed}
 use Rattle.std.specs.Ordering.{int_eq}
 use Rattle.std.specs.Str.{bytes_eq}
@@ -113,11 +113,6 @@ has_name name block = kind_of block == 1 && bytes_eq (block_name block) name
 abbrev pub has_id : ℤ → List ℕ → Bool
 has_id id block = kind_of block == 1 && int_eq (entry_in block).id id
 
--- an id is below that of a block, if there is one
-abbrev pub is_below : ℤ → Option (List ℕ) → Bool
-is_below id None = true
-is_below id (Some block) = int_lt id (signed_at block ID_AT)
-
 -- the entry of the first block with an id, if one has it
 abbrev pub entry_at : List ℕ → ℤ → Option PrEntry
 entry_at image id =
@@ -131,23 +126,6 @@ maxima_in image = (signed_at image MAX_USER_AT, signed_at image (MAX_USER_AT + 4
 -- the registry that an image which is not empty tells, whatever it holds
 unfoldable pub registry_in : List ℕ → Registry
 registry_in image = record { entry = entry_at image; max_user = (maxima_in image).0; max_group = (maxima_in image).1 }
-
--- an entry's block whose id is above one, and below that of the best block so far
-abbrev pub is_nearer : ℤ → List ℕ → Option (List ℕ) → Bool
-is_nearer after block best =
-    kind_of block == 1 && int_lt after (signed_at block ID_AT) && is_below (signed_at block ID_AT) best
-
--- an entry's block with an id above one, among the first blocks of an image
-pub record IsAbove (after : ℤ) (image : List ℕ) (count k : ℕ) : Type 0 where
-  pub below : k < count
-  pub kind : kind_of (block_in image k) ≡ 1
-  pub above : after <ℤ signed_at (block_in image k) ID_AT
-
--- the one of them with the least id, if there is one
-abbrev pub IsLeastAbove : (after : ℤ) → List ℕ → (count : ℕ) → Option (List ℕ) → Type 0
-IsLeastAbove after image count None = (k : ℕ) → ¬ IsAbove after image count k
-IsLeastAbove after image count (Some block) = (k : ℕ) × IsAbove after image count k × (block ≡ block_in image k)
-    × ((j : ℕ) → IsAbove after image count j → signed_at block ID_AT ≤ℤ signed_at (block_in image j) ID_AT)
 
 -- ---- the image after a change
 

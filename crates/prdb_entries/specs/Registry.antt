@@ -1,6 +1,6 @@
 -- The protection database apart from any layout: its entries by their ids, and the two maxima (ptserver). The order in which entries
 -- lie anywhere is no part of it. Pairs are not part of it either.
-use Rattle.std.specs.Prelude.{ℕ, ℤ, pos, negsuc, ◌≡◌, ◌≢◌, ◌+◌, ◌==◌, ◌≤ℤ◌, ◌<ℤ◌, ◌⊎◌, Bool, IsTrue, ◌&&◌, not, List, length, drop, map, Option, Some, None, IsSome, IsSomeAnd, nat_le, if◌then◌else◌, codes}
+use Rattle.std.specs.Prelude.{ℕ, ℤ, pos, negsuc, ◌≡◌, ◌≢◌, ◌+◌, ◌==◌, ◌≤ℤ◌, ◌⊎◌, Bool, IsTrue, ◌&&◌, not, List, length, drop, map, Option, Some, None, IsSome, IsSomeAnd, nat_le, if◌then◌else◌, codes}
 use Rattle.std.specs.List.{All, Contains, find, list_all, list_any}
 use Rattle.std.specs.Ordering.{int_eq}
 use Rattle.std.specs.Str.{bytes_eq}
@@ -80,11 +80,6 @@ pub record IsRegistry (r : Registry) : Type 0 where
 abbrev pub IsNamed : Registry → List ℕ → Option PrEntry → Type 0
 IsNamed r name None = (id : ℤ) (e : PrEntry) → r.entry id ≡ Some e → e.name ≢ name
 IsNamed r name (Some e) = (r.entry e.id ≡ Some e) × (e.name ≡ name)
-
--- the entry with the least id above one, if there is one
-abbrev pub IsNext : Registry → (after : ℤ) → Option PrEntry → Type 0
-IsNext r after None = (id : ℤ) → after <ℤ id → r.entry id ≡ None
-IsNext r after (Some e) = (r.entry e.id ≡ Some e) × (after <ℤ e.id) × ((id : ℤ) → after <ℤ id → IsSome (r.entry id) → e.id ≤ℤ id)
 
 -- ---- changes
 

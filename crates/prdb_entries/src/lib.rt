@@ -11,5 +11,5 @@ mod scans;
 pub use laws::{law_empty_holds_the_first, law_image_tells_its_registry};
 pub use names::is_user_name;
 pub use records::{
-    PrEntry, draft_over, find_id, find_name, insert, maxima, next_id, remove, replace, set_maxima,
+    PrEntry, draft_over, find_id, find_name, insert, maxima, remove, replace, set_maxima,
 };

@@ -11,7 +11,7 @@ ghost use Rattle.prdb_entries.specs.Bytes.{bits, word};
 ghost use Rattle.prdb_entries.specs.Meaning.{new_user};
 ghost use Rattle.prdb_entries.specs.RecordEnds.{Becomes, HasCause, HoldsTheSame, Makes, OnlyDrafts, OnlyLooks, seen};
 ghost use Rattle.prdb_entries.specs.Records.{Holds, IsLaidOut, after_insert, after_remove, after_replace, after_set_maxima, block_place, field_numbers, maxima_in, with_count, with_block, with_new_block, with_fields, whole};
-ghost use Rattle.prdb_entries.specs.Registry.{Registry, AreMaxima, IsRecord, IsNamed, IsNext, MayBeAdded, MayReplace, MayBeRemoved, with_entry, without_entry, with_maxima};
+ghost use Rattle.prdb_entries.specs.Registry.{Registry, AreMaxima, IsRecord, IsNamed, MayBeAdded, MayReplace, MayBeRemoved, with_entry, without_entry, with_maxima};
 
 use crate::blocks::{
     ANONYMOUS, BLOCK_COUNT_AT, BLOCK_LEN, CHAINS_AT, FIRST_LEN, HEAD_LEN, MAX_USER_AT, NAME_AT,
@@ -20,7 +20,7 @@ use crate::blocks::{
 use crate::entries::{
     ADMINISTRATORS, ENTRY, MAX_GROUP, USER_FLAGS, USER_QUOTA, initial_image, push_name, push_words,
 };
-use crate::scans::{Wanted, block_count, block_place, entry_in, find_block, find_next, signed_at};
+use crate::scans::{Wanted, block_count, block_place, entry_in, find_block, signed_at};
 use db_image::{Draft, ImageRead, RecordFault};
 use std::alloc::{AllocError, Global};
 use ubik_types::{Bytes, WORD_LEN};
@@ -100,24 +100,6 @@ pub fn find_id<I: ImageRead>(
 {
     match find_block(alloc, d, Wanted::Id(id))? {
         Some(found) => Ok(Some(entry_in(alloc, &found.block)?)),
-        None => Ok(None),
-    }
-}
-
-/// The entry with the least id above one.
-pub fn next_id<I: ImageRead>(
-    alloc: Global,
-    d: &mut Draft<I>,
-    after: i32,
-) -> Result<Option<PrEntry>, RecordFault>
-    requires { d.old.len < 2 ^ 31 }
-    ensures found { IfOk result (λ found. IfSome d.old.bytes (λ image. (r : Registry) → Holds image r
-        → IsNext r after (option_map seen found))) }
-    ensures fault { IfErr result (HasCause d.old.bytes Holds) }
-    ensures frame { OnlyLooks I.ImageRead d.old d.new (IsErrOf result RecordFault.DiskFault) }
-{
-    match find_next(alloc, d, after)? {
-        Some(block) => Ok(Some(entry_in(alloc, &block)?)),
         None => Ok(None),
     }
 }

@@ -1,10 +1,9 @@
 //! Blocks of a draft, read one after the other.
 ghost use Rattle.std.specs.Prelude.{◌≡◌, ◌≢◌, ◌+◌, ◌<◌, ◌≤◌, ◌^◌, ℕ, Some, IfSome, IfOk, IfErr, IsErrOf, length, max};
-ghost use Rattle.std.specs.Option.{option_copied};
 ghost use Rattle.prdb_entries.specs.Blocks.{block_count};
 ghost use Rattle.prdb_entries.specs.Layout.{layout};
 ghost use Rattle.prdb_entries.specs.RecordEnds.{OnlyLooks, HasCause, IsFirst, is_met, seen};
-ghost use Rattle.prdb_entries.specs.Records.{Holds, IsLaidOut, IsLeastAbove, block_in, block_place, entry_in, is_below, is_nearer, kind_of, signed_at, whole};
+ghost use Rattle.prdb_entries.specs.Records.{Holds, IsLaidOut, block_in, block_place, entry_in, kind_of, signed_at, whole};
 ghost use Rattle.prdb_entries.specs.State.{initial_state};
 
 use crate::blocks::{
@@ -164,58 +163,4 @@ pub fn find_block<I: ImageRead>(
         return scan(d, wanted);
     }
     scan(&mut first_draft(alloc)?, wanted)
-}
-
-/// Whether an id is below that of a block, if there is one.
-fn is_below(id: i32, block: Option<&Block>) -> bool
-    ensures { result ≡ is_below id (option_copied block.entry) }
-{
-    match block {
-        Some(block) => id < signed_at(block, ID_AT),
-        None => true,
-    }
-}
-
-/// Whether a block is an entry's whose id is above one, and below that of the best one so far.
-fn is_nearer(block: &Block, after: i32, best: Option<&Block>) -> bool
-    ensures { result ≡ is_nearer after block.now (option_copied best.entry) }
-{
-    let id = signed_at(block, ID_AT);
-    kind_of(block) == ENTRY && after < id && is_below(id, best)
-}
-
-/// The entry's block with the least id above one, in a draft that is not empty.
-fn scan_next<I: ImageRead>(d: &mut Draft<I>, after: i32) -> Result<Option<Block>, RecordFault>
-    requires { d.old.len < 2 ^ 31 }
-    ensures found { IfOk result (λ found. IfSome d.old.bytes (λ image. IsLeastAbove after image (block_count image) found)) }
-    ensures fault { IfErr result (HasCause d.old.bytes IsLaidOut) }
-    ensures frame { OnlyLooks I.ImageRead d.old d.new (IsErrOf result RecordFault.DiskFault) }
-{
-    let count = block_count(d.len())?;
-    let mut best = None;
-    for number in 0..count {
-        let block = read_block(d, number)?;
-        if is_nearer(&block, after, best.as_ref()) {
-            best = Some(block);
-        }
-    }
-    Ok(best)
-}
-
-/// The entry's block with the least id above one; an empty draft is read as the first image.
-pub fn find_next<I: ImageRead>(
-    alloc: Global,
-    d: &mut Draft<I>,
-    after: i32,
-) -> Result<Option<Block>, RecordFault>
-    requires { d.old.len < 2 ^ 31 }
-    ensures found { IfOk result (λ found. IfSome d.old.bytes (λ image.
-        IsLeastAbove after (whole image) (block_count (whole image)) found)) }
-    ensures fault { IfErr result (HasCause d.old.bytes Holds) }
-    ensures frame { OnlyLooks I.ImageRead d.old d.new (IsErrOf result RecordFault.DiskFault) }
-{
-    if d.len() > 0 {
-        return scan_next(d, after);
-    }
-    scan_next(&mut first_draft(alloc)?, after)
 }

@@ -48,7 +48,8 @@ met_so r owner id valid is =
     let e = some_of (r.entry id) owner is.1 in
     (e.0, e.1, (owned_tells owner e.0).1 (subst (λ (x : ℤ). x <ℤ pos 0) (sym (valid.ids id e.0 e.1)) is.0, e.2))
 
-list_so : (r : Registry) (owner : ℤ) (ids : List ℤ) → IsRegistry r → IsScanOf (IsMetAt (is_owned owner) r) ids → IsListOf (IsOwned r owner) ids
+list_so : (r : Registry) (owner : ℤ) (ids : List ℤ) → IsRegistry r → IsScanOf (IsMetAt (is_owned owner) r) ids
+    → IsListOf (IsOwned r owner) ids
 list_so r owner ids valid list = record {
   ascending = list.ascending;
   each = λ id has. owned_so r owner id valid (list.each id has);

@@ -26,50 +26,74 @@ pub record Again {A : Type 0} (there : Option (A × Reading)) (x : A) (after : L
   pub is : there ≡ Some (x, behind)
   pub rest : behind.rest ≡ after
 
-number_again : (n : ℕ) (from : Reading) (after : List ℕ) → n < 2 ^ 32 → from.rest ≡ word n ++ after → Again (result_ok (xdr.word_at from)) n after
-number_again n from after lt e = record { behind = past 4 from; is = rw (word_again from n after lt e) refl; rest = word_left from n after e }
+number_again : (n : ℕ) (from : Reading) (after : List ℕ) → n < 2 ^ 32 → from.rest ≡ word n ++ after
+    → Again (result_ok (xdr.word_at from)) n after
+number_again n from after lt e =
+    record { behind = past 4 from; is = rw (word_again from n after lt e) refl; rest = word_left from n after e }
 
 pub id_again : (z : ℤ) (from : Reading) (after : List ℕ) → FitsSigned w32 z → from.rest ≡ signed z ++ after → Again (id_at from) z after
 unfolding id_at
-id_again z from after fits e = record { behind = past 4 from; is = rw (signed_again from z after fits e) refl; rest = word_left from (cast_unsigned w32 z) after e }
+id_again z from after fits e =
+    record { behind = past 4 from; is = rw (signed_again from z after fits e) refl; rest = word_left from (cast_unsigned w32 z) after e }
 
-pub name_again : (text : List ℕ) (from : Reading) (after : List ℕ) → IsName text → from.rest ≡ opaque text ++ after → Again (name_at from) text after
+pub name_again : (text : List ℕ) (from : Reading) (after : List ℕ) → IsName text → from.rest ≡ opaque text ++ after
+    → Again (name_at from) text after
 unfolding name_at
 name_again text from after le e =
-    record { behind = past (opaque_len (length text)) from; is = rw (opaque_again 255 from text after (omega arith) le e) refl; rest = opaque_left from text after e }
+    record {
+      behind = past (opaque_len (length text)) from;
+      is = rw
+          (opaque_again 255 from text after (omega arith) le e) refl;
+      rest = opaque_left from text after e;
+    }
 
 items_again : {A : Type 0} (at : Reading → Option (A × Reading)) (spell : A → List ℕ) (P : A → Type 0)
     → ((x : A) (from : Reading) (after : List ℕ) → P x → from.rest ≡ spell x ++ after → Again (at from) x after)
-    → (xs : List A) (from : Reading) (after : List ℕ) → AllByRecursion P xs → from.rest ≡ flat_map spell xs ++ after → Again (items_at at (length xs) from) xs after
+    → (xs : List A) (from : Reading) (after : List ℕ) → AllByRecursion P xs → from.rest ≡ flat_map spell xs ++ after
+    → Again (items_at at (length xs) from) xs after
 items_again at spell P each [] from after fits e = record { behind = from; is = refl; rest = e }
 items_again at spell P each (x ∷ xs) from after fits e =
-    let grouped : from.rest ≡ spell x ++ (flat_map spell xs ++ after) = e ∙ ap (λ (t : List ℕ). t ++ after) (flat_map-cons spell x xs) ∙ append_assoc (spell x) (flat_map spell xs) after in
+    let grouped : from.rest ≡ spell x ++ (flat_map spell xs ++ after) = e ∙ ap (λ (t : List ℕ). t ++ after) (flat_map-cons spell x xs)
+    ∙ append_assoc (spell x) (flat_map spell xs) after in
     let first = each x from (flat_map spell xs ++ after) fits.0 grouped in
     let others = items_again at spell P each xs first.behind after fits.1 first.rest in
     record { behind = others.behind; is = rw (first.is, others.is) refl; rest = others.rest }
 
 pub list_again : {A : Type 0} (most : ℕ) → most < 2 ^ 32 → (at : Reading → Option (A × Reading)) (spell : A → List ℕ) (P : A → Type 0)
     → ((x : A) (from : Reading) (after : List ℕ) → P x → from.rest ≡ spell x ++ after → Again (at from) x after)
-    → (xs : List A) (from : Reading) (after : List ℕ) → length xs ≤ most → AllByRecursion P xs → from.rest ≡ listed spell xs ++ after → Again (list_at most at from) xs after
+    → (xs : List A) (from : Reading) (after : List ℕ) → length xs ≤ most → AllByRecursion P xs → from.rest ≡ listed spell xs ++ after
+    → Again (list_at most at from) xs after
 unfolding list_at
 list_again most small at spell P each xs from after le fits e =
-    let grouped : from.rest ≡ word (length xs) ++ (flat_map spell xs ++ after) = e ∙ append_assoc (word (length xs)) (flat_map spell xs) after in
+    let grouped : from.rest ≡ word (length xs) ++ (flat_map spell xs ++ after) = e
+    ∙ append_assoc (word (length xs)) (flat_map spell xs) after in
     let items = items_again at spell P each xs (past 4 from) after fits (word_left from (length xs) (flat_map spell xs ++ after) grouped) in
-    record { behind = items.behind; is = rw (count_again most from (length xs) (flat_map spell xs ++ after) small le grouped, items.is) refl; rest = items.rest }
+    record {
+      behind = items.behind;
+      is = rw
+          (count_again most from (length xs) (flat_map spell xs ++ after) small le grouped, items.is) refl;
+      rest = items.rest;
+    }
 
-value_again : (shape : Shape) (v : value shape) (from : Reading) (after : List ℕ) → IsBounded shape v → IsOfItsBits shape v → from.rest ≡ value_spelling shape v ++ after → Again (xdr_at shape from) v after
+value_again : (shape : Shape) (v : value shape) (from : Reading) (after : List ℕ) → IsBounded shape v → IsOfItsBits shape v
+    → from.rest ≡ value_spelling shape v ++ after → Again (xdr_at shape from) v after
 value_again Number n from after bounded bits e = number_again n from after bits e
 value_again Id z from after bounded bits e = id_again z from after bits e
-value_again Truth b from after bounded bits e = record { behind = past 4 from; is = rw (truth_again from b after e) refl; rest = word_left from _ after e }
+value_again Truth b from after bounded bits e =
+    record { behind = past 4 from; is = rw (truth_again from b after e) refl; rest = word_left from _ after e }
 value_again Name text from after bounded bits e = name_again text from after bounded e
-value_again Names texts from after bounded bits e = list_again 5000 (omega arith) name_at opaque IsName name_again texts from after bounded.0 bounded.1 e
-value_again Ids ids from after bounded bits e = list_again 5000 (omega arith) id_at signed (FitsSigned w32) id_again ids from after bounded bits e
+value_again Names texts from after bounded bits e =
+    list_again 5000 (omega arith) name_at opaque IsName name_again texts from after bounded.0 bounded.1 e
+value_again Ids ids from after bounded bits e =
+    list_again 5000 (omega arith) id_at signed (FitsSigned w32) id_again ids from after bounded bits e
 
-pub values_again : (shapes : List Shape) (v : values shapes) (from : Reading) (after : List ℕ) → AllValues IsBounded shapes v → AllValues IsOfItsBits shapes v → from.rest ≡ spelled shapes v ++ after
+pub values_again : (shapes : List Shape) (v : values shapes) (from : Reading) (after : List ℕ) → AllValues IsBounded shapes v
+    → AllValues IsOfItsBits shapes v → from.rest ≡ spelled shapes v ++ after
     → Again (values_at xdr_at shapes from) v after
 values_again [] v from after bounded bits e = record { behind = from; is = refl; rest = e }
 values_again (shape ∷ shapes) v from after bounded bits e =
-    let first = value_again shape v.0 from (spelled shapes v.1 ++ after) bounded.0 bits.0 (e ∙ append_assoc (value_spelling shape v.0) (spelled shapes v.1) after) in
+    let first = value_again shape v.0 from (spelled shapes v.1 ++ after) bounded.0 bits.0
+    (e ∙ append_assoc (value_spelling shape v.0) (spelled shapes v.1) after) in
     let others = values_again shapes v.1 first.behind after bounded.1 bits.1 first.rest in
     record { behind = others.behind; is = rw (first.is, others.is) refl; rest = others.rest }
 
@@ -130,7 +154,8 @@ made_again (call.ListElements id) = refl
 made_again (call.IsMemberOf member group) = refl
 made_again (call.ListOwned id) = refl
 
-pub call_again : (c : PtCall) (from : Reading) (after : List ℕ) → IsCall c → from.rest ≡ spelling c ++ after → Again (front_call from) c after
+pub call_again : (c : PtCall) (from : Reading) (after : List ℕ) → IsCall c → from.rest ≡ spelling c ++ after
+    → Again (front_call from) c after
 unfolding front_call call_at
 call_again c from after fits e =
     let k = call_kind c in
@@ -144,7 +169,8 @@ ended there x again = rw (again.is, again.rest) refl
 
 pub spelling_again : (c : PtCall) → IsCall c → call_of (spelling c) ≡ Some c
 unfolding call_of
-spelling_again c fits = ended (front_call (at_start (spelling c))) c (call_again c (at_start (spelling c)) [] fits (sym (append-nil (spelling c))))
+spelling_again c fits =
+    ended (front_call (at_start (spelling c))) c (call_again c (at_start (spelling c)) [] fits (sym (append-nil (spelling c))))
 
 pub some_is : {A : Type 0} (x y : A) (there : Option A) → there ≡ Some x → there ≡ Some y → x ≡ y
 some_is {A = A} x y there e f =

@@ -28,7 +28,8 @@ bytes-take n bytes h i =
     ]
 
 -- the value of a step that did not fail
-bind_ok : {A B : Type 0} (r : Result A XdrFault) (f : A → Result B XdrFault) (y : B) → (r >>= f) ≡ Ok y → (x : A) × (r ≡ Ok x) × (f x ≡ Ok y)
+bind_ok : {A B : Type 0} (r : Result A XdrFault) (f : A → Result B XdrFault) (y : B) → (r >>= f) ≡ Ok y → (x : A) × (r ≡ Ok x)
+    × (f x ≡ Ok y)
 bind_ok (Ok x) f y e = (x, refl, e)
 bind_ok (Err d) f y e = absurd cc
 
@@ -63,10 +64,17 @@ word_takes from x fits e =
     let bytes = bytes-take 4 from.rest fits in
     let same : word (from_be_bytes w32 front) ≡ front = be_bytes_4 front _ (omega (arith, length-take 4 from.rest)) bytes refl in
     let below : from_be_bytes w32 front < 2 ^ 32 = omega (arith, bytes 0, bytes 1, bytes 2, bytes 3) in
-    subst (λ (y : ℕ × Reading). Takes from (word y.0) y.1 × (y.0 < 2 ^ 32)) g.1
-    (record { parts = sym (take-append-drop 4 from.rest) ∙ ap (λ (t : List ℕ). t ++ drop 4 from.rest) (sym same); left = bytes-drop 4 from.rest fits }, below)
+    subst (λ (y : ℕ × Reading). Takes from (word y.0) y.1 × (y.0 < 2 ^ 32)) g.1 (
+      record {
+        parts = sym (take-append-drop 4 from.rest)
+            ∙ ap (λ (t : List ℕ). t ++ drop 4 from.rest) (sym same);
+        left = bytes-drop 4 from.rest fits;
+      },
+      below,
+    )
 
-pub id_takes : (from : Reading) (x : ℤ × Reading) → IsBytes from.rest → id_at from ≡ Some x → Takes from (signed x.0) x.1 × FitsSigned w32 x.0
+pub id_takes : (from : Reading) (x : ℤ × Reading) → IsBytes from.rest → id_at from ≡ Some x → Takes from (signed x.0) x.1
+    × FitsSigned w32 x.0
 unfolding id_at signed_at
 id_takes from x fits e =
     let r = ok_of (signed_at from) x e in
@@ -74,7 +82,8 @@ id_takes from x fits e =
     let t = word_takes from n.0 fits n.1 in
     let same : cast_unsigned w32 (cast_signed w32 n.0.0) ≡ n.0.0 = of_z-to_z w32 n.0.0 t.1 in
     let fitted : FitsSigned w32 (cast_signed w32 n.0.0) = sfits_to_z (omega (arith, t.1)) in
-    subst (λ (y : ℤ × Reading). Takes from (signed y.0) y.1 × FitsSigned w32 y.0) (done_is (cast_signed w32 n.0.0, n.0.1) x n.2) (rw same t.0, fitted)
+    subst (λ (y : ℤ × Reading). Takes from (signed y.0) y.1 × FitsSigned w32 y.0) (done_is (cast_signed w32 n.0.0, n.0.1) x n.2)
+    (rw same t.0, fitted)
 
 truth_is : (n : ℕ) (b : Bool) → truth_of n ≡ Ok b → word n ≡ truth b
 truth_is zero true e = absurd cc
@@ -91,7 +100,8 @@ truth_takes from x fits e =
     let t = word_takes from n.0 fits n.1 in
     subst (λ (y : Bool × Reading). Takes from (truth y.0) y.1) (done_is (b.0, n.0.1) x b.2) (rw (← truth_is n.0.0 b.0 b.1) t.0)
 
-pub count_takes : (most : ℕ) (from : Reading) (x : ℕ × Reading) → IsBytes from.rest → count_at most from ≡ Ok x → Takes from (word x.0) x.1 × (x.0 ≤ most)
+pub count_takes : (most : ℕ) (from : Reading) (x : ℕ × Reading) → IsBytes from.rest → count_at most from ≡ Ok x
+    → Takes from (word x.0) x.1 × (x.0 ≤ most)
 unfolding count_at
 count_takes most from x fits e =
     let n = bind_ok (word_at from) (λ n. cond (ltb most n.0) (Err (faults.TooLong n.0)) (Ok n)) x e in
@@ -100,19 +110,22 @@ count_takes most from x fits e =
     let le : n.0.0 ≤ most = ltb-false _ _ g.0 in
     subst (λ (y : ℕ × Reading). Takes from (word y.0) y.1 × (y.0 ≤ most)) g.1 (t.0, le)
 
-two_ok : {A : Type 0} (a b : Bool) (d f : XdrFault) (x y : A) → cond a (Err d) (cond b (Ok x) (Err f)) ≡ Ok y → (a ≡ false) × (b ≡ true) × (x ≡ y)
+two_ok : {A : Type 0} (a b : Bool) (d f : XdrFault) (x y : A) → cond a (Err d) (cond b (Ok x) (Err f)) ≡ Ok y → (a ≡ false) × (b ≡ true)
+    × (x ≡ y)
 two_ok true b d f x y e = absurd cc
 two_ok false true d f x y e = (refl, refl, done_is x y e)
 two_ok false false d f x y e = absurd cc
 
-pub name_takes : (from : Reading) (x : List ℕ × Reading) → IsBytes from.rest → name_at from ≡ Some x → Takes from (opaque x.0) x.1 × IsName x.0
+pub name_takes : (from : Reading) (x : List ℕ × Reading) → IsBytes from.rest → name_at from ≡ Some x → Takes from (opaque x.0) x.1
+    × IsName x.0
 unfolding name_at opaque_at
 name_takes from x fits e =
     let r = ok_of (opaque_at 255 from) x e in
     let n = bind_ok (count_at 255 from) (λ len. body_at len.0 from) x r in
     let t = count_takes 255 from n.0 fits n.1 in
     let len = n.0.0 in
-    let b = two_ok (ltb (length from.rest) (opaque_len len)) (is_padded len from) (faults.Short from.place) (faults.Padding from.place) (take len (drop 4 from.rest), past (opaque_len len) from) x n.2 in
+    let b = two_ok (ltb (length from.rest) (opaque_len len)) (is_padded len from) (faults.Short from.place) (faults.Padding from.place)
+    (take len (drop 4 from.rest), past (opaque_len len) from) x n.2 in
     let long : opaque_len len ≤ length from.rest = ltb-false _ _ b.0 in
     let text = take len (drop 4 from.rest) in
     let size : length text ≡ len = omega (arith, length-take len (drop 4 from.rest), length-drop 4 from.rest) in
@@ -121,7 +134,10 @@ name_takes from x fits e =
     let behind : drop 4 from.rest ≡ (text ++ zeros) ++ rest = body_found from.rest len (padding len) long b.1 in
     let same : n.0.1.rest ≡ drop 4 from.rest = sym (ap (drop 4) t.0.parts ∙ drop_at (word len) n.0.1.rest 4 refl) in
     let whole : from.rest ≡ ((word len ++ text) ++ zeros) ++ rest =
-    t.0.parts ∙ ap (λ (r : List ℕ). word len ++ r) (same ∙ behind) ∙ sym (append_assoc (word len) (text ++ zeros) rest) ∙ ap (λ (r : List ℕ). r ++ rest) (sym (append_assoc (word len) text zeros)) in
-    let named : from.rest ≡ opaque text ++ rest = subst (λ (k : ℕ). from.rest ≡ ((word k ++ text) ++ replicate (padding k) 0) ++ rest) (sym size) whole in
-    let took : Takes from (opaque text) (past (opaque_len len) from) = record { parts = named; left = bytes-drop (opaque_len len) from.rest fits } in
+    t.0.parts ∙ ap (λ (r : List ℕ). word len ++ r) (same ∙ behind) ∙ sym (append_assoc (word len) (text ++ zeros) rest)
+    ∙ ap (λ (r : List ℕ). r ++ rest) (sym (append_assoc (word len) text zeros)) in
+    let named : from.rest ≡ opaque text
+    ++ rest = subst (λ (k : ℕ). from.rest ≡ ((word k ++ text) ++ replicate (padding k) 0) ++ rest) (sym size) whole in
+    let took : Takes from (opaque text)
+    (past (opaque_len len) from) = record { parts = named; left = bytes-drop (opaque_len len) from.rest fits } in
     subst (λ (y : List ℕ × Reading). Takes from (opaque y.0) y.1 × IsName y.0) b.2 (took, omega (arith, size, t.1))

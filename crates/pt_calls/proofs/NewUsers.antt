@@ -29,7 +29,8 @@ taken_is (Some image) name found b is named = λ r holds.
 
 -- ---- the act
 
-none_held : (made : Option (List ℕ)) (r : Registry) → IsSomeAnd made (λ a. Holds a r) → IfSome made (λ image. (s : Registry) → Holds image s → ⊥) → ⊥
+none_held : (made : Option (List ℕ)) (r : Registry) → IsSomeAnd made (λ a. Holds a r)
+    → IfSome made (λ image. (s : Registry) → Holds image s → ⊥) → ⊥
 none_held None r held none = held
 none_held (Some a) r held none = none r held
 

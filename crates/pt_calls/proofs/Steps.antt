@@ -21,7 +21,8 @@ pub held_map : (bytes : Option (List ℕ)) (P Q : Registry → Type 0) → ((r :
 held_map None P Q step h = tt
 held_map (Some image) P Q step h = λ r holds. step r (h r holds)
 
-pub held_both : (bytes : Option (List ℕ)) (P Q R : Registry → Type 0) → ((r : Registry) → P r → Q r → R r) → Held bytes P → Held bytes Q → Held bytes R
+pub held_both : (bytes : Option (List ℕ)) (P Q R : Registry → Type 0) → ((r : Registry) → P r → Q r → R r) → Held bytes P → Held bytes Q
+    → Held bytes R
 held_both None P Q R step h k = tt
 held_both (Some image) P Q R step h k = λ r holds. step r (h r holds) (k r holds)
 
@@ -31,32 +32,42 @@ pub record Translated {I : Type 0} (g : Ghosts I) (old now : Drafted I) (names :
   pub ids_are : Held old.bytes (λ r. ids ≡ map (id_or_anonymous r) (take done names))
   pub count : length ids ≡ done
 
-none_translated : (bytes : Option (List ℕ)) (names : List (List ℕ)) (ids : List ℤ) → ids ≡ [] → Held bytes (λ r. ids ≡ map (id_or_anonymous r) (take 0 names))
+none_translated : (bytes : Option (List ℕ)) (names : List (List ℕ)) (ids : List ℤ) → ids ≡ []
+    → Held bytes (λ r. ids ≡ map (id_or_anonymous r) (take 0 names))
 none_translated None names ids e = tt
 none_translated (Some image) names ids e = λ r holds. e
 
-pub translated_none : {I : Type 0} (g : Ghosts I) (d : Drafted I) (names : List (List ℕ)) (ids : List ℤ) → ids ≡ [] → Translated g d d names ids 0
-translated_none g d names ids e = record { frame = looks_none g d ⊥ (λ h. h); ids_are = none_translated d.bytes names ids e; count = ap length e }
+pub translated_none : {I : Type 0} (g : Ghosts I) (d : Drafted I) (names : List (List ℕ)) (ids : List ℤ) → ids ≡ []
+    → Translated g d d names ids 0
+translated_none g d names ids e =
+    record { frame = looks_none g d ⊥ (λ h. h); ids_are = none_translated d.bytes names ids e; count = ap length e }
 
-more_ids : (r : Registry) (names : List (List ℕ)) (name : List ℕ) (ids : List ℤ) (z : ℤ) (done : ℕ) → done < length names → name ≡ get_or names done name
-    → z ≡ id_or_anonymous r name → ids ≡ map (id_or_anonymous r) (take done names) → ids ++ z ∷ [] ≡ map (id_or_anonymous r) (take (done + 1) names)
+more_ids : (r : Registry) (names : List (List ℕ)) (name : List ℕ) (ids : List ℤ) (z : ℤ) (done : ℕ) → done < length names
+    → name ≡ get_or names done name
+    → z ≡ id_or_anonymous r name → ids ≡ map (id_or_anonymous r) (take done names) → ids
+    ++ z ∷ [] ≡ map (id_or_anonymous r) (take (done + 1) names)
 more_ids r names name ids z done lt is found so_far =
-    let one : take (done + 1) names ≡ take done names ++ name ∷ [] = rw add-one (take-suc names done name lt ∙ ap (λ (n : List ℕ). take done names ++ n ∷ []) (sym is)) in
+    let one : take (done + 1) names ≡ take done names
+    ++ name ∷ [] = rw add-one (take-suc names done name lt ∙ ap (λ (n : List ℕ). take done names ++ n ∷ []) (sym is)) in
     ap (λ (l : List ℤ). l ++ z ∷ []) so_far ∙ ap (λ (y : ℤ). map (id_or_anonymous r) (take done names) ++ y ∷ []) found
     ∙ sym (map_push (id_or_anonymous r) (take done names) name) ∙ ap (map (id_or_anonymous r)) (sym one)
 
-pub translated_more : {I : Type 0} (g : Ghosts I) (old now next : Drafted I) (names : List (List ℕ)) (name : List ℕ) (ids : List ℤ) (z : ℤ) (done : ℕ) (failed : Type 0)
+pub translated_more : {I : Type 0} (g : Ghosts I) (old now next : Drafted I) (names : List (List ℕ)) (name : List ℕ) (ids : List ℤ)
+    (z : ℤ) (done : ℕ) (failed : Type 0)
     → done < length names → name ≡ get_or names done name → Translated g old now names ids done → OnlyLooks g now next failed
     → Held now.bytes (λ r. z ≡ id_or_anonymous r name) → Translated g old next names (ids ++ z ∷ []) (done + 1)
 translated_more g old now next names name ids z done failed lt is t looks found = record {
   frame = looks_then g old now next ⊥ ⊥ t.frame (looks_so g now next failed ⊥ looks (λ h. absurd h));
-  ids_are = held_both old.bytes (λ r. z ≡ id_or_anonymous r name) (λ r. ids ≡ map (id_or_anonymous r) (take done names)) (λ r. ids ++ z ∷ [] ≡ map (id_or_anonymous r) (take (done + 1) names))
+  ids_are =
+      held_both old.bytes (λ r. z ≡ id_or_anonymous r name) (λ r. ids ≡ map (id_or_anonymous r) (take done names))
+      (λ r. ids ++ z ∷ [] ≡ map (id_or_anonymous r) (take (done + 1) names))
       (λ r f s. more_ids r names name ids z done lt is f s)
       (subst (λ (b : Option (List ℕ)). Held b (λ r. z ≡ id_or_anonymous r name)) t.frame.same.bytes found) t.ids_are;
   count = omega (arith, length-append ids (z ∷ []), t.count);
 }
 
-pub translated_all : {I : Type 0} (g : Ghosts I) (old now : Drafted I) (names : List (List ℕ)) (ids result : List ℤ) (done : ℕ) → length names ≤ done → result ≡ ids → Translated g old now names ids done
+pub translated_all : {I : Type 0} (g : Ghosts I) (old now : Drafted I) (names : List (List ℕ)) (ids result : List ℤ) (done : ℕ)
+    → length names ≤ done → result ≡ ids → Translated g old now names ids done
     → Held old.bytes (λ r. result ≡ map (id_or_anonymous r) names)
 translated_all g old now names ids result done le is t =
     held_map old.bytes (λ r. ids ≡ map (id_or_anonymous r) (take done names)) (λ r. result ≡ map (id_or_anonymous r) names)

@@ -36,7 +36,8 @@ items_take : {A : Type 0} (at : Reading → Option (A × Reading)) (spell : A �
     → (n : ℕ) (from : Reading) (x : List A × Reading) → IsBytes from.rest → items_at at n from ≡ Some x
     → Takes from (flat_map spell x.0) x.1 × (length x.0 ≡ n) × AllByRecursion P x.0
 items_take {A = A} at spell P each zero from x fits e =
-    subst (λ (y : List A × Reading). Takes from (flat_map spell y.0) y.1 × (length y.0 ≡ 0) × AllByRecursion P y.0) (given_is ([], from) x e) (record { parts = refl; left = fits }, refl, tt)
+    subst (λ (y : List A × Reading). Takes from (flat_map spell y.0) y.1 × (length y.0 ≡ 0) × AllByRecursion P y.0)
+    (given_is ([], from) x e) (record { parts = refl; left = fits }, refl, tt)
 items_take {A = A} at spell P each (suc n) from x fits e =
     let a = bind_some (at from) (λ first. items_at at n first.1 >>= λ others. Some (first.0 ∷ others.0, others.1)) x e in
     let b = bind_some (items_at at n a.0.1) (λ others. Some (a.0.0 ∷ others.0, others.1)) x a.2 in
@@ -44,7 +45,8 @@ items_take {A = A} at spell P each (suc n) from x fits e =
     let others = items_take at spell P each n a.0.1 b.0 first.0.left b.1 in
     let both = then_takes from a.0.1 b.0.1 (spell a.0.0) (flat_map spell b.0.0) first.0 others.0 in
     let size : length (a.0.0 ∷ b.0.0) ≡ suc n = ap suc others.1 in
-    subst (λ (y : List A × Reading). Takes from (flat_map spell y.0) y.1 × (length y.0 ≡ suc n) × AllByRecursion P y.0) (given_is (a.0.0 ∷ b.0.0, b.0.1) x b.2)
+    subst (λ (y : List A × Reading). Takes from (flat_map spell y.0) y.1 × (length y.0 ≡ suc n) × AllByRecursion P y.0)
+    (given_is (a.0.0 ∷ b.0.0, b.0.1) x b.2)
     (rw (flat_map-cons spell a.0.0 b.0.0) both, size, (first.1, others.2))
 
 pub list_takes : {A : Type 0} (most : ℕ) (at : Reading → Option (A × Reading)) (spell : A → List ℕ) (P : A → Type 0)
@@ -79,11 +81,14 @@ pub record TakesAll (old : Reading) (shapes : List Shape) (v : values shapes) (n
   pub bounded : AllValues IsBounded shapes v
   pub bits : AllValues IsOfItsBits shapes v
 
-pub values_take : (shapes : List Shape) (from : Reading) (x : values shapes × Reading) → IsBytes from.rest → values_at xdr_at shapes from ≡ Some x → TakesAll from shapes x.0 x.1
+pub values_take : (shapes : List Shape) (from : Reading) (x : values shapes × Reading) → IsBytes from.rest
+    → values_at xdr_at shapes from ≡ Some x → TakesAll from shapes x.0 x.1
 values_take [] from x fits e =
-    subst (λ (y : values [] × Reading). TakesAll from [] y.0 y.1) (given_is (tt, from) x e) (record { takes = record { parts = refl; left = fits }; bounded = tt; bits = tt })
+    subst (λ (y : values [] × Reading). TakesAll from [] y.0 y.1) (given_is (tt, from) x e)
+    (record { takes = record { parts = refl; left = fits }; bounded = tt; bits = tt })
 values_take (shape ∷ shapes) from x fits e =
-    let a = bind_some (xdr_at shape from) (λ first. values_at xdr_at shapes first.1 >>= λ others. Some ((first.0, others.0), others.1)) x e in
+    let a = bind_some (xdr_at shape from)
+    (λ first. values_at xdr_at shapes first.1 >>= λ others. Some ((first.0, others.0), others.1)) x e in
     let b = bind_some (values_at xdr_at shapes a.0.1) (λ others. Some ((a.0.0, others.0), others.1)) x a.2 in
     let first = value_takes shape from a.0 fits a.1 in
     let others = values_take shapes a.0.1 b.0 first.0.left b.1 in
@@ -118,13 +123,15 @@ made kinds.IsMemberOf v = record { spell = refl; bounded = λ p. p; bits = λ p.
 made kinds.ListOwned v = record { spell = refl; bounded = λ p. p; bits = λ p. p; kind = refl }
 
 -- one of these tests holds, or none
-test_by : {A : Type 0} (n k : ℕ) (b : Bool) (x y : A) (others : Option A) (P : ℕ → A → Type 0) → eqb n k ≡ b → cond b (Some x) others ≡ Some y → P k x → (others ≡ Some y → P n y) → P n y
+test_by : {A : Type 0} (n k : ℕ) (b : Bool) (x y : A) (others : Option A) (P : ℕ → A → Type 0) → eqb n k ≡ b
+    → cond b (Some x) others ≡ Some y → P k x → (others ≡ Some y → P n y) → P n y
 test_by {A = A} n k true x y others P is e here there =
     let number : k ≡ n = sym (eqb-true n k is) in
     subst (λ (z : A). P n z) (given_is x y e) (subst (λ (m : ℕ). P m x) number here)
 test_by n k false x y others P is e here there = there e
 
-test : {A : Type 0} (n k : ℕ) (x y : A) (others : Option A) (P : ℕ → A → Type 0) → cond (eqb n k) (Some x) others ≡ Some y → P k x → (others ≡ Some y → P n y) → P n y
+test : {A : Type 0} (n k : ℕ) (x y : A) (others : Option A) (P : ℕ → A → Type 0) → cond (eqb n k) (Some x) others ≡ Some y → P k x
+    → (others ≡ Some y → P n y) → P n y
 test n k x y others P e here there = test_by n k (eqb n k) x y others P refl e here there
 
 abbrev IsNumbered : ℕ → CallKind → Type 0
@@ -139,11 +146,15 @@ numbered n k e =
     test n 13 _ k _ IsNumbered e refl λ e. test n 14 _ k _ IsNumbered e refl λ e. test n 15 _ k _ IsNumbered e refl λ e.
     test n 16 _ k _ IsNumbered e refl λ e. test n 17 _ k _ IsNumbered e refl λ e. absurd cc
 
-call_taken : (from : Reading) (x : PtCall × Reading) → IsBytes from.rest → front_call from ≡ Some x → Takes from (spelling x.0) x.1 × IsCall x.0
+call_taken : (from : Reading) (x : PtCall × Reading) → IsBytes from.rest → front_call from ≡ Some x → Takes from (spelling x.0) x.1
+    × IsCall x.0
 unfolding front_call call_at
 call_taken from x fits e =
-    let n = bind_some (result_ok (word_at from)) (λ number. kind_numbered number.0 >>= λ kind. values_at xdr_at (shapes_of kind) number.1 >>= λ found. Some (call_from kind found.0, found.1)) x e in
-    let k = bind_some (kind_numbered n.0.0) (λ kind. values_at xdr_at (shapes_of kind) n.0.1 >>= λ found. Some (call_from kind found.0, found.1)) x n.2 in
+    let n = bind_some (result_ok (word_at from))
+    (λ number. kind_numbered number.0 >>= λ kind. values_at xdr_at (shapes_of kind) number.1 >>= λ found. Some
+    (call_from kind found.0, found.1)) x e in
+    let k = bind_some (kind_numbered n.0.0)
+    (λ kind. values_at xdr_at (shapes_of kind) n.0.1 >>= λ found. Some (call_from kind found.0, found.1)) x n.2 in
     let v = bind_some (values_at xdr_at (shapes_of k.0) n.0.1) (λ found. Some (call_from k.0 found.0, found.1)) x k.2 in
     let number = word_takes from n.0 fits (ok_of (word_at from) n.0 n.1) in
     let all = values_take (shapes_of k.0) n.0.1 v.0 number.0.left v.1 in
@@ -151,13 +162,16 @@ call_taken from x fits e =
     let of_kind = made k.0 v.0.0 in
     let text : word n.0.0 ++ spelled (shapes_of k.0) v.0.0 ≡ spelling (call_from k.0 v.0.0) =
     ap (λ (m : ℕ). word m ++ spelled (shapes_of k.0) v.0.0) (sym (numbered n.0.0 k.0 k.1)) ∙ sym of_kind.spell in
-    subst (λ (y : PtCall × Reading). Takes from (spelling y.0) y.1 × IsCall y.0) (given_is (call_from k.0 v.0.0, v.0.1) x v.2) (rw (← text) both, (of_kind.bounded all.bounded, of_kind.bits all.bits))
+    subst (λ (y : PtCall × Reading). Takes from (spelling y.0) y.1 × IsCall y.0) (given_is (call_from k.0 v.0.0, v.0.1) x v.2)
+    (rw (← text) both, (of_kind.bounded all.bounded, of_kind.bits all.bits))
 
-end_is : {A : Type 0} (b : Bool) (y : A × Reading) (x : A) → eqb (length y.1.rest) 0 ≡ b → cond b (Some y.0) None ≡ Some x → (y.0 ≡ x) × (y.1.rest ≡ [])
+end_is : {A : Type 0} (b : Bool) (y : A × Reading) (x : A) → eqb (length y.1.rest) 0 ≡ b → cond b (Some y.0) None ≡ Some x → (y.0 ≡ x)
+    × (y.1.rest ≡ [])
 end_is true y x is e = (given_is y.0 x e, nil_from_length y.1.rest (eqb-true _ _ is))
 end_is false y x is e = absurd cc
 
-pub whole_is : {A : Type 0} (there : Option (A × Reading)) (x : A) → whole there ≡ Some x → (behind : Reading) × (there ≡ Some (x, behind)) × (behind.rest ≡ [])
+pub whole_is : {A : Type 0} (there : Option (A × Reading)) (x : A) → whole there ≡ Some x → (behind : Reading)
+    × (there ≡ Some (x, behind)) × (behind.rest ≡ [])
 whole_is None x e = absurd cc
 whole_is {A = A} (Some y) x e =
     let ended = end_is (eqb (length y.1.rest) 0) y x refl e in

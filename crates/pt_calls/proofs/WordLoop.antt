@@ -21,13 +21,15 @@ use Rattle.pt_calls.proofs.Loop.{with_front, nothing_before}
 use Rattle.pt_calls.proofs.Taken.{bind_some, given, given_is, made}
 
 pub counted : {A : Type 0} (of_word : List ℕ → Option A) (front : List A) (from s : List (List ℕ)) (count : ℕ) → front ≡ []
-    → one_at (number_within 0 MAX_LIST) from ≡ Some (count, s) → with_front front (items_at (one_at of_word) (count - 0) s) ≡ some_at of_word from
+    → one_at (number_within 0 MAX_LIST) from ≡ Some (count, s)
+    → with_front front (items_at (one_at of_word) (count - 0) s) ≡ some_at of_word from
 unfolding some_at
 counted of_word front from s count nothing e =
     let k : count - 0 ≡ count = omega arith in
     rw (nothing, k, e) (nothing_before (items_at (one_at of_word) count s))
 
-pub uncounted : {A : Type 0} (of_word : List ℕ → Option A) (e : NotRead) (from : List (List ℕ)) → Fails e (one_at (number_within 0 MAX_LIST) from) → Fails e (some_at of_word from)
+pub uncounted : {A : Type 0} (of_word : List ℕ → Option A) (e : NotRead) (from : List (List ℕ))
+    → Fails e (one_at (number_within 0 MAX_LIST) from) → Fails e (some_at of_word from)
 unfolding some_at
 uncounted of_word fault.None from h = rw h refl
 uncounted of_word fault.NoMemory from h = tt
@@ -57,7 +59,8 @@ neg_fits : (n : ℕ) → n ≤ 2147483648 → FitsSigned w32 (neg_ℤ (pos n))
 neg_fits zero le = record { sfits = omega (arith, ints) }
 neg_fits (suc n) le = record { sfits = omega (arith, ints) }
 
-signed_by : (b : Bool) (digits word : List ℕ) (z : ℤ) → cond b (negated digits) (option_map pos (number_within 0 2147483647 word)) ≡ Some z → FitsSigned w32 z
+signed_by : (b : Bool) (digits word : List ℕ) (z : ℤ)
+    → cond b (negated digits) (option_map pos (number_within 0 2147483647 word)) ≡ Some z → FitsSigned w32 z
 signed_by true digits word z e =
     let n = map_is (λ (n : ℕ). neg_ℤ (pos n)) (number_within 1 2147483648 digits) z e in
     subst (λ (y : ℤ). FitsSigned w32 y) n.2 (neg_fits n.0 (within 1 2147483648 digits n.0 n.1))
@@ -88,12 +91,14 @@ one_is {A = A} of_word P each words x e =
 -- so many items, and each of them so
 items_are : {A S : Type 0} (at : S → Option (A × S)) (P : A → Type 0) → ((s : S) (x : A × S) → at s ≡ Some x → P x.0)
     → (n : ℕ) (s : S) (x : List A × S) → items_at at n s ≡ Some x → (length x.0 ≡ n) × AllByRecursion P x.0
-items_are {A = A} {S = S} at P each zero s x e = subst (λ (y : List A × S). (length y.0 ≡ 0) × AllByRecursion P y.0) (given_is ([], s) x e) (refl, tt)
+items_are {A = A} {S = S} at P each zero s x e = subst (λ (y : List A × S). (length y.0 ≡ 0) × AllByRecursion P y.0)
+    (given_is ([], s) x e) (refl, tt)
 items_are {A = A} {S = S} at P each (suc n) s x e =
     let a = bind_some (at s) (λ first. items_at at n first.1 >>= λ others. Some (first.0 ∷ others.0, others.1)) x e in
     let b = bind_some (items_at at n a.0.1) (λ others. Some (a.0.0 ∷ others.0, others.1)) x a.2 in
     let others = items_are at P each n a.0.1 b.0 b.1 in
-    subst (λ (y : List A × S). (length y.0 ≡ suc n) × AllByRecursion P y.0) (given_is (a.0.0 ∷ b.0.0, b.0.1) x b.2) (ap suc others.0, (each s a.0 a.1, others.1))
+    subst (λ (y : List A × S). (length y.0 ≡ suc n) × AllByRecursion P y.0) (given_is (a.0.0 ∷ b.0.0, b.0.1) x b.2)
+    (ap suc others.0, (each s a.0 a.1, others.1))
 
 list_is : {A : Type 0} (of_word : List ℕ → Option A) (P : A → Type 0) → ((word : List ℕ) (x : A) → of_word word ≡ Some x → P x)
     → (words : List (List ℕ)) (x : List A × List (List ℕ)) → some_at of_word words ≡ Some x → (length x.0 ≤ 5000) × AllByRecursion P x.0
@@ -104,7 +109,8 @@ list_is of_word P each words x e =
     let items = items_are (one_at of_word) P (one_is of_word P each) count.0.0 count.0.1 x count.2 in
     (omega (arith, items.0, le), items.1)
 
-value_is_bounded : (shape : Shape) (words : List (List ℕ)) (x : value shape × List (List ℕ)) → words_at shape words ≡ Some x → IsBounded shape x.0
+value_is_bounded : (shape : Shape) (words : List (List ℕ)) (x : value shape × List (List ℕ)) → words_at shape words ≡ Some x
+    → IsBounded shape x.0
 value_is_bounded Number words x e = tt
 value_is_bounded Id words x e = tt
 value_is_bounded Truth words x e = tt
@@ -112,7 +118,8 @@ value_is_bounded Name words x e = one_is name_of_word IsName name_is_short words
 value_is_bounded Names words x e = list_is name_of_word IsName name_is_short words x e
 value_is_bounded Ids words x e = (list_is signed_of (λ z. Unit {0}) (λ word z e. tt) words x e).0
 
-value_has_bits : (shape : Shape) (words : List (List ℕ)) (x : value shape × List (List ℕ)) → words_at shape words ≡ Some x → IsOfItsBits shape x.0
+value_has_bits : (shape : Shape) (words : List (List ℕ)) (x : value shape × List (List ℕ)) → words_at shape words ≡ Some x
+    → IsOfItsBits shape x.0
 value_has_bits Number words x e =
     one_is (number_within 0 4294967295) (λ n. n < 2 ^ 32) (λ word n e. let le = within 0 4294967295 word n e in omega (arith, le)) words x e
 value_has_bits Id words x e = one_is signed_of (FitsSigned w32) signed_fits words x e
@@ -123,15 +130,18 @@ value_has_bits Ids words x e = (list_is signed_of (FitsSigned w32) signed_fits w
 
 values_are : (P : (shape : Shape) → value shape → Type 0)
     → ((shape : Shape) (words : List (List ℕ)) (x : value shape × List (List ℕ)) → words_at shape words ≡ Some x → P shape x.0)
-    → (shapes : List Shape) (words : List (List ℕ)) (x : values shapes × List (List ℕ)) → values_at words_at shapes words ≡ Some x → AllValues P shapes x.0
+    → (shapes : List Shape) (words : List (List ℕ)) (x : values shapes × List (List ℕ)) → values_at words_at shapes words ≡ Some x
+    → AllValues P shapes x.0
 values_are P each [] words x e = tt
 values_are P each (shape ∷ shapes) words x e =
-    let a = bind_some (words_at shape words) (λ first. values_at words_at shapes first.1 >>= λ others. Some ((first.0, others.0), others.1)) x e in
+    let a = bind_some (words_at shape words)
+    (λ first. values_at words_at shapes first.1 >>= λ others. Some ((first.0, others.0), others.1)) x e in
     let b = bind_some (values_at words_at shapes a.0.1) (λ others. Some ((a.0.0, others.0), others.1)) x a.2 in
     subst (λ (y : values (shape ∷ shapes) × List (List ℕ)). AllValues P (shape ∷ shapes) y.0) (given_is ((a.0.0, b.0.0), b.0.1) x b.2)
     (each shape words a.0 a.1, values_are P each shapes a.0.1 b.0 b.1)
 
-last_is : {A : Type 0} (there : Option (A × List (List ℕ))) (x : A) → last_of there ≡ Some x → (words : List (List ℕ)) × (there ≡ Some (x, words))
+last_is : {A : Type 0} (there : Option (A × List (List ℕ))) (x : A) → last_of there ≡ Some x → (words : List (List ℕ))
+    × (there ≡ Some (x, words))
 last_is None x e = absurd cc
 last_is {A = A} (Some y) x e =
     let test = option_is (eqb (length y.1) 0) y.0 x e in

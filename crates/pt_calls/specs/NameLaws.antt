@@ -31,7 +31,8 @@ in_map f [] x h = absurd h
 in_map f (a ∷ xs) x (inl e) = inl (ap f e)
 in_map f (a ∷ xs) x (inr h) = inr (in_map f xs x h)
 
-in_range_by : (a n k : ℕ) → (a ≡ k) ⊎ (a ≡ k → ⊥) → (a + 1 ≤ k → k < a + 1 + n → IsIn (range_with_len (a + 1) n) k) → a ≤ k → k < a + suc n → IsIn (range_with_len a (suc n)) k
+in_range_by : (a n k : ℕ) → (a ≡ k) ⊎ (a ≡ k → ⊥) → (a + 1 ≤ k → k < a + 1 + n → IsIn (range_with_len (a + 1) n) k) → a ≤ k
+    → k < a + suc n → IsIn (range_with_len a (suc n)) k
 in_range_by a n k (inl e) others low high = inl e
 in_range_by a n k (inr ne) others low high = inr (others (omega arith) (omega arith))
 
@@ -46,8 +47,12 @@ IsIdTo most (negsuc n) = n < most
 
 in_ids : (most : ℕ) (z : ℤ) → IsIdTo most z → IsIn (ids_to most) z
 unfolding ids_to
-in_ids most (pos n) h = in_left (map pos (range_with_len 1 most)) (map negsuc (range_with_len 0 most)) (pos n) (in_map pos (range_with_len 1 most) n (in_range 1 most n (omega arith) (omega arith)))
-in_ids most (negsuc n) h = in_right (map pos (range_with_len 1 most)) (map negsuc (range_with_len 0 most)) (negsuc n) (in_map negsuc (range_with_len 0 most) n (in_range 0 most n (omega arith) (omega arith)))
+in_ids most (pos n) h =
+    in_left (map pos (range_with_len 1 most)) (map negsuc (range_with_len 0 most)) (pos n)
+    (in_map pos (range_with_len 1 most) n (in_range 1 most n (omega arith) (omega arith)))
+in_ids most (negsuc n) h =
+    in_right (map pos (range_with_len 1 most)) (map negsuc (range_with_len 0 most)) (negsuc n)
+    (in_map negsuc (range_with_len 0 most) n (in_range 0 most n (omega arith) (omega arith)))
 
 is_id : (z : ℤ) → IsId z → IsIdTo 2147483647 z
 is_id (pos n) h = h
@@ -61,7 +66,8 @@ clash : (b : Bool) → b ≡ true → b ≡ false → ⊥
 clash true e f = cc
 clash false e f = cc
 
-find_by : {X : Type 0} (p : X → Bool) (y x : X) (xs : List X) (b : Bool) → p y ≡ b → (p y ≡ true → y ≡ x) → (p y ≡ false → find p xs ≡ Some x) → find p (y ∷ xs) ≡ Some x
+find_by : {X : Type 0} (p : X → Bool) (y x : X) (xs : List X) (b : Bool) → p y ≡ b → (p y ≡ true → y ≡ x)
+    → (p y ≡ false → find p xs ≡ Some x) → find p (y ∷ xs) ≡ Some x
 find_by {X = X} p y x xs true e one others = rw e (ap (λ (z : X). Some z) (one e))
 find_by p y x xs false e one others = rw e (others e)
 
@@ -75,7 +81,8 @@ to_false : (b : Bool) (P : Type 0) → Decides b P → (P → ⊥) → b ≡ fal
 to_false true P d never = absurd (never (d.0 refl))
 to_false false P d never = refl
 
-not_named : (name : List ℕ) (content : Option PrEntry) → ((e : PrEntry) → content ≡ Some e → e.name ≡ name → ⊥) → is_named name content ≡ false
+not_named : (name : List ℕ) (content : Option PrEntry) → ((e : PrEntry) → content ≡ Some e → e.name ≡ name → ⊥)
+    → is_named name content ≡ false
 not_named name None h = refl
 not_named name (Some e) h = to_false (bytes_eq e.name name) (e.name ≡ name) (bytes_eq-Decides e.name name) (h e refl)
 
@@ -83,9 +90,11 @@ its_name : (name : List ℕ) (content : Option PrEntry) → is_named name conten
 its_name name None h = absurd cc
 its_name name (Some e) h = (e, refl, (bytes_eq-Decides e.name name).0 h)
 
-pub named_is : (r : Registry) (name : List ℕ) (o : Option PrEntry) → IsRegistry r → IsNamed r name o → id_named r name ≡ option_map (λ e. e.id) o
+pub named_is : (r : Registry) (name : List ℕ) (o : Option PrEntry) → IsRegistry r → IsNamed r name o
+    → id_named r name ≡ option_map (λ e. e.id) o
 unfolding id_named
-named_is r name None valid h = find_none (λ id. is_named name (r.entry id)) (ids_to 2147483647) (λ id. not_named name (r.entry id) (λ e is. h id e is))
+named_is r name None valid h =
+    find_none (λ id. is_named name (r.entry id)) (ids_to 2147483647) (λ id. not_named name (r.entry id) (λ e is. h id e is))
 named_is r name (Some e) valid h =
     let here : is_named name (r.entry e.id) ≡ true = rw h.0 ((bytes_eq-Decides e.name name).1 h.1) in
     find_some (λ id. is_named name (r.entry id)) (ids_to 2147483647) e.id here
@@ -93,14 +102,17 @@ named_is r name (Some e) valid h =
     (in_ids 2147483647 e.id (is_id e.id (valid.records e.id e h.0).fields.id))
 
 -- the id that was found is the one that the name is translated to
-pub id_found : (bytes : Option (List ℕ)) (name searched : List ℕ) (o : Option PrEntry) (z : ℤ) → searched ≡ lowered name → z ≡ unwrap_or (option_map (λ e. e.id) o) anonymous
-    → IfSome bytes (λ image. (r : Registry) → Holds image r → IsNamed r searched o) → IfSome bytes (λ image. (r : Registry) → Holds image r → z ≡ id_or_anonymous r name)
+pub id_found : (bytes : Option (List ℕ)) (name searched : List ℕ) (o : Option PrEntry) (z : ℤ) → searched ≡ lowered name
+    → z ≡ unwrap_or (option_map (λ e. e.id) o) anonymous
+    → IfSome bytes (λ image. (r : Registry) → Holds image r → IsNamed r searched o)
+    → IfSome bytes (λ image. (r : Registry) → Holds image r → z ≡ id_or_anonymous r name)
 id_found None name searched o z low is found = tt
 id_found (Some image) name searched o z low is found = λ r holds.
     is ∙ ap (λ (i : Option ℤ). unwrap_or i anonymous) (sym (named_is r searched o holds.valid (found r holds)) ∙ ap (id_named r) low)
 
 -- no entry has a name that is none's
-pub none_named : (r : Registry) (name : List ℕ) → IsRegistry r → id_named r name ≡ None → (id : ℤ) (e : PrEntry) → r.entry id ≡ Some e → e.name ≡ name → ⊥
+pub none_named : (r : Registry) (name : List ℕ) → IsRegistry r → id_named r name ≡ None → (id : ℤ) (e : PrEntry) → r.entry id ≡ Some e
+    → e.name ≡ name → ⊥
 none_named r name valid none id e there same =
     let own : r.entry e.id ≡ Some e = ap r.entry (valid.ids id e there) ∙ there in
     let found = named_is r name (Some e) valid (own, same) in

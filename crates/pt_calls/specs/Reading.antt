@@ -56,7 +56,8 @@ items_at at (suc n) s = do
   Some (first.0 ∷ others.0, others.1)
 
 -- a value for each of these shapes, where one value is read so
-abbrev pub values_at : {S : Type 0} → ((shape : Shape) → S → Option (value shape × S)) → (shapes : List Shape) → S → Option (values shapes × S)
+abbrev pub values_at : {S : Type 0} → ((shape : Shape) → S → Option (value shape × S)) → (shapes : List Shape) → S
+    → Option (values shapes × S)
 values_at at [] s = Some (tt, s)
 values_at at (shape ∷ shapes) s = do
   first ← at shape s

@@ -41,25 +41,29 @@ count_fits : (s : State) (id : ℤ) → pair_count s id ≤ 4294967295
 unfolding elements
 count_fits s id = omega (arith, filter_len (is_paired s id) ids, ids_len)
 
-pub count_cause : (bytes : Option (List ℕ)) (xs : List ℤ) (id : ℤ) (n at : ℕ) → n ≡ length xs → 4294967295 < n → OfStates bytes (λ s. xs ≡ elements s id) → HasItsCause bytes (BadRecord at)
+pub count_cause : (bytes : Option (List ℕ)) (xs : List ℤ) (id : ℤ) (n at : ℕ) → n ≡ length xs → 4294967295 < n
+    → OfStates bytes (λ s. xs ≡ elements s id) → HasItsCause bytes (BadRecord at)
 count_cause None xs id n at is many told = tt
 count_cause (Some image) xs id n at is many told = λ some.
     let s : State = record { registry = some.0; is_in = some.1.has } in
     let same = told s some.2 in
     omega (arith, is, many, ap length same, count_fits s id)
 
-pub count_told : (bytes : Option (List ℕ)) (xs : List ℤ) (id : ℤ) (n : ℕ) → n ≡ length xs → OfStates bytes (λ s. xs ≡ elements s id) → OfStates bytes (λ s. n ≡ pair_count s id)
+pub count_told : (bytes : Option (List ℕ)) (xs : List ℤ) (id : ℤ) (n : ℕ) → n ≡ length xs → OfStates bytes (λ s. xs ≡ elements s id)
+    → OfStates bytes (λ s. n ≡ pair_count s id)
 count_told bytes xs id n is told =
     of_map bytes (λ s. xs ≡ elements s id) (λ s. n ≡ pair_count s id) (λ image s holds same. is ∙ ap length same) told
 
-pub entry_told : (bytes : Option (List ℕ)) (e : PrEntry) (t : PtEntry) (n : ℕ) → t ≡ told n e → OfStates bytes (λ s. n ≡ pair_count s e.id) → OfStates bytes (λ s. t ≡ told_of s e)
+pub entry_told : (bytes : Option (List ℕ)) (e : PrEntry) (t : PtEntry) (n : ℕ) → t ≡ told n e
+    → OfStates bytes (λ s. n ≡ pair_count s e.id) → OfStates bytes (λ s. t ≡ told_of s e)
 entry_told bytes e t n is count =
     of_map bytes (λ s. n ≡ pair_count s e.id) (λ s. t ≡ told_of s e) (λ image s holds same. is ∙ ap (λ (k : ℕ). told k e) same) count
 
 -- ---- the lists of ids that calls tell
 
 pub elements_told : (bytes : Option (List ℕ)) (id : ℤ) (xs : List ℤ)
-    → IfSome bytes (λ image. (r : Registry) (m : Members) → HoldsPairs image r m → IsListOf (λ other. are_paired m id other ≡ true) xs) → OfStates bytes (λ s. xs ≡ elements s id)
+    → IfSome bytes (λ image. (r : Registry) (m : Members) → HoldsPairs image r m → IsListOf (λ other. are_paired m id other ≡ true) xs)
+    → OfStates bytes (λ s. xs ≡ elements s id)
 elements_told None id xs list = tt
 elements_told (Some image) id xs list = λ s holds. elements_are image s id xs holds (list s.registry (members_of s) holds)
 
@@ -71,7 +75,8 @@ elements_few (Some image) len id xs long most list = λ s holds.
     let l = list s.registry (members_of s) holds in
     few_ids image s xs holds (omega (arith, long, most)) l.ascending (λ x has. paired_there s id x holds.valid (l.each x has))
 
-pub owned_told : (bytes : Option (List ℕ)) (id : ℤ) (xs : List ℤ) → IfSome bytes (λ image. (r : Registry) → Holds image r → IsListOf (IsOwned r id) xs)
+pub owned_told : (bytes : Option (List ℕ)) (id : ℤ) (xs : List ℤ)
+    → IfSome bytes (λ image. (r : Registry) → Holds image r → IsListOf (IsOwned r id) xs)
     → OfStates bytes (λ s. xs ≡ owned_by s.registry id)
 owned_told None id xs list = tt
 owned_told (Some image) id xs list = λ s holds. owned_are s.registry id xs holds.holds.valid (list s.registry holds.holds)
@@ -88,7 +93,8 @@ some_there : {X : Type 0} (o : Option X) (P : X → Type 0) → IsSomeAnd o P �
 some_there None P is = absurd is
 some_there (Some x) P is = refl
 
-fixed_there : (r : Registry) (k : ℕ) (f : PrEntry) → IsRegistry r → k < length fixed_entries → get_or fixed_entries k f ≡ f → IsSome (r.entry f.id)
+fixed_there : (r : Registry) (k : ℕ) (f : PrEntry) → IsRegistry r → k < length fixed_entries → get_or fixed_entries k f ≡ f
+    → IsSome (r.entry f.id)
 fixed_there r k f valid below is =
     let there = valid.fixed k f below in
     some_there (r.entry f.id) (λ e. e.name ≡ f.name) (subst (λ (x : PrEntry). IsSomeAnd (r.entry x.id) (λ e. e.name ≡ x.name)) is there)
@@ -104,7 +110,8 @@ signed_there r valid = fixed_there r 1 (fixed (codes "system:authuser") group_fl
 at_id : (r : Registry) (x y : ℤ) → x ≡ y → IsSome (r.entry y) → IsSome (r.entry x)
 at_id r x y same there = subst (λ (z : ℤ). IsSome (r.entry z)) (sym same) there
 
-pub in_list_there : (s : State) (id x : ℤ) → ArePairs s.registry (members_of s) → IsRegistry s.registry → IsSome (s.registry.entry id) → IsInList (members_of s) id x
+pub in_list_there : (s : State) (id x : ℤ) → ArePairs s.registry (members_of s) → IsRegistry s.registry → IsSome (s.registry.entry id)
+    → IsInList (members_of s) id x
     → IsSome (s.registry.entry x)
 in_list_there s (negsuc n) x pairs valid there is = at_id s.registry x (negsuc n) is there
 in_list_there s (pos n) x pairs valid there is = elim is [
@@ -141,5 +148,7 @@ counts_few (Some image) len id xs long most list there = λ s holds.
     (λ x has. in_list_there s id x holds.valid holds.holds.valid here (l.each x has))
 
 -- what is known of a draft of the same bytes
-pub known_same : (bytes mid : Option (List ℕ)) (id : ℤ) → mid ≡ bytes → OfStates bytes (λ s. false ≡ is_none (s.registry.entry id)) → OfStates mid (λ s. false ≡ is_none (s.registry.entry id))
-known_same bytes mid id same known = subst (λ (b : Option (List ℕ)). OfStates b (λ s. false ≡ is_none (s.registry.entry id))) (sym same) known
+pub known_same : (bytes mid : Option (List ℕ)) (id : ℤ) → mid ≡ bytes → OfStates bytes (λ s. false ≡ is_none (s.registry.entry id))
+    → OfStates mid (λ s. false ≡ is_none (s.registry.entry id))
+known_same bytes mid id same known =
+    subst (λ (b : Option (List ℕ)). OfStates b (λ s. false ≡ is_none (s.registry.entry id))) (sym same) known

@@ -36,7 +36,8 @@ record IsNumber (image : List ℕ) (x : ℤ) : Type 0 where
   within : number image x < block_count image
   own : (entry_in (block_in image (number image x))).id ≡ x
 
-has_of : (image : List ℕ) (x : ℤ) (k : ℕ) (e : PrEntry) → kind_of (block_in image k) ≡ 1 → entry_in (block_in image k) ≡ e → e.id ≡ x → has_id x (block_in image k) ≡ true
+has_of : (image : List ℕ) (x : ℤ) (k : ℕ) (e : PrEntry) → kind_of (block_in image k) ≡ 1 → entry_in (block_in image k) ≡ e → e.id ≡ x
+    → has_id x (block_in image k) ≡ true
 has_of image x k e kind is own =
     and_from (eqb (kind_of (block_in image k)) 1) (int_eq (entry_in (block_in image k)).id x) (eq-eqb (kind_of (block_in image k)) 1 kind)
     ((Decides-int_eq (entry_in (block_in image k)).id x).1 (ap (λ (f : PrEntry). f.id) is ∙ own))
@@ -85,23 +86,27 @@ apart image x low (y ∷ ys) one less rises all =
       apart image x (y +ℤ pos 1) ys one (less_on x y here) rises.1 all.1,
     )
 
-distinct : (image : List ℕ) (low : ℤ) (xs : List ℤ) → Rises low xs → AllByRecursion (IsNumber image) xs → IsDistinct eqb (map (number image) xs)
+distinct : (image : List ℕ) (low : ℤ) (xs : List ℤ) → Rises low xs → AllByRecursion (IsNumber image) xs
+    → IsDistinct eqb (map (number image) xs)
 unfolding IsDistinct
 distinct image low [] rises all = tt
 distinct image low (x ∷ xs) rises all =
     (apart image x (x +ℤ pos 1) xs all.0 (less_next x) rises.1 all.1, distinct image (x +ℤ pos 1) xs rises.1 all.1)
 
-within_by : (image : List ℕ) (q : ℕ) (x : ℤ) (rest b : Bool) → eqb q (number image x) ≡ b → (b || rest) ≡ true → IsNumber image x → (rest ≡ true → q < block_count image)
+within_by : (image : List ℕ) (q : ℕ) (x : ℤ) (rest b : Bool) → eqb q (number image x) ≡ b → (b || rest) ≡ true → IsNumber image x
+    → (rest ≡ true → q < block_count image)
     → q < block_count image
 within_by image q x rest true same is one later = let at = eqb-true q (number image x) same in omega (arith, at, one.within)
 within_by image q x rest false same is one later = later is
 
-within : (image : List ℕ) (xs : List ℤ) (q : ℕ) → AllByRecursion (IsNumber image) xs → list_any (eqb q) (map (number image) xs) ≡ true → q < block_count image
+within : (image : List ℕ) (xs : List ℤ) (q : ℕ) → AllByRecursion (IsNumber image) xs → list_any (eqb q) (map (number image) xs) ≡ true
+    → q < block_count image
 within image [] q all is = absurd cc
 within image (x ∷ xs) q all is =
     within_by image q x (list_any (eqb q) (map (number image) xs)) (eqb q (number image x)) refl is all.0 (within image xs q all.1)
 
-numbers_of : (image : List ℕ) (r : Registry) (xs : List ℤ) → IsLaidOut image r → IsRegistry r → AllByRecursion (λ x. IsSome (r.entry x)) xs → AllByRecursion (IsNumber image) xs
+numbers_of : (image : List ℕ) (r : Registry) (xs : List ℤ) → IsLaidOut image r → IsRegistry r
+    → AllByRecursion (λ x. IsSome (r.entry x)) xs → AllByRecursion (IsNumber image) xs
 numbers_of image r [] laid valid all = tt
 numbers_of image r (x ∷ xs) laid valid all = (number_of image r x laid valid all.0, numbers_of image r xs laid valid all.1)
 
@@ -109,13 +114,15 @@ all_there : (P : ℤ → Type 0) (xs : List ℤ) → ((x : ℤ) → Contains xs 
 all_there P [] each = tt
 all_there P (x ∷ xs) each = (each x (0, omega arith, refl), all_there P xs (λ y c. each y (suc c.0, omega (arith, c.1), c.2)))
 
-few_in : (image : List ℕ) (r : Registry) (xs : List ℤ) → IsLaidOut image r → IsRegistry r → IsAscending xs → ((x : ℤ) → Contains xs x → IsSome (r.entry x))
+few_in : (image : List ℕ) (r : Registry) (xs : List ℤ) → IsLaidOut image r → IsRegistry r → IsAscending xs
+    → ((x : ℤ) → Contains xs x → IsSome (r.entry x))
     → length xs ≤ block_count image
 few_in image r xs laid valid ascending there =
     let all = numbers_of image r xs laid valid (all_there (λ x. IsSome (r.entry x)) xs there) in
     let low = rises_all xs ascending in
     let n : length (map (number image) xs) ≤ block_count image =
-    length-le_from_distinct_below (map (number image) xs) (block_count image) (distinct image low.0 xs low.1 all) (λ q is. within image xs q all is) in
+    length-le_from_distinct_below (map (number image) xs) (block_count image) (distinct image low.0 xs low.1 all)
+    (λ q is. within image xs q all is) in
     omega (arith, n, length-map xs (number image))
 
 -- ---- how many blocks there are
@@ -136,7 +143,8 @@ few_ids image s xs holds most ascending there =
 
 -- ---- so more of them are of no image
 
-cause_many : (bytes : Option (List ℕ)) (fault : RecordFault) (n : ℕ) → IsTooMany n fault → OfStates bytes (λ s. n ≤ 262143) → HasItsCause bytes fault
+cause_many : (bytes : Option (List ℕ)) (fault : RecordFault) (n : ℕ) → IsTooMany n fault → OfStates bytes (λ s. n ≤ 262143)
+    → HasItsCause bytes fault
 cause_many bytes DiskFault n is few = tt
 cause_many None (BadRecord at) n is few = tt
 cause_many (Some image) (BadRecord at) n is few = λ some.
@@ -144,12 +152,14 @@ cause_many (Some image) (BadRecord at) n is few = λ some.
     let most = few s some.2 in omega (arith, is, most)
 cause_many bytes NoMemory n is few = tt
 
-pub err_many : {X : Type 0} (r : Result X RecordFault) (bytes : Option (List ℕ)) (n : ℕ) → IfErr r (IsTooMany n) → OfStates bytes (λ s. n ≤ 262143) → IfErr r (HasItsCause bytes)
+pub err_many : {X : Type 0} (r : Result X RecordFault) (bytes : Option (List ℕ)) (n : ℕ) → IfErr r (IsTooMany n)
+    → OfStates bytes (λ s. n ≤ 262143) → IfErr r (HasItsCause bytes)
 err_many (Ok x) bytes n is few = tt
 err_many (Err fault) bytes n is few = cause_many bytes fault n is few
 
 pub no_disk_fault : {X : Type 0} (r : Result X RecordFault) (n : ℕ) → IfErr r (IsTooMany n) → r ≡ Err DiskFault → ⊥
 no_disk_fault {X} r n is fault = subst (λ (x : Result X RecordFault). IfErr x (IsTooMany n)) fault is
 
-pub long_same : (bytes mid : Option (List ℕ)) (len : ℕ) → mid ≡ bytes → IfSome mid (λ image. length image ≡ len) → IfSome bytes (λ image. length image ≡ len)
+pub long_same : (bytes mid : Option (List ℕ)) (len : ℕ) → mid ≡ bytes → IfSome mid (λ image. length image ≡ len)
+    → IfSome bytes (λ image. length image ≡ len)
 long_same bytes mid len same long = subst (λ (b : Option (List ℕ)). IfSome b (λ image. length image ≡ len)) same long

@@ -66,7 +66,8 @@ in_above (y ∷ ys) low x rises (inr is) = low_on low y x rises.0 (in_above ys (
 -- ---- the numbers that pass
 
 numbers_next : (p : ℤ → Bool) (first : ℤ) (n : ℕ) (b : Bool) → p first ≡ b
-    → filter p (numbers_from first (suc n)) ≡ cond b (first ∷ filter p (numbers_from (first +ℤ pos 1) n)) (filter p (numbers_from (first +ℤ pos 1) n))
+    → filter p (numbers_from first (suc n)) ≡ cond b (first ∷ filter p (numbers_from (first +ℤ pos 1) n))
+    (filter p (numbers_from (first +ℤ pos 1) n))
 unfolding numbers_from
 numbers_next p first n b is =
     ap (λ (t : Bool). cond t (first ∷ filter p (numbers_from (first +ℤ pos 1) n)) (filter p (numbers_from (first +ℤ pos 1) n))) is
@@ -99,7 +100,8 @@ under_self : (x y : ℤ) → x ≤ℤ y → (y +ℤ pos 1) ≤ℤ x → ⊥
 under_self x y least up = omega (arith, ints)
 
 -- the first number passes, and is the first of the list
-passing_tail : (p : ℤ → Bool) (first end x : ℤ) (xs : List ℤ) → first ≡ x → IsPassing p first end (x ∷ xs) → IsPassing p (first +ℤ pos 1) end xs
+passing_tail : (p : ℤ → Bool) (first end x : ℤ) (xs : List ℤ) → first ≡ x → IsPassing p first end (x ∷ xs)
+    → IsPassing p (first +ℤ pos 1) end xs
 passing_tail p first end x xs same is = record {
   rises = subst (λ (z : ℤ). Rises (z +ℤ pos 1) xs) (sym same) is.rises.1;
   below = is.below.1;
@@ -117,7 +119,8 @@ first_same p first end x xs met is = elim (is.all first (itself first) met) [
 ]
 
 -- it does not pass
-passing_rest : (p : ℤ → Bool) (first end : ℤ) (xs : List ℤ) → p first ≡ false → IsPassing p first end xs → IsPassing p (first +ℤ pos 1) end xs
+passing_rest : (p : ℤ → Bool) (first end : ℤ) (xs : List ℤ) → p first ≡ false → IsPassing p first end xs
+    → IsPassing p (first +ℤ pos 1) end xs
 passing_rest p first end [] fails is = record { rises = tt; below = tt; pass = tt; all = λ y up met. is.all y (first_on first y up) met }
 passing_rest p first end (x ∷ xs) fails is = record {
   rises = (other_up first x is.rises.0 (λ same. both (p first) (ap p same ∙ is.pass.0) fails), is.rises.1);
@@ -143,22 +146,26 @@ end_now first end is = omega (arith, ints)
 
 -- by whether the first number passes
 list_by : (p : ℤ → Bool) (n : ℕ) (first end : ℤ) (xs : List ℤ) (b : Bool) → p first ≡ b → IsPassing p first end xs
-    → ((ys : List ℤ) → IsPassing p (first +ℤ pos 1) end ys → ys ≡ filter p (numbers_from (first +ℤ pos 1) n)) → xs ≡ filter p (numbers_from first (suc n))
+    → ((ys : List ℤ) → IsPassing p (first +ℤ pos 1) end ys → ys ≡ filter p (numbers_from (first +ℤ pos 1) n))
+    → xs ≡ filter p (numbers_from first (suc n))
 list_by p n first end [] true met is later = absurd (is.all first (itself first) met)
 list_by p n first end (x ∷ xs) true met is later =
     let same = first_same p first end x xs met is in
-    ap (λ (z : ℤ). z ∷ xs) (sym same) ∙ ap (λ (zs : List ℤ). first ∷ zs) (later xs (passing_tail p first end x xs same is)) ∙ sym (numbers_next p first n true met)
+    ap (λ (z : ℤ). z ∷ xs) (sym same) ∙ ap (λ (zs : List ℤ). first ∷ zs) (later xs (passing_tail p first end x xs same is))
+    ∙ sym (numbers_next p first n true met)
 list_by p n first end xs false met is later = later xs (passing_rest p first end xs met is) ∙ sym (numbers_next p first n false met)
 
 no_numbers : (p : ℤ → Bool) (first : ℤ) → [] ≡ filter p (numbers_from first zero)
 unfolding numbers_from
 no_numbers p first = refl
 
-list_from : (p : ℤ → Bool) (n : ℕ) (first end : ℤ) (xs : List ℤ) → end ≡ first +ℤ pos n → IsPassing p first end xs → xs ≡ filter p (numbers_from first n)
+list_from : (p : ℤ → Bool) (n : ℕ) (first end : ℤ) (xs : List ℤ) → end ≡ first +ℤ pos n → IsPassing p first end xs
+    → xs ≡ filter p (numbers_from first n)
 list_from p zero first end [] at is = no_numbers p first
 list_from p zero first end (x ∷ xs) at is = absurd (none_below x end (le_on end first x (end_now first end at) is.rises.0) is.below.0)
 list_from p (suc n) first end xs at is =
-    list_by p n first end xs (p first) refl is (λ ys so. list_from p n (first +ℤ pos 1) end ys (end_next first end n (at ∙ ap (λ (k : ℕ). first +ℤ pos k) (suc_is n))) so)
+    list_by p n first end xs (p first) refl is
+    (λ ys so. list_from p n (first +ℤ pos 1) end ys (end_next first end n (at ∙ ap (λ (k : ℕ). first +ℤ pos k) (suc_is n))) so)
 
 -- ---- all ids
 

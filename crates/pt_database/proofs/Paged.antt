@@ -158,7 +158,8 @@ first_above s kinds after n es valid are =
 
 -- an entry's block tells the number of its pairs
 count_at : (image : List ℕ) (s : State) (k : ℕ) → HoldsState image s → k < block_count (whole image)
-    → kind_of (block_in (whole image) k) ≡ 1 → pair_count_in (block_in (whole image) k) ≡ pair_count s (entry_in (block_in (whole image) k)).id
+    → kind_of (block_in (whole image) k) ≡ 1
+    → pair_count_in (block_in (whole image) k) ≡ pair_count s (entry_in (block_in (whole image) k)).id
 count_at image s k holds below kind =
     let block = block_in (whole image) k in
     let id = (entry_in block).id in

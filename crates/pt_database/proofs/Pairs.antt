@@ -68,13 +68,15 @@ paired_is s (negsuc n) other valid =
     or_right (s.is_in (negsuc n) other) (s.is_in other (negsuc n))
     (false_from_ne_true (s.is_in (negsuc n) other) (λ is. let high = (valid (negsuc n) other is).0 in omega (arith, ints, high)))
 
-pub paired_there : (s : State) (id other : ℤ) → ArePairs s.registry (members_of s) → are_paired (members_of s) id other ≡ true → IsSome (s.registry.entry other)
+pub paired_there : (s : State) (id other : ℤ) → ArePairs s.registry (members_of s) → are_paired (members_of s) id other ≡ true
+    → IsSome (s.registry.entry other)
 paired_there s id other valid is = elim (or_cases (s.is_in id other) (s.is_in other id) is) [
   | inl one ↦ (valid id other one).3
   | inr two ↦ (valid other id two).2
 ]
 
-pub elements_are : (image : List ℕ) (s : State) (id : ℤ) (xs : List ℤ) → HoldsState image s → IsListOf (λ other. are_paired (members_of s) id other ≡ true) xs
+pub elements_are : (image : List ℕ) (s : State) (id : ℤ) (xs : List ℤ) → HoldsState image s
+    → IsListOf (λ other. are_paired (members_of s) id other ≡ true) xs
     → xs ≡ elements s id
 unfolding elements
 elements_are image s id xs holds list =
@@ -143,7 +145,11 @@ counts_from s (pos n) x valid is =
       ]
       | inr signed ↦
           let parts = and_parts (int_eq x (negsuc 101)) (not (int_eq (pos n) anonymous)) signed in
-          inr (inr (inr (equal_to x (negsuc 101) parts.0, λ same. clash (int_eq (pos n) anonymous) (to_equal (pos n) anonymous same) (not_true (int_eq (pos n) anonymous) parts.1))))
+          inr (inr (inr (
+            equal_to x (negsuc 101) parts.0,
+            λ same. clash (int_eq (pos n) anonymous) (to_equal (pos n) anonymous same)
+                (not_true (int_eq (pos n) anonymous) parts.1),
+          )))
     ]
 
 -- ---- the groups that an id owns
@@ -165,7 +171,8 @@ owns_to : (r : Registry) (owner x : ℤ) → IsRegistry r → IsOwned r owner x 
 owns_to r owner x valid is =
     let e = some_and (r.entry x) (λ y. y.owner ≡ owner) is.1 in
     ap (owns owner) e.1
-    ∙ and_from (is_group e.0.id) (int_eq e.0.owner owner) (ap is_group (valid.ids x e.0 e.1) ∙ is_below x is.0) (to_equal e.0.owner owner e.2)
+    ∙ and_from (is_group e.0.id) (int_eq e.0.owner owner) (ap is_group (valid.ids x e.0 e.1) ∙ is_below x is.0)
+    (to_equal e.0.owner owner e.2)
 
 owns_at : (owner : ℤ) (o : Option PrEntry) → owns owner o ≡ true → (e : PrEntry) × (o ≡ Some e) × (is_owned_by owner e ≡ true)
 owns_at owner None is = absurd cc
@@ -184,7 +191,8 @@ map-append : {X Y : Type 0} (f : X → Y) (xs ys : List X) → map f (xs ++ ys) 
 map-append f [] ys = refl
 map-append {Y = Y} f (x ∷ xs) ys = ap (λ (zs : List Y). f x ∷ zs) (map-append f xs ys)
 
-owned_by_test : (e : PrEntry) (x : ℤ) (b : Bool) → e.id ≡ x → (zs : List ℤ) → map (λ (e : PrEntry). e.id) (cond b (e ∷ []) []) ++ zs ≡ cond b (x ∷ zs) zs
+owned_by_test : (e : PrEntry) (x : ℤ) (b : Bool) → e.id ≡ x → (zs : List ℤ) → map (λ (e : PrEntry). e.id) (cond b (e ∷ []) [])
+    ++ zs ≡ cond b (x ∷ zs) zs
 owned_by_test e x true own zs = ap (λ (z : ℤ). z ∷ zs) own
 owned_by_test e x false own zs = refl
 
@@ -194,7 +202,8 @@ owned_one r owner x None at valid zs = refl
 owned_one r owner x (Some e) at valid zs = owned_by_test e x (is_owned_by owner e) (valid.ids x e at) zs
 
 owned_ids : (r : Registry) (owner : ℤ) (xs : List ℤ) → IsRegistry r
-    → map (λ (e : PrEntry). e.id) (filter (is_owned_by owner) (flat_map (λ x. option_to_list (r.entry x)) xs)) ≡ filter (λ x. owns owner (r.entry x)) xs
+    → map (λ (e : PrEntry). e.id) (filter (is_owned_by owner) (flat_map (λ x. option_to_list (r.entry x)) xs)) ≡ filter
+    (λ x. owns owner (r.entry x)) xs
 owned_ids r owner [] valid = refl
 owned_ids r owner (x ∷ xs) valid =
     let front = option_to_list (r.entry x) in
@@ -205,7 +214,8 @@ owned_ids r owner (x ∷ xs) valid =
     ∙ owned_one r owner x (r.entry x) refl valid (filter (λ x. owns owner (r.entry x)) xs)
 
 owned_from : (r : Registry) (owner first : ℤ) (count : ℕ) → IsRegistry r
-    → map (λ (e : PrEntry). e.id) (filter (is_owned_by owner) (entries_from first count r)) ≡ filter (λ x. owns owner (r.entry x)) (numbers_from first count)
+    → map (λ (e : PrEntry). e.id) (filter (is_owned_by owner) (entries_from first count r)) ≡ filter (λ x. owns owner (r.entry x))
+    (numbers_from first count)
 unfolding entries_from
 owned_from r owner first count valid = owned_ids r owner (numbers_from first count) valid
 
@@ -218,6 +228,7 @@ owned_there r owner x is = let e = some_and (r.entry x) (λ y. y.owner ≡ owner
 
 pub owned_are : (r : Registry) (owner : ℤ) (xs : List ℤ) → IsRegistry r → IsListOf (IsOwned r owner) xs → xs ≡ owned_by r owner
 owned_are r owner xs valid list =
-    list_is (λ x. owns owner (r.entry x)) (IsOwned r owner) xs list (λ x is. owns_to r owner x valid is) (λ x is. owns_from r owner x valid is)
+    list_is (λ x. owns owner (r.entry x)) (IsOwned r owner) xs list (λ x is. owns_to r owner x valid is)
+    (λ x is. owns_from r owner x valid is)
     (λ x is. entry_range r x valid (owned_there r owner x is))
     ∙ sym (all_owned r owner valid)

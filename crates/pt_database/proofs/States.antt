@@ -22,7 +22,8 @@ use Rattle.pt_database.specs.States.{HoldsState, IsToldOf, OfStates, members_of}
 
 -- ---- of the registry
 
-pub told_so : (bytes : Option (List ℕ)) (P : Registry → Type 0) → IfSome bytes (λ image. (r : Registry) → Holds image r → P r) → OfStates bytes (λ s. P s.registry)
+pub told_so : (bytes : Option (List ℕ)) (P : Registry → Type 0) → IfSome bytes (λ image. (r : Registry) → Holds image r → P r)
+    → OfStates bytes (λ s. P s.registry)
 told_so None P told = tt
 told_so (Some image) P told = λ s holds. told s.registry holds.holds
 
@@ -37,7 +38,8 @@ cause_so None (BadRecord at) cause = tt
 cause_so (Some image) (BadRecord at) cause = λ some. cause some.0 some.2.holds
 cause_so bytes NoMemory cause = tt
 
-pub err_so : {X : Type 0} (r : Result X RecordFault) (bytes : Option (List ℕ)) → IfErr r (HasCause bytes Holds) → IfErr r (HasItsCause bytes)
+pub err_so : {X : Type 0} (r : Result X RecordFault) (bytes : Option (List ℕ)) → IfErr r (HasCause bytes Holds)
+    → IfErr r (HasItsCause bytes)
 err_so (Ok x) bytes cause = tt
 err_so (Err fault) bytes cause = cause_so bytes fault cause
 
@@ -50,11 +52,13 @@ pub of_all : (bytes : Option (List ℕ)) (P : State → Type 0) → ((s : State)
 of_all None P all = tt
 of_all (Some image) P all = λ s holds. all s
 
-pub of_map : (bytes : Option (List ℕ)) (P Q : State → Type 0) → ((image : List ℕ) (s : State) → HoldsState image s → P s → Q s) → OfStates bytes P → OfStates bytes Q
+pub of_map : (bytes : Option (List ℕ)) (P Q : State → Type 0) → ((image : List ℕ) (s : State) → HoldsState image s → P s → Q s)
+    → OfStates bytes P → OfStates bytes Q
 of_map None P Q step told = tt
 of_map (Some image) P Q step told = λ s holds. step image s holds (told s holds)
 
-pub of_both : (bytes : Option (List ℕ)) (P Q R : State → Type 0) → ((image : List ℕ) (s : State) → HoldsState image s → P s → Q s → R s) → OfStates bytes P → OfStates bytes Q
+pub of_both : (bytes : Option (List ℕ)) (P Q R : State → Type 0) → ((image : List ℕ) (s : State) → HoldsState image s → P s → Q s → R s)
+    → OfStates bytes P → OfStates bytes Q
     → OfStates bytes R
 of_both None P Q R step first second = tt
 of_both (Some image) P Q R step first second = λ s holds. step image s holds (first s holds) (second s holds)
@@ -65,11 +69,14 @@ of_same bytes mid P same told = subst (λ (b : Option (List ℕ)). OfStates b P)
 
 -- ---- what a call tells
 
-pub ends_so : (bytes : Option (List ℕ)) (v : State → Verdict) (w : Verdict) (ended : CallEnd) → ended ≡ end_of (reply_by w) → OfStates bytes (λ s. v s ≡ w) → IsToldOf bytes v ended
+pub ends_so : (bytes : Option (List ℕ)) (v : State → Verdict) (w : Verdict) (ended : CallEnd) → ended ≡ end_of (reply_by w)
+    → OfStates bytes (λ s. v s ≡ w) → IsToldOf bytes v ended
 ends_so bytes v w ended told is =
-    of_map bytes (λ s. v s ≡ w) (λ s. ended ≡ end_of (reply_by (v s))) (λ image s holds same. told ∙ ap (λ (x : Verdict). end_of (reply_by x)) (sym same)) is
+    of_map bytes (λ s. v s ≡ w) (λ s. ended ≡ end_of (reply_by (v s)))
+    (λ image s holds same. told ∙ ap (λ (x : Verdict). end_of (reply_by x)) (sym same)) is
 
-pub ends_ok : (r : Result CallEnd RecordFault) (bytes : Option (List ℕ)) (v : State → Verdict) (w : Verdict) → IfOk r (λ ended. ended ≡ end_of (reply_by w))
+pub ends_ok : (r : Result CallEnd RecordFault) (bytes : Option (List ℕ)) (v : State → Verdict) (w : Verdict)
+    → IfOk r (λ ended. ended ≡ end_of (reply_by w))
     → OfStates bytes (λ s. v s ≡ w) → IfOk r (IsToldOf bytes v)
 ends_ok (Err fault) bytes v w told is = tt
 ends_ok (Ok ended) bytes v w told is = ends_so bytes v w ended told is
@@ -96,17 +103,20 @@ known_some (Some e) is = (e, refl)
 -- ---- of the pairs
 
 pub pairs_ok : {X : Type 0} (r : Result X RecordFault) (bytes : Option (List ℕ)) (P : X → Registry → Members → Type 0)
-    → IfOk r (λ x. IfSome bytes (λ image. (r : Registry) (m : Members) → HoldsPairs image r m → P x r m)) → IfOk r (λ x. OfStates bytes (λ s. P x s.registry (members_of s)))
+    → IfOk r (λ x. IfSome bytes (λ image. (r : Registry) (m : Members) → HoldsPairs image r m → P x r m))
+    → IfOk r (λ x. OfStates bytes (λ s. P x s.registry (members_of s)))
 pairs_ok (Err fault) bytes P told = tt
 pairs_ok (Ok x) None P told = tt
 pairs_ok (Ok x) (Some image) P told = λ s holds. told s.registry (members_of s) holds
 
-pub map_ok : {X : Type 0} (r : Result X RecordFault) (bytes : Option (List ℕ)) (P Q : X → State → Type 0) → ((x : X) (image : List ℕ) (s : State) → HoldsState image s → P x s → Q x s)
+pub map_ok : {X : Type 0} (r : Result X RecordFault) (bytes : Option (List ℕ)) (P Q : X → State → Type 0)
+    → ((x : X) (image : List ℕ) (s : State) → HoldsState image s → P x s → Q x s)
     → IfOk r (λ x. OfStates bytes (P x)) → IfOk r (λ x. OfStates bytes (Q x))
 map_ok (Err fault) bytes P Q step told = tt
 map_ok (Ok x) bytes P Q step told = of_map bytes (P x) (Q x) (step x) told
 
 -- ---- what looks leave
 
-pub looked_then : {I : Type 0} (g : Ghosts I) (a b c : Drafted I) (first second failed : Type 0) → OnlyLooks g a b first → OnlyLooks g b c second → (failed → second) → OnlyLooks g a c failed
+pub looked_then : {I : Type 0} (g : Ghosts I) (a b c : Drafted I) (first second failed : Type 0) → OnlyLooks g a b first
+    → OnlyLooks g b c second → (failed → second) → OnlyLooks g a c failed
 looked_then g a b c first second failed r s so = looks_so g a c second failed (looks_then g a b c first second r s) so

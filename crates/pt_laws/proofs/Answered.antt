@@ -33,7 +33,8 @@ call_answers s (call.Delete id) = one_answers (s.registry.entry id) _ (λ e. by_
 call_answers s (call.AddToGroup user group) =
     pair_answers s.registry user group (joins s user group)
     (by_test IsAnswer (int_eq group (negsuc 100) || int_eq group (negsuc 101)) _ _ tt (by_test IsAnswer (s.is_in user group) _ _ tt tt))
-call_answers s (call.RemoveFromGroup user group) = pair_answers s.registry user group (parts s user group) (by_test IsAnswer (s.is_in user group) _ _ tt tt)
+call_answers s (call.RemoveFromGroup user group) =
+    pair_answers s.registry user group (parts s user group) (by_test IsAnswer (s.is_in user group) _ _ tt tt)
 call_answers s (call.GetCps id) = one_answers (s.registry.entry id) _ (λ e. tt)
 call_answers s call.ListMax = tt
 call_answers s (call.SetMax id group) = by_test IsAnswer (is_maximum group id) _ _ tt tt
@@ -41,7 +42,8 @@ call_answers s (call.ListEntry id) = one_answers (s.registry.entry id) _ (λ e. 
 call_answers s (call.ListEntries kinds after) = by_test IsAnswer (are_kinds kinds) _ _ tt tt
 call_answers s (call.ChangeEntry id name owner new_id) =
     one_answers (s.registry.entry id) _ (λ e. unless_one IsAnswer (turn_fault s.registry e (lowered name) owner new_id) _ (λ rule. tt) tt)
-call_answers s (call.SetFields id mask flags quota) = one_answers (s.registry.entry id) _ (λ e. by_test IsAnswer (are_bad_fields mask flags quota) _ _ tt tt)
+call_answers s (call.SetFields id mask flags quota) =
+    one_answers (s.registry.entry id) _ (λ e. by_test IsAnswer (are_bad_fields mask flags quota) _ _ tt tt)
 call_answers s (call.ListElements id) = one_answers (s.registry.entry id) _ (λ e. tt)
 call_answers s (call.IsMemberOf user group) = pair_answers s.registry user group _ tt
 call_answers s (call.ListOwned id) = by_test IsAnswer (not (int_eq id (pos 0)) && is_none (s.registry.entry id)) _ _ tt tt

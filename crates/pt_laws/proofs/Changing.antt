@@ -77,7 +77,8 @@ of_both P r user group goes refused is =
     (by_test P (not (is_group group)) (Refuses 267270) (cond (is_group user) (Refuses 267271) goes) (refused 267270)
     (by_test P (is_group user) (Refuses 267271) goes (refused 267271) is))
 
-of_next : (P : Verdict → Type 0) (r : Registry) (group : Bool) (name : List ℕ) (owner : ℤ) (next : Option ℤ) → ((rule : ℕ) → P (Refuses rule))
+of_next : (P : Verdict → Type 0) (r : Registry) (group : Bool) (name : List ℕ) (owner : ℤ) (next : Option ℤ)
+    → ((rule : ℕ) → P (Refuses rule))
     → ((a : PtAnswer) (e : PrEntry) → P (Makes a (enters r e))) → P (with_next r group name owner next)
 of_next P r group name owner None refused makes = refused _
 of_next P r group name owner (Some id) refused makes = makes _ _
@@ -155,7 +156,8 @@ maximum_plain r id group =
 
 pub fields_plain : (o : Option PrEntry) (mask flags : ℕ) (quota : ℤ) → IsPlain (of_entry o (fields_set mask flags quota))
 fields_plain o mask flags quota =
-    of_one IsPlain o (fields_set mask flags quota) (λ rule. tt) (λ e. by_test IsPlain (are_bad_fields mask flags quota) (Refuses 267273) _ tt tt)
+    of_one IsPlain o (fields_set mask flags quota) (λ rule. tt)
+    (λ e. by_test IsPlain (are_bad_fields mask flags quota) (Refuses 267273) _ tt tt)
 
 -- ---- pairs, and an entry that leaves
 
@@ -169,7 +171,8 @@ join_paired s user group =
 pub part_paired : (s : State) (user group : ℤ) → IsPaired (verdict s (Some (call.RemoveFromGroup user group)))
 unfolding verdict
 part_paired s user group =
-    of_both IsPaired s.registry user group (parts s user group) (λ rule. tt) (by_test IsPaired (s.is_in user group) _ (Refuses 267268) tt tt)
+    of_both IsPaired s.registry user group (parts s user group) (λ rule. tt)
+    (by_test IsPaired (s.is_in user group) _ (Refuses 267268) tt tt)
 
 pub leave_paired : (s : State) (id : ℤ) → IsPaired (verdict s (Some (call.Delete id)))
 unfolding verdict
@@ -178,7 +181,8 @@ leave_paired s id =
 
 -- ---- an entry that turns
 
-pub turn_turned : (s : State) (id : ℤ) (name : List ℕ) (owner new_id : ℤ) → IsTurned (verdict s (Some (call.ChangeEntry id name owner new_id)))
+pub turn_turned : (s : State) (id : ℤ) (name : List ℕ) (owner new_id : ℤ)
+    → IsTurned (verdict s (Some (call.ChangeEntry id name owner new_id)))
 unfolding verdict
 turn_turned s id name owner new_id =
     of_one IsTurned (s.registry.entry id) (turns s.registry (lowered name) owner new_id) (λ rule. tt)

@@ -41,7 +41,8 @@ not_malformed (Refuses rule) is = λ e. cc
 not_malformed (Answers a) is = λ e. cc
 not_malformed (Makes a change) is = λ e. cc
 
-answered : (s : State) (o : Option PtCall) → IsSome (option_map is_write (option_map call_kind o)) → reply_by (verdict s o) ≢ reply.Malformed
+answered : (s : State) (o : Option PtCall) → IsSome (option_map is_write (option_map call_kind o))
+    → reply_by (verdict s o) ≢ reply.Malformed
 answered s None is = absurd cc
 answered s (Some c) is = not_malformed (verdict s (Some c)) (call_answers s c)
 
@@ -69,7 +70,8 @@ pub names_calls : NamesCalls
 names_calls words bytes e = named_by words (call_in_words words) bytes refl e
 
 -- bytes that have their range stay
-pub only_these : (o : Option (List ℕ)) (bytes : List ℕ) → o ≡ Some bytes → list_all (λ x. nat_lt x 256) bytes ≡ true → Some bytes ≡ only_bytes o
+pub only_these : (o : Option (List ℕ)) (bytes : List ℕ) → o ≡ Some bytes → list_all (λ x. nat_lt x 256) bytes ≡ true
+    → Some bytes ≡ only_bytes o
 only_these None bytes is fit = absurd cc
 only_these (Some other) bytes is fit =
     let same : bytes ≡ other = cc in

@@ -28,7 +28,8 @@ use Rattle.pt_laws.proofs.ToldStates.{state_told}
 -- ---- calls that only look
 
 -- the call is this one
-as_asked : (bytes after : Option (List ℕ)) (call p : PtCall) (ended : CallEnd) → call ≡ p → IsMeantOf bytes (λ s. verdict s (Some p)) ended after
+as_asked : (bytes after : Option (List ℕ)) (call p : PtCall) (ended : CallEnd) → call ≡ p
+    → IsMeantOf bytes (λ s. verdict s (Some p)) ended after
     → IsMeantOf bytes (λ s. verdict s (Some call)) ended after
 as_asked bytes after call p ended is done = subst (λ (q : PtCall). IsMeantOf bytes (λ s. verdict s (Some q)) ended after) (sym is) done
 
@@ -148,7 +149,8 @@ pub no_call_done : (bytes : Option (List ℕ)) (o : Option PtCall) → o ≡ Non
 unfolding verdict
 no_call_done None o none = tt
 no_call_done (Some image) o none = λ s holds.
-    subst (λ (x : Option PtCall). IsDone (verdict s x) s image end.Malformed (Some image)) (sym none) (record { reply = refl; leaves = refl })
+    subst (λ (x : Option PtCall). IsDone (verdict s x) s image end.Malformed (Some image)) (sym none)
+    (record { reply = refl; leaves = refl })
 
 pub call_done : (bytes after : Option (List ℕ)) (o p : Option PtCall) (ended : CallEnd) → o ≡ p
     → IsMeantOf bytes (λ s. verdict s p) ended after → IsMeantOf bytes (λ s. verdict s o) ended after
@@ -160,7 +162,8 @@ abbrev EndsIn : (image bytes : List ℕ) → CallEnd → Option (List ℕ) → S
 EndsIn image bytes ended after s =
     EndsBy (record { reply = reply_by (verdict s (asked bytes)); image = image_by (verdict s (asked bytes)) s image }) ended after
 
-pub meant : (held after : Option (List ℕ)) (now : ℕ) (bytes : List ℕ) (ended : CallEnd) → IsMeantOf held (λ s. verdict s (asked bytes)) ended after
+pub meant : (held after : Option (List ℕ)) (now : ℕ) (bytes : List ℕ) (ended : CallEnd)
+    → IsMeantOf held (λ s. verdict s (asked bytes)) ended after
     → IfSome held (λ image. (s : State) → HoldsState image s → EndsBy (protection_database.call image now bytes) ended after)
 meant None after now bytes ended done = tt
 meant (Some image) after now bytes ended done = λ s holds.

@@ -16,7 +16,8 @@ use Rattle.pt_calls.specs.Reading.{call_of}
 -- an entry: flags, id, owner, creator, quota, the number of its pairs, name
 unfoldable pub entry_text : TextsOf → PtEntry → List ℕ
 entry_text text e =
-    text Number e.flags ++ text Signed e.id ++ text Signed e.owner ++ text Signed e.creator ++ text Signed e.quota ++ text Number e.count ++ text Text e.name
+    text Number e.flags ++ text Signed e.id ++ text Signed e.owner ++ text Signed e.creator ++ text Signed e.quota ++ text Number e.count
+    ++ text Text e.name
 
 abbrev pub answer_text : TextsOf → PtAnswer → List ℕ
 answer_text text answer.Done = []

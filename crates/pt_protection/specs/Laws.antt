@@ -30,8 +30,11 @@ HoldsOne = (image : List ℕ) (r s : State) → HoldsState image r → HoldsStat
 
 -- Bytes that are a call are answered as a call, over every image.
 abbrev pub AnswersCalls : Type 0
-AnswersCalls = (image : List ℕ) (now : ℕ) (bytes : List ℕ) → IsSome (protection_database.writes bytes) → (protection_database.call image now bytes).reply ≢ Malformed
+AnswersCalls =
+    (image : List ℕ) (now : ℕ) (bytes : List ℕ) → IsSome (protection_database.writes bytes)
+    → (protection_database.call image now bytes).reply ≢ Malformed
 
 -- What words name is a call.
 abbrev pub NamesCalls : Type 0
-NamesCalls = (words : List (List ℕ)) (bytes : List ℕ) → protection_words.call_of words ≡ Some bytes → IsSome (protection_database.writes bytes)
+NamesCalls =
+    (words : List (List ℕ)) (bytes : List ℕ) → protection_words.call_of words ≡ Some bytes → IsSome (protection_database.writes bytes)

@@ -15,7 +15,9 @@ use Rattle.pt_laws.specs.Told.{state_in}
 abbrev pub protection_database : Database
 protection_database = record {
   writes = λ bytes. option_map is_write (option_map call_kind (asked bytes));
-  call = λ image now bytes. let s = state_in (whole image) in let v = verdict s (asked bytes) in record { reply = reply_by v; image = image_by v s image };
+  call =
+      λ image now bytes. let s =
+      state_in (whole image) in let v = verdict s (asked bytes) in record { reply = reply_by v; image = image_by v s image };
   head = HEAD_LEN;
   block = BLOCK_LEN;
 }

@@ -21,7 +21,8 @@ never_bad (Answers a) at = λ e. cc
 never_bad (Makes a change) at = λ e. cc
 
 made_so : (image : List ℕ) (s : State) (now : ℕ) (bytes : List ℕ) → HoldsState image s
-    → IsMeantOver protection_standing image s (record { reply = reply_by (verdict s (asked bytes)); image = image_by (verdict s (asked bytes)) s image })
+    → IsMeantOver protection_standing image s
+    (record { reply = reply_by (verdict s (asked bytes)); image = image_by (verdict s (asked bytes)) s image })
     (protection_meaning.call s now bytes)
 made_so image s now bytes holds = record {
   reply = refl;
@@ -35,12 +36,14 @@ pub database_is_meant : (image : List ℕ) (s : State) (now : ℕ) (bytes : List
 database_is_meant image s now bytes holds =
     let c = asked bytes in
     subst
-    (λ (t : State). IsMeantOver protection_standing image s (record { reply = reply_by (verdict t c); image = image_by (verdict t c) t image })
+    (λ (t : State). IsMeantOver protection_standing image s
+    (record { reply = reply_by (verdict t c); image = image_by (verdict t c) t image })
     (protection_meaning.call s now bytes))
     (state_told image s holds) (made_so image s now bytes holds)
 
 pub empty_stands : HoldsState [] first_state
 empty_stands = empty_holds
 
-pub database_never_shrinks : (image : List ℕ) (now : ℕ) (bytes : List ℕ) → length image ≤ length (protection_database.call image now bytes).image
+pub database_never_shrinks : (image : List ℕ) (now : ℕ) (bytes : List ℕ)
+    → length image ≤ length (protection_database.call image now bytes).image
 database_never_shrinks image now bytes = let s = state_in (whole image) in grows_by (verdict s (asked bytes)) s image

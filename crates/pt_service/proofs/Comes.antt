@@ -34,7 +34,8 @@ new_no_kind bytes low kind given ended none told =
     refused bytes bytes (λ r. new_entry r low kind given) 267273 ended
     (told_all bytes (λ r. new_entry r low kind given ≡ Refuses 267273) (λ r. kind_none r low kind given none)) told refl
 
-pub new_barred : (bytes after : Option (List ℕ)) (name low : List ℕ) (kind : ℕ) (given : ℤ) (group : Bool) (rule : ℕ) (ended : CallEnd) → kind_of kind ≡ Some group
+pub new_barred : (bytes after : Option (List ℕ)) (name low : List ℕ) (kind : ℕ) (given : ℤ) (group : Bool) (rule : ℕ) (ended : CallEnd)
+    → kind_of kind ≡ Some group
     → name ≡ low → Told bytes (λ r. Err rule ≡ owner_for r group name given) → ended ≡ end_of (reply_by (Refuses rule)) → after ≡ bytes
     → IsMeant bytes (λ r. new_entry r low kind given) ended after
 new_barred bytes after name low kind given group rule ended is_kind is barred told same =
@@ -43,7 +44,8 @@ new_barred bytes after name low kind given group rule ended is_kind is barred to
     (λ r b. kind_some r low kind given group is_kind ∙ next_refused r group low given rule b)
     (owned_low bytes group name low given (Err rule) is barred)) told same
 
-pub new_no_id : (bytes b1 b2 after : Option (List ℕ)) (name low : List ℕ) (kind k : ℕ) (given owner u g : ℤ) (group : Bool) (ended : CallEnd)
+pub new_no_id : (bytes b1 b2 after : Option (List ℕ)) (name low : List ℕ) (kind k : ℕ) (given owner u g : ℤ) (group : Bool)
+    (ended : CallEnd)
     → kind_of kind ≡ Some group → name ≡ low → Told bytes (λ r. Ok owner ≡ owner_for r group name given) → b1 ≡ bytes
     → Told b1 (λ r. ◌≡◌ {A = ℤ × ℤ} (u, g) (r.max_user, r.max_group)) → b2 ≡ bytes → k ≡ unsigned_abs (cond group g u)
     → Told b2 (λ r. None ≡ first_unused r group k) → ended ≡ end_of (reply_by (Refuses 267266)) → after ≡ bytes
@@ -55,26 +57,32 @@ new_no_id bytes b1 b2 after name low kind k given owner u g group ended is_kind 
     refused bytes after (λ r. new_entry r low kind given) 267266 ended
     (told_both bytes (λ r. A r × B r) C (λ r. new_entry r low kind given ≡ Refuses 267266)
     (λ r ab c. kind_some r low kind given group is_kind ∙ next_none r group low given owner u g k ab.0 ab.1 number c)
-    (told_both bytes A B (λ r. A r × B r) (λ r a b. (a, b)) (owned_low bytes group name low given (Ok owner) is good) (told_same bytes b1 B same1 max))
+    (told_both bytes A B (λ r. A r × B r) (λ r a b. (a, b)) (owned_low bytes group name low given (Ok owner) is good)
+    (told_same bytes b1 B same1 max))
     (told_same bytes b2 C same2 none)) told same
 
-pub new_made : (bytes b1 b2 b3 after : Option (List ℕ)) (name low : List ℕ) (kind k : ℕ) (given owner u g id : ℤ) (group : Bool) (e : PrEntry) (p : ℤ × ℤ) (ended : CallEnd)
+pub new_made : (bytes b1 b2 b3 after : Option (List ℕ)) (name low : List ℕ) (kind k : ℕ) (given owner u g id : ℤ) (group : Bool)
+    (e : PrEntry) (p : ℤ × ℤ) (ended : CallEnd)
     → kind_of kind ≡ Some group → name ≡ low → Told bytes (λ r. Ok owner ≡ owner_for r group name given) → b1 ≡ bytes
     → Told b1 (λ r. ◌≡◌ {A = ℤ × ℤ} (u, g) (r.max_user, r.max_group)) → b2 ≡ bytes → k ≡ unsigned_abs (cond group g u)
     → Told b2 (λ r. Some id ≡ first_unused r group k) → e ≡ made group low id owner → ◌≡◌ {A = ℤ × ℤ} p (raised u g id)
-    → ended ≡ end_of (reply_by (Answers (answer.Id id))) → b3 ≡ bytes → after ≡ option_map (λ image. after_set_maxima p.0 p.1 (after_insert e image)) b3
+    → ended ≡ end_of (reply_by (Answers (answer.Id id))) → b3 ≡ bytes
+    → after ≡ option_map (λ image. after_set_maxima p.0 p.1 (after_insert e image)) b3
     → IsMeant bytes (λ r. new_entry r low kind given) ended after
-new_made bytes b1 b2 b3 after name low kind k given owner u g id group e p ended is_kind is good same1 max same2 number some so raises told same3 made =
+new_made bytes b1 b2 b3 after name low kind k given owner u g id group e p ended is_kind is good same1 max same2 number some so raises
+    told same3 made =
     let A = λ (r : Registry). Ok owner ≡ owner_for r group low given in
     let B = λ (r : Registry). ◌≡◌ {A = ℤ × ℤ} (u, g) (r.max_user, r.max_group) in
     let C = λ (r : Registry). Some id ≡ first_unused r group k in
     changed bytes after (λ r. new_entry r low kind given) (answer.Id id) (Enter e p.0 p.1) ended
     (told_both bytes (λ r. A r × B r) C (λ r. new_entry r low kind given ≡ Makes (answer.Id id) (Enter e p.0 p.1))
     (λ r ab c. kind_some r low kind given group is_kind ∙ next_made r group low given owner u g id k e p ab.0 ab.1 number c so raises)
-    (told_both bytes A B (λ r. A r × B r) (λ r a b. (a, b)) (owned_low bytes group name low given (Ok owner) is good) (told_same bytes b1 B same1 max))
+    (told_both bytes A B (λ r. A r × B r) (λ r a b. (a, b)) (owned_low bytes group name low given (Ok owner) is good)
+    (told_same bytes b1 B same1 max))
     (told_same bytes b2 C same2 some)) told (enter_left bytes b3 after e p.0 p.1 same3 made)
 
-pub new_cause : (bytes b2 b3 : Option (List ℕ)) (name low : List ℕ) (k : ℕ) (given owner id : ℤ) (group : Bool) (e : PrEntry) (f : RecordFault) → name ≡ low
+pub new_cause : (bytes b2 b3 : Option (List ℕ)) (name low : List ℕ) (k : ℕ) (given owner id : ℤ) (group : Bool) (e : PrEntry)
+    (f : RecordFault) → name ≡ low
     → Told bytes (λ r. Ok owner ≡ owner_for r group name given) → b2 ≡ bytes → Told b2 (λ r. Some id ≡ first_unused r group k)
     → e ≡ made group low id owner → b3 ≡ bytes → HasCause b3 (λ image r. Holds image r × MayBeAdded e r) f → HasCause bytes Holds f
 new_cause bytes b2 b3 name low k given owner id group e f is good same2 some so same3 cause =
@@ -93,8 +101,10 @@ given_no_id bytes low id given ended bad told =
     refused bytes bytes (λ r. new_entry_of_id r low id given) 267273 ended
     (told_all bytes (λ r. new_entry_of_id r low id given ≡ Refuses 267273) (λ r. given_bad r low id given bad)) told refl
 
-pub given_barred : (bytes after : Option (List ℕ)) (name low : List ℕ) (id given : ℤ) (group : Bool) (rule : ℕ) (ended : CallEnd) → is_id (is_group id) id ≡ true
-    → group ≡ is_group id → name ≡ low → Told bytes (λ r. Err rule ≡ owner_for r group name given) → ended ≡ end_of (reply_by (Refuses rule)) → after ≡ bytes
+pub given_barred : (bytes after : Option (List ℕ)) (name low : List ℕ) (id given : ℤ) (group : Bool) (rule : ℕ) (ended : CallEnd)
+    → is_id (is_group id) id ≡ true
+    → group ≡ is_group id → name ≡ low → Told bytes (λ r. Err rule ≡ owner_for r group name given)
+    → ended ≡ end_of (reply_by (Refuses rule)) → after ≡ bytes
     → IsMeant bytes (λ r. new_entry_of_id r low id given) ended after
 given_barred bytes after name low id given group rule ended is_id own is barred told same =
     refused bytes after (λ r. new_entry_of_id r low id given) rule ended
@@ -102,8 +112,10 @@ given_barred bytes after name low id given group rule ended is_id own is barred 
     (λ r b. given_refused r group low id given rule is_id own b)
     (owned_low bytes group name low given (Err rule) is barred)) told same
 
-pub given_there : (bytes b1 after : Option (List ℕ)) (name low : List ℕ) (id given owner : ℤ) (group : Bool) (ended : CallEnd) → is_id (is_group id) id ≡ true
-    → group ≡ is_group id → name ≡ low → Told bytes (λ r. Ok owner ≡ owner_for r group name given) → b1 ≡ bytes → Told b1 (λ r. false ≡ is_none (r.entry id))
+pub given_there : (bytes b1 after : Option (List ℕ)) (name low : List ℕ) (id given owner : ℤ) (group : Bool) (ended : CallEnd)
+    → is_id (is_group id) id ≡ true
+    → group ≡ is_group id → name ≡ low → Told bytes (λ r. Ok owner ≡ owner_for r group name given) → b1 ≡ bytes
+    → Told b1 (λ r. false ≡ is_none (r.entry id))
     → ended ≡ end_of (reply_by (Refuses 267265)) → after ≡ bytes → IsMeant bytes (λ r. new_entry_of_id r low id given) ended after
 given_there bytes b1 after name low id given owner group ended is_id own is good same1 there told same =
     let A = λ (r : Registry). Ok owner ≡ owner_for r group low given in
@@ -113,27 +125,34 @@ given_there bytes b1 after name low id given owner group ended is_id own is good
     (λ r a u. given_taken r group low id given owner is_id own a u)
     (owned_low bytes group name low given (Ok owner) is good) (told_same bytes b1 U same1 there)) told same
 
-pub given_comes : (bytes b1 b2 b3 after : Option (List ℕ)) (name low : List ℕ) (id given owner u g : ℤ) (group : Bool) (e : PrEntry) (p : ℤ × ℤ) (ended : CallEnd)
-    → is_id (is_group id) id ≡ true → group ≡ is_group id → name ≡ low → Told bytes (λ r. Ok owner ≡ owner_for r group name given) → b1 ≡ bytes
+pub given_comes : (bytes b1 b2 b3 after : Option (List ℕ)) (name low : List ℕ) (id given owner u g : ℤ) (group : Bool) (e : PrEntry)
+    (p : ℤ × ℤ) (ended : CallEnd)
+    → is_id (is_group id) id ≡ true → group ≡ is_group id → name ≡ low → Told bytes (λ r. Ok owner ≡ owner_for r group name given)
+    → b1 ≡ bytes
     → Told b1 (λ r. true ≡ is_none (r.entry id)) → b2 ≡ bytes → Told b2 (λ r. ◌≡◌ {A = ℤ × ℤ} (u, g) (r.max_user, r.max_group))
     → e ≡ made group low id owner → ◌≡◌ {A = ℤ × ℤ} p (raised u g id) → ended ≡ end_of (reply_by (Answers answer.Done)) → b3 ≡ bytes
-    → after ≡ option_map (λ image. after_set_maxima p.0 p.1 (after_insert e image)) b3 → IsMeant bytes (λ r. new_entry_of_id r low id given) ended after
-given_comes bytes b1 b2 b3 after name low id given owner u g group e p ended is_id own is good same1 free same2 max so raises told same3 made =
+    → after ≡ option_map (λ image. after_set_maxima p.0 p.1 (after_insert e image)) b3
+    → IsMeant bytes (λ r. new_entry_of_id r low id given) ended after
+given_comes bytes b1 b2 b3 after name low id given owner u g group e p ended is_id own is good same1 free same2 max so raises told same3
+    made =
     let A = λ (r : Registry). Ok owner ≡ owner_for r group low given in
     let U = λ (r : Registry). true ≡ is_none (r.entry id) in
     let B = λ (r : Registry). ◌≡◌ {A = ℤ × ℤ} (u, g) (r.max_user, r.max_group) in
     changed bytes after (λ r. new_entry_of_id r low id given) answer.Done (Enter e p.0 p.1) ended
     (told_both bytes (λ r. A r × U r) B (λ r. new_entry_of_id r low id given ≡ Makes answer.Done (Enter e p.0 p.1))
     (λ r au b. given_made r group low id given owner u g e p is_id own au.0 au.1 b so raises)
-    (told_both bytes A U (λ r. A r × U r) (λ r a u. (a, u)) (owned_low bytes group name low given (Ok owner) is good) (told_same bytes b1 U same1 free))
+    (told_both bytes A U (λ r. A r × U r) (λ r a u. (a, u)) (owned_low bytes group name low given (Ok owner) is good)
+    (told_same bytes b1 U same1 free))
     (told_same bytes b2 B same2 max)) told (enter_left bytes b3 after e p.0 p.1 same3 made)
 
 none_there : (o : Option PrEntry) → true ≡ is_none o → o ≡ None
 none_there None is = refl
 none_there (Some e) is = absurd cc
 
-pub given_cause : (bytes b1 b3 : Option (List ℕ)) (name low : List ℕ) (id given owner : ℤ) (group : Bool) (e : PrEntry) (f : RecordFault) → name ≡ low
-    → Told bytes (λ r. Ok owner ≡ owner_for r group name given) → b1 ≡ bytes → Told b1 (λ r. true ≡ is_none (r.entry id)) → e ≡ made group low id owner
+pub given_cause : (bytes b1 b3 : Option (List ℕ)) (name low : List ℕ) (id given owner : ℤ) (group : Bool) (e : PrEntry) (f : RecordFault)
+    → name ≡ low
+    → Told bytes (λ r. Ok owner ≡ owner_for r group name given) → b1 ≡ bytes → Told b1 (λ r. true ≡ is_none (r.entry id))
+    → e ≡ made group low id owner
     → b3 ≡ bytes → HasCause b3 (λ image r. Holds image r × MayBeAdded e r) f → HasCause bytes Holds f
 given_cause bytes b1 b3 name low id given owner group e f is good same1 free so same3 cause =
     let A = λ (r : Registry). Ok owner ≡ owner_for r group low given in

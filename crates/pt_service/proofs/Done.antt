@@ -9,7 +9,8 @@ use Rattle.pt_service.specs.Meaning.{Answers, Change, Makes, Refuses, Verdict, r
 use Rattle.pt_service.specs.Standing.{image_after, image_by}
 use Rattle.pt_service.specs.Told.{IsMeant, Told}
 
-left_by : (bytes after : Option (List ℕ)) (v : Registry → Verdict) (w : Verdict) (ended : CallEnd) → ((image : List ℕ) → image_by w image ≡ Some image)
+left_by : (bytes after : Option (List ℕ)) (v : Registry → Verdict) (w : Verdict) (ended : CallEnd)
+    → ((image : List ℕ) → image_by w image ≡ Some image)
     → Told bytes (λ r. v r ≡ w) → ended ≡ end_of (reply_by w) → after ≡ bytes → IsMeant bytes v ended after
 left_by None after v w ended left is told same = tt
 left_by (Some image) after v w ended left is told same = λ r holds. record {
@@ -17,7 +18,8 @@ left_by (Some image) after v w ended left is told same = λ r holds. record {
   leaves = same ∙ sym (left image) ∙ ap (λ (x : Verdict). image_by x image) (sym (is r holds));
 }
 
-pub refused : (bytes after : Option (List ℕ)) (v : Registry → Verdict) (number : ℕ) (ended : CallEnd) → Told bytes (λ r. v r ≡ Refuses number)
+pub refused : (bytes after : Option (List ℕ)) (v : Registry → Verdict) (number : ℕ) (ended : CallEnd)
+    → Told bytes (λ r. v r ≡ Refuses number)
     → ended ≡ end_of (reply_by (Refuses number)) → after ≡ bytes → IsMeant bytes v ended after
 refused bytes after v number ended is told same = left_by bytes after v (Refuses number) ended (λ image. refl) is told same
 
@@ -44,6 +46,7 @@ pub told_map : (bytes : Option (List ℕ)) (P Q : Registry → Type 0) → ((r :
 told_map None P Q step told = tt
 told_map (Some image) P Q step told = λ r holds. step r (told r holds)
 
-pub told_both : (bytes : Option (List ℕ)) (P Q R : Registry → Type 0) → ((r : Registry) → P r → Q r → R r) → Told bytes P → Told bytes Q → Told bytes R
+pub told_both : (bytes : Option (List ℕ)) (P Q R : Registry → Type 0) → ((r : Registry) → P r → Q r → R r) → Told bytes P → Told bytes Q
+    → Told bytes R
 told_both None P Q R step first second = tt
 told_both (Some image) P Q R step first second = λ r holds. step r (first r holds) (second r holds)

@@ -45,13 +45,15 @@ greater : (id u : ℤ) (b : Bool) → int_lt u id ≡ b → pos 0 ≤ℤ id → 
 greater id u true is low_id low_u high_u high_id = (low_id, high_id)
 greater id u false is low_id low_u high_u high_id = (low_u, high_u)
 
-pub raised_are : (u g id : ℤ) → AreMaxima u g → FitsSigned w32 id → is_id (is_group id) id ≡ true → AreMaxima (raised u g id).0 (raised u g id).1
+pub raised_are : (u g id : ℤ) → AreMaxima u g → FitsSigned w32 id → is_id (is_group id) id ≡ true
+    → AreMaxima (raised u g id).0 (raised u g id).1
 raised_are u g (pos n) are fits is =
     let p = greater (pos n) u (int_lt u (pos n)) refl (omega (arith, ints)) are.user_low are.user_high (omega (arith, ints, fits.sfits)) in
     record { user_low = p.0; user_high = p.1; group_low = are.group_low; group_high = are.group_high }
 raised_are u g (negsuc n) are fits is =
     let below = ltb-true n 2147483647 is in
-    let p = lesser (negsuc n) g (int_lt (negsuc n) g) refl (omega (arith, ints, below)) are.group_low are.group_high (omega (arith, ints)) in
+    let p = lesser (negsuc n) g (int_lt (negsuc n) g) refl (omega (arith, ints, below)) are.group_low are.group_high
+    (omega (arith, ints)) in
     record { user_low = are.user_low; user_high = are.user_high; group_low = p.0; group_high = p.1 }
 
 -- ---- what is decided
@@ -90,7 +92,8 @@ pub kind_some : (r : Registry) (name : List ℕ) (kind : ℕ) (owner : ℤ) (gro
 kind_some r name kind owner group some = some_by r name kind owner group (eqb kind 0) (eqb kind 2) refl refl some
 
 -- the maxima after it, as they were found
-enters_so : (r : Registry) (e : PrEntry) (u g : ℤ) (p : ℤ × ℤ) → ◌≡◌ {A = ℤ × ℤ} (u, g) (r.max_user, r.max_group) → ◌≡◌ {A = ℤ × ℤ} p (raised u g e.id)
+enters_so : (r : Registry) (e : PrEntry) (u g : ℤ) (p : ℤ × ℤ) → ◌≡◌ {A = ℤ × ℤ} (u, g) (r.max_user, r.max_group)
+    → ◌≡◌ {A = ℤ × ℤ} p (raised u g e.id)
     → enters r e ≡ Enter e p.0 p.1
 enters_so r e u g p max is =
     let same : ◌≡◌ {A = ℤ × ℤ} (raised r.max_user r.max_group e.id) p = ap (λ (m : ℤ × ℤ). raised m.0 m.1 e.id) (sym max) ∙ sym is in
@@ -100,7 +103,8 @@ pub next_refused : (r : Registry) (group : Bool) (name : List ℕ) (given : ℤ)
     → entry_made r group name given ≡ Refuses rule
 next_refused r group name given rule is = ap (λ (o : Result ℤ ℕ). of_owner o (λ o. with_next r group name o (next_id r group))) (sym is)
 
-next_found : (r : Registry) (group : Bool) (u g : ℤ) (k : ℕ) (id : Option ℤ) → ◌≡◌ {A = ℤ × ℤ} (u, g) (r.max_user, r.max_group) → k ≡ unsigned_abs (cond group g u)
+next_found : (r : Registry) (group : Bool) (u g : ℤ) (k : ℕ) (id : Option ℤ) → ◌≡◌ {A = ℤ × ℤ} (u, g) (r.max_user, r.max_group)
+    → k ≡ unsigned_abs (cond group g u)
     → id ≡ first_unused r group k → next_id r group ≡ id
 next_found r group u g k id max is found =
     ap (λ (m : ℤ × ℤ). first_unused r group (unsigned_abs (cond group m.1 m.0))) (sym max) ∙ ap (first_unused r group) (sym is) ∙ sym found
@@ -112,7 +116,8 @@ next_none r group name given owner u g k is max number found =
     ap (λ (o : Result ℤ ℕ). of_owner o (λ o. with_next r group name o (next_id r group))) (sym is)
     ∙ ap (with_next r group name owner) (next_found r group u g k None max number found)
 
-pub next_made : (r : Registry) (group : Bool) (name : List ℕ) (given owner u g id : ℤ) (k : ℕ) (e : PrEntry) (p : ℤ × ℤ) → Ok owner ≡ owner_for r group name given
+pub next_made : (r : Registry) (group : Bool) (name : List ℕ) (given owner u g id : ℤ) (k : ℕ) (e : PrEntry) (p : ℤ × ℤ)
+    → Ok owner ≡ owner_for r group name given
     → ◌≡◌ {A = ℤ × ℤ} (u, g) (r.max_user, r.max_group) → k ≡ unsigned_abs (cond group g u) → Some id ≡ first_unused r group k
     → e ≡ made group name id owner → ◌≡◌ {A = ℤ × ℤ} p (raised u g id)
     → entry_made r group name given ≡ Makes (answer.Id id) (Enter e p.0 p.1)
@@ -125,22 +130,29 @@ of_id_is : (r : Registry) (name : List ℕ) (id given : ℤ) (b : Bool) → is_i
     → new_entry_of_id r name id given
     ≡ cond b (of_owner (owner_for r (is_group id) name given) (λ o. with_given r name id o (is_some (r.entry id)))) (Refuses 267273)
 of_id_is r name id given b is =
-    ap (λ (t : Bool). cond t (of_owner (owner_for r (is_group id) name given) (λ o. with_given r name id o (is_some (r.entry id)))) (Refuses 267273)) is
+    ap (λ (t : Bool). cond t (of_owner (owner_for r (is_group id) name given) (λ o. with_given r name id o (is_some (r.entry id))))
+    (Refuses 267273)) is
 
-pub given_bad : (r : Registry) (name : List ℕ) (id given : ℤ) → is_id (is_group id) id ≡ false → new_entry_of_id r name id given ≡ Refuses 267273
+pub given_bad : (r : Registry) (name : List ℕ) (id given : ℤ) → is_id (is_group id) id ≡ false
+    → new_entry_of_id r name id given ≡ Refuses 267273
 given_bad r name id given is = of_id_is r name id given false is
 
-pub given_refused : (r : Registry) (group : Bool) (name : List ℕ) (id given : ℤ) (rule : ℕ) → is_id (is_group id) id ≡ true → group ≡ is_group id
+pub given_refused : (r : Registry) (group : Bool) (name : List ℕ) (id given : ℤ) (rule : ℕ) → is_id (is_group id) id ≡ true
+    → group ≡ is_group id
     → Err rule ≡ owner_for r group name given → new_entry_of_id r name id given ≡ Refuses rule
 given_refused r group name id given rule is own barred =
     of_id_is r name id given true is
-    ∙ ap (λ (o : Result ℤ ℕ). of_owner o (λ o. with_given r name id o (is_some (r.entry id)))) (ap (λ (b : Bool). owner_for r b name given) (sym own) ∙ sym barred)
+    ∙ ap (λ (o : Result ℤ ℕ). of_owner o (λ o. with_given r name id o (is_some (r.entry id))))
+    (ap (λ (b : Bool). owner_for r b name given) (sym own) ∙ sym barred)
 
-given_by : (r : Registry) (group : Bool) (name : List ℕ) (id given owner : ℤ) (taken : Bool) → is_id (is_group id) id ≡ true → group ≡ is_group id
-    → Ok owner ≡ owner_for r group name given → is_some (r.entry id) ≡ taken → new_entry_of_id r name id given ≡ with_given r name id owner taken
+given_by : (r : Registry) (group : Bool) (name : List ℕ) (id given owner : ℤ) (taken : Bool) → is_id (is_group id) id ≡ true
+    → group ≡ is_group id
+    → Ok owner ≡ owner_for r group name given → is_some (r.entry id) ≡ taken
+    → new_entry_of_id r name id given ≡ with_given r name id owner taken
 given_by r group name id given owner taken is own good there =
     of_id_is r name id given true is
-    ∙ ap (λ (o : Result ℤ ℕ). of_owner o (λ o. with_given r name id o (is_some (r.entry id)))) (ap (λ (b : Bool). owner_for r b name given) (sym own) ∙ sym good)
+    ∙ ap (λ (o : Result ℤ ℕ). of_owner o (λ o. with_given r name id o (is_some (r.entry id))))
+    (ap (λ (b : Bool). owner_for r b name given) (sym own) ∙ sym good)
     ∙ ap (with_given r name id owner) there
 
 some_of : (o : Option PrEntry) (b : Bool) → b ≡ is_none o → is_some o ≡ not b
@@ -152,7 +164,8 @@ pub given_taken : (r : Registry) (group : Bool) (name : List ℕ) (id given owne
 given_taken r group name id given owner is own good there =
     given_by r group name id given owner true is own good (some_of (r.entry id) false there)
 
-pub given_made : (r : Registry) (group : Bool) (name : List ℕ) (id given owner u g : ℤ) (e : PrEntry) (p : ℤ × ℤ) → is_id (is_group id) id ≡ true → group ≡ is_group id
+pub given_made : (r : Registry) (group : Bool) (name : List ℕ) (id given owner u g : ℤ) (e : PrEntry) (p : ℤ × ℤ)
+    → is_id (is_group id) id ≡ true → group ≡ is_group id
     → Ok owner ≡ owner_for r group name given → true ≡ is_none (r.entry id) → ◌≡◌ {A = ℤ × ℤ} (u, g) (r.max_user, r.max_group)
     → e ≡ made group name id owner → ◌≡◌ {A = ℤ × ℤ} p (raised u g id)
     → new_entry_of_id r name id given ≡ Makes answer.Done (Enter e p.0 p.1)
@@ -167,7 +180,8 @@ none_there : (o : Option PrEntry) → is_none o ≡ true → o ≡ None
 none_there None is = refl
 none_there (Some e) is = absurd cc
 
-found_by : (p : ℤ → Bool) (x y : ℤ) (xs : List ℤ) (b : Bool) → p y ≡ b → cond b (Some y) (find p xs) ≡ Some x → (find p xs ≡ Some x → p x ≡ true) → p x ≡ true
+found_by : (p : ℤ → Bool) (x y : ℤ) (xs : List ℤ) (b : Bool) → p y ≡ b → cond b (Some y) (find p xs) ≡ Some x
+    → (find p xs ≡ Some x → p x ≡ true) → p x ≡ true
 found_by p x y xs true met is later = let same : y ≡ x = cc in ap p (sym same) ∙ met
 found_by p x y xs false met is later = later is
 
@@ -193,13 +207,16 @@ some_and (Some e) P h = refl
 
 administrators_there : (r : Registry) → IsRegistry r → IsSome (r.entry administrators)
 unfolding fixed_entries
-administrators_there r valid = some_and (r.entry administrators) (λ e. e.name ≡ codes "system:administrators") (valid.fixed 3 (made false [] (pos 1) (pos 0)) (omega arith))
+administrators_there r valid =
+    some_and (r.entry administrators) (λ e. e.name ≡ codes "system:administrators")
+    (valid.fixed 3 (made false [] (pos 1) (pos 0)) (omega arith))
 
 anonymous_fixed : Contains (map (λ (e : PrEntry). e.id) fixed_entries) anonymous
 unfolding fixed_entries
 anonymous_fixed = (5, omega arith, refl)
 
-given_there : (name : List ℕ) (given owner : ℤ) (o : Option PrEntry) (bad : Bool) → (some : o ≡ None → ⊥) → cond {A = Result ℤ ℕ} bad (Err 267272) (Ok given) ≡ Ok owner → given ≡ owner
+given_there : (name : List ℕ) (given owner : ℤ) (o : Option PrEntry) (bad : Bool) → (some : o ≡ None → ⊥)
+    → cond {A = Result ℤ ℕ} bad (Err 267272) (Ok given) ≡ Ok owner → given ≡ owner
 given_there name given owner o true some is = absurd cc
 given_there name given owner o false some is = cc
 
@@ -208,22 +225,28 @@ given_some name given owner None is = absurd cc
 given_some name given owner (Some e) is =
     (refl, given_there name given owner (Some e) (has_colon name && not (bytes_eq (front_of name) (front_of e.name))) (λ h. cc) is)
 
-front_there : (r : Registry) (owner : ℤ) (o : Option ℤ) → owner_named o ≡ Ok owner → (o ≡ Some owner → IsSome (r.entry owner)) → IsSome (r.entry owner)
+front_there : (r : Registry) (owner : ℤ) (o : Option ℤ) → owner_named o ≡ Ok owner → (o ≡ Some owner → IsSome (r.entry owner))
+    → IsSome (r.entry owner)
 front_there r owner None is goes = absurd cc
 front_there r owner (Some id) is goes = let same : id ≡ owner = cc in goes (ap (λ (z : ℤ). Some z) same)
 
-by_front : (r : Registry) (front : List ℕ) (owner : ℤ) (b : Bool) → IsRegistry r → cond b (Ok administrators) (owner_named (id_named r front)) ≡ Ok owner → IsSome (r.entry owner)
-by_front r front owner true valid is = let same : administrators ≡ owner = cc in subst (λ (z : ℤ). IsSome (r.entry z)) same (administrators_there r valid)
+by_front : (r : Registry) (front : List ℕ) (owner : ℤ) (b : Bool) → IsRegistry r
+    → cond b (Ok administrators) (owner_named (id_named r front)) ≡ Ok owner → IsSome (r.entry owner)
+by_front r front owner true valid is =
+    let same : administrators ≡ owner = cc in subst (λ (z : ℤ). IsSome (r.entry z)) same (administrators_there r valid)
 by_front r front owner false valid is = front_there r owner (id_named r front) is (named_there r front owner)
 
-by_colon : (r : Registry) (name : List ℕ) (owner : ℤ) (b : Bool) → IsRegistry r → cond b (owner_by_front r (front_of name)) (Ok administrators) ≡ Ok owner → IsSome (r.entry owner)
+by_colon : (r : Registry) (name : List ℕ) (owner : ℤ) (b : Bool) → IsRegistry r
+    → cond b (owner_by_front r (front_of name)) (Ok administrators) ≡ Ok owner → IsSome (r.entry owner)
 by_colon r name owner true valid is =
     let front = front_of name in
     by_front r front owner (bytes_eq front system) valid (sym (front_is r front (bytes_eq front system) refl) ∙ is)
-by_colon r name owner false valid is = let same : administrators ≡ owner = cc in subst (λ (z : ℤ). IsSome (r.entry z)) same (administrators_there r valid)
+by_colon r name owner false valid is =
+    let same : administrators ≡ owner = cc in subst (λ (z : ℤ). IsSome (r.entry z)) same (administrators_there r valid)
 
 by_given : (r : Registry) (name : List ℕ) (given owner : ℤ) (b : Bool) → IsRegistry r
-    → cond (not b) (given_owner name given (r.entry given)) (cond (has_colon name) (owner_by_front r (front_of name)) (Ok administrators)) ≡ Ok owner
+    → cond (not b) (given_owner name given (r.entry given))
+    (cond (has_colon name) (owner_by_front r (front_of name)) (Ok administrators)) ≡ Ok owner
     → IsSome (r.entry owner)
 by_given r name given owner true valid is = by_colon r name owner (has_colon name) valid is
 by_given r name given owner false valid is =
@@ -232,7 +255,8 @@ by_given r name given owner false valid is =
 
 owner_there : (r : Registry) (name : List ℕ) (given owner : ℤ) → IsRegistry r → owner_of r name given ≡ Ok owner → IsSome (r.entry owner)
 owner_there r name given owner valid is =
-    by_given r name given owner (int_eq given (pos 0)) valid (sym (owner_is r name given (int_eq given (pos 0)) (has_colon name) refl refl) ∙ is)
+    by_given r name given owner (int_eq given (pos 0)) valid
+    (sym (owner_is r name given (int_eq given (pos 0)) (has_colon name) refl refl) ∙ is)
 
 none_found : (o : Option ℤ) → is_some o ≡ false → o ≡ None
 none_found None is = refl
@@ -243,14 +267,16 @@ untaken taken (Err rule) owner is = absurd cc
 untaken true (Ok x) owner is = absurd cc
 untaken false (Ok x) owner is = (is, refl)
 
-owned_by_form : (r : Registry) (name : List ℕ) (given owner : ℤ) (form : Bool) → cond form (unless_taken (is_some (id_named r name)) (owner_of r name given)) (Err 267272) ≡ Ok owner
+owned_by_form : (r : Registry) (name : List ℕ) (given owner : ℤ) (form : Bool)
+    → cond form (unless_taken (is_some (id_named r name)) (owner_of r name given)) (Err 267272) ≡ Ok owner
     → (owner_of r name given ≡ Ok owner) × (id_named r name ≡ None)
 owned_by_form r name given owner false is = absurd cc
 owned_by_form r name given owner true is =
     let p = untaken (is_some (id_named r name)) (owner_of r name given) owner is in
     (p.0, none_found (id_named r name) p.1)
 
-pub may_enter : (r : Registry) (group : Bool) (name : List ℕ) (given owner id : ℤ) (e : PrEntry) → IsRegistry r → Ok owner ≡ owner_for r group name given
+pub may_enter : (r : Registry) (group : Bool) (name : List ℕ) (given owner id : ℤ) (e : PrEntry) → IsRegistry r
+    → Ok owner ≡ owner_for r group name given
     → r.entry id ≡ None → e ≡ made group name id owner → MayBeAdded e r
 may_enter r group name given owner id e valid good unused so =
     let form = is_name_of group name in
@@ -262,7 +288,8 @@ may_enter r group name given owner id e valid good unused so =
       among = record { owner = inr (some_with r x owner (owner_there r name given owner valid p.0)); creator = anonymous_fixed };
     })
 
-pub cause_of_enter : (bytes mid : Option (List ℕ)) (e : PrEntry) (f : RecordFault) → mid ≡ bytes → Told bytes (λ r. IsRegistry r → MayBeAdded e r)
+pub cause_of_enter : (bytes mid : Option (List ℕ)) (e : PrEntry) (f : RecordFault) → mid ≡ bytes
+    → Told bytes (λ r. IsRegistry r → MayBeAdded e r)
     → HasCause mid (λ image r. Holds image r × MayBeAdded e r) f → HasCause bytes Holds f
 cause_of_enter bytes mid e DiskFault same may cause = tt
 cause_of_enter bytes mid e NoMemory same may cause = tt
@@ -272,21 +299,26 @@ cause_of_enter (Some image) mid e (BadRecord at) same may cause = λ r holds.
     none r (holds, may r holds holds.valid)
 
 pub enter_left : (bytes mid after : Option (List ℕ)) (e : PrEntry) (u g : ℤ) → mid ≡ bytes
-    → after ≡ option_map (λ image. after_set_maxima u g (after_insert e image)) mid → after ≡ option_and_then (image_after (Enter e u g)) bytes
+    → after ≡ option_map (λ image. after_set_maxima u g (after_insert e image)) mid
+    → after ≡ option_and_then (image_after (Enter e u g)) bytes
 enter_left None mid after e u g same made = made ∙ ap (option_map (λ image. after_set_maxima u g (after_insert e image))) same
 enter_left (Some image) mid after e u g same made = made ∙ ap (option_map (λ image. after_set_maxima u g (after_insert e image))) same
 
 -- ---- it has the bits of its fields
 
-made_of : (group : Bool) (name : List ℕ) (id owner : ℤ) → FitsSigned w32 id → FitsSigned w32 owner → is_id (is_group id) id ≡ true → is_name_of (is_group id) name ≡ true
+made_of : (group : Bool) (name : List ℕ) (id owner : ℤ) → FitsSigned w32 id → FitsSigned w32 owner → is_id (is_group id) id ≡ true
+    → is_name_of (is_group id) name ≡ true
     → IsRecord (made group name id owner)
 made_of true name id owner fits own is form =
     record_of (made true name id owner) (omega arith) fits own (record { sfits = omega arith }) (record { sfits = omega arith }) is form
 made_of false name id owner fits own is form =
     record_of (made false name id owner) (omega arith) fits own (record { sfits = omega arith }) (record { sfits = omega arith }) is form
 
-pub made_record : (e : PrEntry) (group : Bool) (name : List ℕ) (id owner : ℤ) → e ≡ made group name id owner → FitsSigned w32 id → FitsSigned w32 owner
+pub made_record : (e : PrEntry) (group : Bool) (name : List ℕ) (id owner : ℤ) → e ≡ made group name id owner → FitsSigned w32 id
+    → FitsSigned w32 owner
     → is_id group id ≡ true → is_name_of group name ≡ true → IsRecord e
 made_record e group name id owner so fits own is form =
     let same = sym (group_of group id is) in
-    subst IsRecord (sym so) (made_of group name id owner fits own (subst (λ (b : Bool). is_id b id ≡ true) same is) (subst (λ (b : Bool). is_name_of b name ≡ true) same form))
+    subst IsRecord (sym so)
+    (made_of group name id owner fits own (subst (λ (b : Bool). is_id b id ≡ true) same is)
+    (subst (λ (b : Bool). is_name_of b name ≡ true) same form))

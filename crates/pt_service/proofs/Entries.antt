@@ -9,7 +9,7 @@ use Rattle.db_image.specs.declared.faults.RecordFault.{RecordFault}
 use Rattle.db_image.specs.declared.faults.RecordFault.TheVariants as fault
 use Rattle.prdb_entries.specs.RecordEnds.{HasCause, seen}
 use Rattle.prdb_entries.specs.Records.{Holds}
-use Rattle.prdb_entries.specs.Registry.{Registry, IsNamed, IsNext, IsRecord, is_name_for}
+use Rattle.prdb_entries.specs.Registry.{Registry, IsNamed, IsRecord, is_name_for}
 use Rattle.prdb_entries.specs.State.{PrEntry, IsId}
 use Rattle.prdb_entries.specs.declared.records.PrEntry.{PrEntry as CodeEntry}
 use Rattle.prdb_entries.proofs.UserNames.{HasForm, form}
@@ -32,12 +32,14 @@ pub record IsFitting (id : ℤ) (name : List ℕ) : Type 0 where
   pub name_is : is_name_for id name ≡ true
   pub form_is : HasForm name
 
-pub fitting_by : (id : ℤ) (name : List ℕ) → FitsSigned w32 id → is_id (is_group id) id ≡ true → is_name_of (is_group id) name ≡ true → IsFitting id name
+pub fitting_by : (id : ℤ) (name : List ℕ) → FitsSigned w32 id → is_id (is_group id) id ≡ true → is_name_of (is_group id) name ≡ true
+    → IsFitting id name
 fitting_by (pos n) name fits id is = record { id_is = (ltb-true 0 n id, omega (arith, ints, fits)); name_is = is; form_is = form name is }
 fitting_by (negsuc n) name fits id is = record { id_is = ltb-true n 2147483647 id; name_is = is; form_is = group_form name is }
 
 -- the numbers of an entry in code have the bits of their fields
-pub record_of : (e : PrEntry) → e.flags < 2 ^ 32 → FitsSigned w32 e.id → FitsSigned w32 e.owner → FitsSigned w32 e.creator → FitsSigned w32 e.quota
+pub record_of : (e : PrEntry) → e.flags < 2 ^ 32 → FitsSigned w32 e.id → FitsSigned w32 e.owner → FitsSigned w32 e.creator
+    → FitsSigned w32 e.quota
     → is_id (is_group e.id) e.id ≡ true → is_name_of (is_group e.id) e.name ≡ true → IsRecord e
 record_of e flags id owner creator quota is_id is_name =
     let f = fitting_by e.id e.name id is_id is_name in
@@ -55,7 +57,8 @@ record_of e flags id owner creator quota is_id is_name =
       name = f.name_is;
     }
 
-pub record_is : (e : PrEntry) → e.flags < 2 ^ 32 → FitsSigned w32 e.id → FitsSigned w32 e.owner → FitsSigned w32 e.creator → FitsSigned w32 e.quota
+pub record_is : (e : PrEntry) → e.flags < 2 ^ 32 → FitsSigned w32 e.id → FitsSigned w32 e.owner → FitsSigned w32 e.creator
+    → FitsSigned w32 e.quota
     → entry_fits e ≡ true → IsRecord e
 record_is e flags id owner creator quota fits =
     let p = and_parts (is_id (is_group e.id) e.id) (is_name_of (is_group e.id) e.name) fits in
@@ -77,7 +80,8 @@ both false is not = absurd cc
 
 -- an entry that no database may hold is in none
 unfit : (bytes : Option (List ℕ)) (found : Option CodeEntry) (at : ℕ) → IsSomeAnd found (λ e. entry_fits (seen e) ≡ false)
-    → Told bytes (λ r. (e : CodeEntry) → found ≡ Some e → (id : ℤ) × (r.entry id ≡ Some (seen e))) → HasCause bytes Holds (fault.BadRecord at)
+    → Told bytes (λ r. (e : CodeEntry) → found ≡ Some e → (id : ℤ) × (r.entry id ≡ Some (seen e)))
+    → HasCause bytes Holds (fault.BadRecord at)
 unfit None found at bad there = tt
 unfit (Some image) None at bad there = absurd bad
 unfit (Some image) (Some e) at bad there = λ r holds.
@@ -91,7 +95,8 @@ told_id None found id there = tt
 told_id (Some image) found id there = λ r holds e is. (id, sym (there r holds) ∙ ap (option_map seen) is)
 
 pub unfit_id : (bytes : Option (List ℕ)) (found : Option CodeEntry) (id : ℤ) (at : ℕ) (f : RecordFault) → f ≡ fault.BadRecord at
-    → IsSomeAnd found (λ e. entry_fits (seen e) ≡ false) → IfSome bytes (λ image. (r : Registry) → Holds image r → option_map seen found ≡ r.entry id)
+    → IsSomeAnd found (λ e. entry_fits (seen e) ≡ false)
+    → IfSome bytes (λ image. (r : Registry) → Holds image r → option_map seen found ≡ r.entry id)
     → HasCause bytes Holds f
 unfit_id bytes found id at f is bad there = subst (HasCause bytes Holds) (sym is) (unfit bytes found at bad (told_id bytes found id there))
 
@@ -105,16 +110,5 @@ told_name (Some image) found name there = λ r holds e is.
 pub unfit_name : (bytes : Option (List ℕ)) (found : Option CodeEntry) (name : List ℕ) (at : ℕ) (f : RecordFault) → f ≡ fault.BadRecord at
     → IsSomeAnd found (λ e. entry_fits (seen e) ≡ false)
     → IfSome bytes (λ image. (r : Registry) → Holds image r → IsNamed r name (option_map seen found)) → HasCause bytes Holds f
-unfit_name bytes found name at f is bad there = subst (HasCause bytes Holds) (sym is) (unfit bytes found at bad (told_name bytes found name there))
-
-told_next : (bytes : Option (List ℕ)) (found : Option CodeEntry) (after : ℤ)
-    → IfSome bytes (λ image. (r : Registry) → Holds image r → IsNext r after (option_map seen found))
-    → Told bytes (λ r. (e : CodeEntry) → found ≡ Some e → (id : ℤ) × (r.entry id ≡ Some (seen e)))
-told_next None found after there = tt
-told_next (Some image) found after there = λ r holds e is.
-    (e.id, (subst (λ (o : Option CodeEntry). IsNext r after (option_map seen o)) is (there r holds)).0)
-
-pub unfit_next : (bytes : Option (List ℕ)) (found : Option CodeEntry) (after : ℤ) (at : ℕ) (f : RecordFault) → f ≡ fault.BadRecord at
-    → IsSomeAnd found (λ e. entry_fits (seen e) ≡ false)
-    → IfSome bytes (λ image. (r : Registry) → Holds image r → IsNext r after (option_map seen found)) → HasCause bytes Holds f
-unfit_next bytes found after at f is bad there = subst (HasCause bytes Holds) (sym is) (unfit bytes found at bad (told_next bytes found after there))
+unfit_name bytes found name at f is bad there =
+    subst (HasCause bytes Holds) (sym is) (unfit bytes found at bad (told_name bytes found name there))

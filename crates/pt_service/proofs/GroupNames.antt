@@ -22,7 +22,8 @@ first_by : (b : Bool) (first len at : ℕ) → ltb first len ≡ b → cond b (S
 first_by true first len at test is = (sym (some_same is), ltb-true first len test)
 first_by false first len at test is = absurd cc
 
-first_at : (name : List ℕ) (at : ℕ) → position is_colon name ≡ Some at → (at ≡ position_or_len is_colon name) × (position_or_len is_colon name < length name)
+first_at : (name : List ℕ) (at : ℕ) → position is_colon name ≡ Some at → (at ≡ position_or_len is_colon name)
+    × (position_or_len is_colon name < length name)
 first_at name at is = first_by (ltb (position_or_len is_colon name) (length name)) (position_or_len is_colon name) (length name) at refl is
 
 none_by : (b : Bool) (first len : ℕ) → ltb first len ≡ b → cond b (Some first) None ≡ None → len ≤ first
@@ -79,7 +80,8 @@ seen b e =
 
 text_bytes : (text : List ℕ) → is_text text ≡ true → All IsSeen text
 text_bytes text is = λ k d below.
-    seen (get_or text k d) (AllPass-from_list_all is_name_byte text (and_parts (leb 1 (length text)) (list_all is_name_byte text) is).1 k d below)
+    seen (get_or text k d)
+    (AllPass-from_list_all is_name_byte text (and_parts (leb 1 (length text)) (list_all is_name_byte text) is).1 k d below)
 
 colon_seen : (b : ℕ) → is_colon b ≡ true → IsSeen b
 colon_seen b is = let same : b ≡ 58 = eqb-true b 58 is in (omega (arith, same), omega (arith, same))
@@ -95,7 +97,8 @@ around name below front behind = λ k d within.
           subst IsSeen (get_or-take at name k d before) (text_bytes (front_of name) front k d (omega (arith, n, before)))
       | inr from ↦
           ⊎_elim
-          (λ (same : k ≡ at). subst (λ (j : ℕ). IsSeen (get_or name j d)) (sym same) (colon_seen (get_or name at d) (passes_at_first is_colon name d below)))
+          (λ (same : k ≡ at). subst (λ (j : ℕ). IsSeen (get_or name j d)) (sym same)
+          (colon_seen (get_or name at d) (passes_at_first is_colon name d below)))
           (λ (other : k ≡ at → ⊥).
           let j = k - (at + 1) in
           let sum : at + 1 + j ≡ k = omega (arith, from, other) in
@@ -119,7 +122,8 @@ bytes_by name true any is_small is_any form =
         | inl below ↦
             let any_is : any ≡ true = sym is_any ∙ has_one name below in
             let n : length (front_of name) ≡ at = length-take-le at name (omega (arith, below)) in
-            let behind = ap (λ (b : Bool). cond b (is_text (behind_colon name)) (not (bytes_eq name (codes "system")))) (sym any_is) ∙ p.1 in
+            let behind = ap (λ (b : Bool). cond b (is_text (behind_colon name)) (not (bytes_eq name (codes "system")))) (sym any_is)
+            ∙ p.1 in
             around name below p.0 (ap (λ (k : ℕ). is_text (drop (k + 1) name)) (sym n) ∙ behind)
         | inr past ↦ whole_text name past p.0
       ],

@@ -15,24 +15,34 @@ digits_len z fits = omega (arith, length_signed_le 10 z (omega (arith, fits.sfit
 pub opaque_len : (bytes : List ℕ) → length (opaque bytes) ≤ length bytes + 7
 opaque_len bytes =
     let n = length bytes in
-    omega (arith, length-append (word n ++ bytes) (replicate (padding n) 0), length-append (word n) bytes, length-replicate {A = ℕ} (padding n) 0)
+    omega (
+      arith,
+      length-append (word n ++ bytes) (replicate (padding n) 0),
+      length-append (word n) bytes,
+      length-replicate {A = ℕ}
+          (padding n) 0,
+    )
 
 -- a list of items, none of which has more bytes than this
-pub flat_len : {A : Type 0} (f : A → List ℕ) (most : ℕ) (xs : List A) → AllByRecursion (λ x. length (f x) ≤ most) xs → length (flat_map f xs) ≤ most * length xs
+pub flat_len : {A : Type 0} (f : A → List ℕ) (most : ℕ) (xs : List A) → AllByRecursion (λ x. length (f x) ≤ most) xs
+    → length (flat_map f xs) ≤ most * length xs
 flat_len f most [] all = omega arith
 flat_len f most (x ∷ xs) all =
     let first = all.0 in
     let rest = flat_len f most xs all.1 in
     grind (arith, length-append (f x) (flat_map f xs), first, rest)
 
-pub listed_len : {A : Type 0} (f : A → List ℕ) (most : ℕ) (xs : List A) → AllByRecursion (λ x. length (f x) ≤ most) xs → length (listed f xs) ≤ 4 + most * length xs
+pub listed_len : {A : Type 0} (f : A → List ℕ) (most : ℕ) (xs : List A) → AllByRecursion (λ x. length (f x) ≤ most) xs
+    → length (listed f xs) ≤ 4 + most * length xs
 listed_len f most xs all = omega (arith, length-append (word (length xs)) (flat_map f xs), flat_len f most xs all)
 
-names_small : (names : List (List ℕ)) → AllByRecursion (λ name. length name ≤ 63) names → AllByRecursion (λ name. length (opaque name) ≤ 70) names
+names_small : (names : List (List ℕ)) → AllByRecursion (λ name. length name ≤ 63) names
+    → AllByRecursion (λ name. length (opaque name) ≤ 70) names
 names_small [] all = tt
 names_small (name ∷ names) all = (omega (arith, opaque_len name, all.0), names_small names all.1)
 
-pub names_len : (names : List (List ℕ)) → AllByRecursion (λ name. length name ≤ 63) names → length names ≤ 5000 → length (listed opaque names) ≤ 1048576
+pub names_len : (names : List (List ℕ)) → AllByRecursion (λ name. length name ≤ 63) names → length names ≤ 5000
+    → length (listed opaque names) ≤ 1048576
 names_len names all count = omega (arith, count, listed_len opaque 70 names (names_small names all))
 
 pub names_spelled : (names : List (List ℕ)) → AllByRecursion (λ name. length name ≤ 63) names → AllByRecursion IsName names

@@ -31,10 +31,12 @@ named_none g d ids names is = record {
   count = ap length is;
 }
 
-more : (r : Registry) (ids : List ℤ) (id : ℤ) (names : List (List ℕ)) (name : List ℕ) (done : ℕ) → done < length ids → id ≡ get_or ids done id
+more : (r : Registry) (ids : List ℤ) (id : ℤ) (names : List (List ℕ)) (name : List ℕ) (done : ℕ) → done < length ids
+    → id ≡ get_or ids done id
     → name ≡ name_of r id → names ≡ map (name_of r) (take done ids) → names ++ name ∷ [] ≡ map (name_of r) (take (done + 1) ids)
 more r ids id names name done below is found so_far =
-    let one : take (done + 1) ids ≡ take done ids ++ id ∷ [] = rw add-one (take-suc ids done id below ∙ ap (λ (n : ℤ). take done ids ++ n ∷ []) (sym is)) in
+    let one : take (done + 1) ids ≡ take done ids
+    ++ id ∷ [] = rw add-one (take-suc ids done id below ∙ ap (λ (n : ℤ). take done ids ++ n ∷ []) (sym is)) in
     ap (λ (l : List (List ℕ)). l ++ name ∷ []) so_far ∙ ap (λ (y : List ℕ). map (name_of r) (take done ids) ++ y ∷ []) found
     ∙ sym (map_push (name_of r) (take done ids) id) ∙ ap (map (name_of r)) (sym one)
 
@@ -43,7 +45,8 @@ lens_push : (names : List (List ℕ)) (name : List ℕ) → AllByRecursion (λ n
 lens_push [] name all here = (here, tt)
 lens_push (n ∷ names) name all here = (all.0, lens_push names name all.1 here)
 
-pub named_more : {I : Type 0} (g : Ghosts I) (old now next : Drafted I) (ids : List ℤ) (names later : List (List ℕ)) (name : List ℕ) (done : ℕ) (failed : Type 0)
+pub named_more : {I : Type 0} (g : Ghosts I) (old now next : Drafted I) (ids : List ℤ) (names later : List (List ℕ)) (name : List ℕ)
+    (done : ℕ) (failed : Type 0)
     → OnlyLooks g now next failed → (id : ℤ) → Told now.bytes (λ r. name ≡ name_of r id) → id ≡ get_or ids done id → done < length ids
     → later ≡ names ++ name ∷ [] → Named g old now ids names done → length name ≤ 63 → Named g old next ids later (done + 1)
 named_more g old now next ids names later name done failed looks id found is below pushed so short =
@@ -66,7 +69,8 @@ pub passed_id : (ids : List ℤ) (n : ℕ) (d : ℤ) → n < length ids → Fits
     → to_z w32 (of_z w32 (get_or ids n d)) ≡ get_or ids n (to_z w32 (of_z w32 (get_or ids n d)))
 passed_id ids n d below fits = to_z-of_z w32 (get_or ids n d) fits ∙ same_default ids n d (to_z w32 (of_z w32 (get_or ids n d))) below
 
-pub named_all : {I : Type 0} (g : Ghosts I) (old now : Drafted I) (ids : List ℤ) (names result : List (List ℕ)) (done : ℕ) → length ids ≤ done → result ≡ names
+pub named_all : {I : Type 0} (g : Ghosts I) (old now : Drafted I) (ids : List ℤ) (names result : List (List ℕ)) (done : ℕ)
+    → length ids ≤ done → result ≡ names
     → Named g old now ids names done → Told old.bytes (λ r. result ≡ map (name_of r) ids)
 named_all g old now ids names result done past is so =
     told_map old.bytes (λ r. names ≡ map (name_of r) (take done ids)) (λ r. result ≡ map (name_of r) ids)

@@ -21,10 +21,12 @@ use Rattle.pt_service.proofs.Done.{told_all, told_map}
 
 -- ---- maxima
 
-set_by : (r : Registry) (id : ℤ) (group b : Bool) → is_maximum group id ≡ b → maximum_set r id group ≡ cond b (Makes answer.Done (maxima_with r group id)) (Refuses 267273)
+set_by : (r : Registry) (id : ℤ) (group b : Bool) → is_maximum group id ≡ b
+    → maximum_set r id group ≡ cond b (Makes answer.Done (maxima_with r group id)) (Refuses 267273)
 set_by r id group b is = ap (λ (t : Bool). cond t (Makes answer.Done (maxima_with r group id)) (Refuses 267273)) is
 
-pub max_refused : (bytes : Option (List ℕ)) (id : ℤ) (group : Bool) → is_maximum group id ≡ false → Told bytes (λ r. maximum_set r id group ≡ Refuses 267273)
+pub max_refused : (bytes : Option (List ℕ)) (id : ℤ) (group : Bool) → is_maximum group id ≡ false
+    → Told bytes (λ r. maximum_set r id group ≡ Refuses 267273)
 max_refused bytes id group is = told_all bytes (λ r. maximum_set r id group ≡ Refuses 267273) (λ r. set_by r id group false is)
 
 with_by : (r : Registry) (id u g : ℤ) (group : Bool) (p : ℤ × ℤ) → ◌≡◌ {A = ℤ × ℤ} (u, g) (r.max_user, r.max_group)
@@ -40,7 +42,8 @@ pub max_set : (bytes : Option (List ℕ)) (id u g : ℤ) (group : Bool) (p : ℤ
     → IfSome bytes (λ image. (r : Registry) → Holds image r → ◌≡◌ {A = ℤ × ℤ} (u, g) (r.max_user, r.max_group))
     → ◌≡◌ {A = ℤ × ℤ} p (cond group (u, id) (id, g)) → Told bytes (λ r. maximum_set r id group ≡ Makes answer.Done (Maxima p.0 p.1))
 max_set bytes id u g group p is max same =
-    told_map bytes (λ r. ◌≡◌ {A = ℤ × ℤ} (u, g) (r.max_user, r.max_group)) (λ r. maximum_set r id group ≡ Makes answer.Done (Maxima p.0 p.1))
+    told_map bytes (λ r. ◌≡◌ {A = ℤ × ℤ} (u, g) (r.max_user, r.max_group))
+    (λ r. maximum_set r id group ≡ Makes answer.Done (Maxima p.0 p.1))
     (λ r m. set_by r id group true is ∙ ap (Makes answer.Done) (with_by r id u g group p m same)) max
 
 pub maxima_left : (bytes mid after : Option (List ℕ)) (u g : ℤ) → mid ≡ bytes → after ≡ option_map (after_set_maxima u g) mid
@@ -60,14 +63,17 @@ pub are_maxima : (id u g : ℤ) (group : Bool) → AreMaxima u g → FitsSigned 
     → (p : ℤ × ℤ) → ◌≡◌ {A = ℤ × ℤ} p (cond group (u, id) (id, g)) → AreMaxima p.0 p.1
 are_maxima id u g true are fits is p same =
     let m = group_max id is in
-    subst (λ (q : ℤ × ℤ). AreMaxima q.0 q.1) (sym same) (record { user_low = are.user_low; user_high = are.user_high; group_low = m.0; group_high = m.1 })
+    subst (λ (q : ℤ × ℤ). AreMaxima q.0 q.1) (sym same)
+    (record { user_low = are.user_low; user_high = are.user_high; group_low = m.0; group_high = m.1 })
 are_maxima id u g false are fits is p same =
     let m = user_max id fits is in
-    subst (λ (q : ℤ × ℤ). AreMaxima q.0 q.1) (sym same) (record { user_low = m.0; user_high = m.1; group_low = are.group_low; group_high = are.group_high })
+    subst (λ (q : ℤ × ℤ). AreMaxima q.0 q.1) (sym same)
+    (record { user_low = m.0; user_high = m.1; group_low = are.group_low; group_high = are.group_high })
 
 -- ---- fields
 
-pub no_fields : (bytes : Option (List ℕ)) (id : ℤ) (goes : PrEntry → Verdict) → IfSome bytes (λ image. (r : Registry) → Holds image r → None ≡ r.entry id)
+pub no_fields : (bytes : Option (List ℕ)) (id : ℤ) (goes : PrEntry → Verdict)
+    → IfSome bytes (λ image. (r : Registry) → Holds image r → None ≡ r.entry id)
     → Told bytes (λ r. of_entry (r.entry id) goes ≡ Refuses 267268)
 no_fields bytes id goes none =
     told_map bytes (λ r. None ≡ r.entry id) (λ r. of_entry (r.entry id) goes ≡ Refuses 267268)
@@ -75,7 +81,8 @@ no_fields bytes id goes none =
 
 fields_by : (mask flags : ℕ) (quota : ℤ) (e : PrEntry) (b : Bool) → are_bad_fields mask flags quota ≡ b
     → fields_set mask flags quota e ≡ cond b (Refuses 267273) (Makes answer.Done (Refit (with_fields mask flags quota e)))
-fields_by mask flags quota e b is = ap (λ (t : Bool). cond t (Refuses 267273) (Makes answer.Done (Refit (with_fields mask flags quota e)))) is
+fields_by mask flags quota e b is =
+    ap (λ (t : Bool). cond t (Refuses 267273) (Makes answer.Done (Refit (with_fields mask flags quota e)))) is
 
 pub fields_refused : (bytes : Option (List ℕ)) (id : ℤ) (mask flags : ℕ) (quota : ℤ) (e : PrEntry) → are_bad_fields mask flags quota ≡ true
     → IfSome bytes (λ image. (r : Registry) → Holds image r → Some e ≡ r.entry id)
@@ -84,7 +91,8 @@ fields_refused bytes id mask flags quota e is there =
     told_map bytes (λ r. Some e ≡ r.entry id) (λ r. of_entry (r.entry id) (fields_set mask flags quota) ≡ Refuses 267273)
     (λ r at. ap (λ (o : Option PrEntry). of_entry o (fields_set mask flags quota)) (sym at) ∙ fields_by mask flags quota e true is) there
 
-pub fields_made : (bytes : Option (List ℕ)) (id : ℤ) (mask flags : ℕ) (quota : ℤ) (e new : PrEntry) → are_bad_fields mask flags quota ≡ false
+pub fields_made : (bytes : Option (List ℕ)) (id : ℤ) (mask flags : ℕ) (quota : ℤ) (e new : PrEntry)
+    → are_bad_fields mask flags quota ≡ false
     → IfSome bytes (λ image. (r : Registry) → Holds image r → Some e ≡ r.entry id) → new ≡ with_fields mask flags quota e
     → Told bytes (λ r. of_entry (r.entry id) (fields_set mask flags quota) ≡ Makes answer.Done (Refit new))
 fields_made bytes id mask flags quota e new is there so =
@@ -112,14 +120,16 @@ named_so : (o : Option PrEntry) (e f : PrEntry) → IsSomeAnd o (λ g. g.name �
 named_so None e f named is = absurd named
 named_so (Some g) e f named is = sym (ap (λ (x : PrEntry). x.name) (some_same is)) ∙ named
 
-pub may_refit : (r : Registry) (e old : PrEntry) → IsRegistry r → r.entry e.id ≡ Some old → old.name ≡ e.name → IsAmong r.entry old → old.owner ≡ e.owner → old.creator ≡ e.creator
+pub may_refit : (r : Registry) (e old : PrEntry) → IsRegistry r → r.entry e.id ≡ Some old → old.name ≡ e.name → IsAmong r.entry old
+    → old.owner ≡ e.owner → old.creator ≡ e.creator
     → MayReplace e.id e r
 may_refit r e old valid at name among owner creator = record {
   there = subst (λ (o : Option PrEntry). IsSome o) (sym at) refl;
   same_id = refl;
   name = λ other f there same. valid.names other e.id f old there at (same ∙ sym name);
   fixed = λ k d below same.
-      sym name ∙ named_so (r.entry (get_or fixed_entries k d).id) old (get_or fixed_entries k d) (valid.fixed k d below) (ap r.entry same ∙ at);
+      sym name ∙ named_so (r.entry (get_or fixed_entries k d).id) old (get_or fixed_entries k d) (valid.fixed k d below)
+      (ap r.entry same ∙ at);
   among = record {
     owner = subst (λ (z : ℤ). (z ≡ pos 0) ⊎ IsSome ((with_entry e r).entry z)) owner
         (⊎_elim (λ none. inl none) (λ some. inr (some_with r e old.owner some)) among.owner);
@@ -152,6 +162,7 @@ cause_of_fields (Some image) mid id mask flags quota e new (BadRecord at) same t
     none r (holds, subst (λ (x : PrEntry). Refits r x) (sym so) (e.flags, e.quota, ap r.entry (sym own) ∙ sym (there r holds)))
 
 pub refit_err : {T : Type 0} (res : Result T RecordFault) (bytes : Option (List ℕ)) (e : PrEntry)
-    → IfErr res (HasCause bytes (λ image r. Holds image r × MayReplace e.id e r)) → IfErr res (HasCause bytes (λ image r. Holds image r × Refits r e))
+    → IfErr res (HasCause bytes (λ image r. Holds image r × MayReplace e.id e r))
+    → IfErr res (HasCause bytes (λ image r. Holds image r × Refits r e))
 refit_err (Ok x) bytes e cause = tt
 refit_err (Err f) bytes e cause = cause_of_refit bytes e e.id f refl cause

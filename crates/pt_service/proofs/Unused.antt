@@ -47,8 +47,10 @@ free_step : (r : Registry) (group : Bool) (n : ℕ) (total : Option ℤ) → n <
 free_step r group n total below unused so_far =
     sym (split r group n below ∙ ap (λ (b : Bool). cond b (Some (id_behind group n)) (free_from r group (n + 1))) (sym unused)) ∙ so_far
 
-pub passed_more : {I : Type 0} (g : Ghosts I) (old now next : Drafted I) (group : Bool) (passed n : ℕ) (id : ℤ) (failed : Type 0) → n < 2147483647
-    → Passed g old now group passed n → OnlyLooks g now next failed → id ≡ id_behind group n → Told now.bytes (λ r. false ≡ is_none (r.entry id))
+pub passed_more : {I : Type 0} (g : Ghosts I) (old now next : Drafted I) (group : Bool) (passed n : ℕ) (id : ℤ) (failed : Type 0)
+    → n < 2147483647
+    → Passed g old now group passed n → OnlyLooks g now next failed → id ≡ id_behind group n
+    → Told now.bytes (λ r. false ≡ is_none (r.entry id))
     → Passed g old next group passed (n + 1)
 passed_more g old now next group passed n id failed below p looks is used = record {
   frame = looks_then g old now next ⊥ ⊥ p.frame (looks_so g now next failed ⊥ looks (λ h. absurd h));
@@ -58,14 +60,19 @@ passed_more g old now next group passed n id failed below p looks is used = reco
       (subst (λ (b : Option (List ℕ)). Told b (λ r. false ≡ is_none (r.entry id))) p.frame.same.bytes used) p.rest;
 }
 
-pub passed_free : {I : Type 0} (g : Ghosts I) (old now : Drafted I) (group : Bool) (passed n : ℕ) (id : ℤ) → n < 2147483647 → Passed g old now group passed n
-    → id ≡ id_behind group n → Told now.bytes (λ r. true ≡ is_none (r.entry id)) → Told old.bytes (λ r. Some id ≡ first_unused r group passed)
+pub passed_free : {I : Type 0} (g : Ghosts I) (old now : Drafted I) (group : Bool) (passed n : ℕ) (id : ℤ) → n < 2147483647
+    → Passed g old now group passed n
+    → id ≡ id_behind group n → Told now.bytes (λ r. true ≡ is_none (r.entry id))
+    → Told old.bytes (λ r. Some id ≡ first_unused r group passed)
 passed_free g old now group passed n id below p is unused =
-    told_both old.bytes (λ r. true ≡ is_none (r.entry id)) (λ r. free_from r group n ≡ first_unused r group passed) (λ r. Some id ≡ first_unused r group passed)
-    (λ r u s. ap (λ (z : ℤ). Some z) is ∙ free_step r group n (first_unused r group passed) below (u ∙ ap (λ (z : ℤ). is_none (r.entry z)) is) s)
+    told_both old.bytes (λ r. true ≡ is_none (r.entry id)) (λ r. free_from r group n ≡ first_unused r group passed)
+    (λ r. Some id ≡ first_unused r group passed)
+    (λ r u s. ap (λ (z : ℤ). Some z) is
+    ∙ free_step r group n (first_unused r group passed) below (u ∙ ap (λ (z : ℤ). is_none (r.entry z)) is) s)
     (subst (λ (b : Option (List ℕ)). Told b (λ r. true ≡ is_none (r.entry id))) p.frame.same.bytes unused) p.rest
 
-pub passed_end : {I : Type 0} (g : Ghosts I) (old now : Drafted I) (group : Bool) (passed n : ℕ) → 2147483647 ≤ n → Passed g old now group passed n
+pub passed_end : {I : Type 0} (g : Ghosts I) (old now : Drafted I) (group : Bool) (passed n : ℕ) → 2147483647 ≤ n
+    → Passed g old now group passed n
     → Told old.bytes (λ r. None ≡ first_unused r group passed)
 passed_end g old now group passed n past p =
     told_map old.bytes (λ r. free_from r group n ≡ first_unused r group passed) (λ r. None ≡ first_unused r group passed)

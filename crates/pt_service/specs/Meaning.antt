@@ -140,7 +140,8 @@ abbrev pub are_flags : ℕ → Bool
 are_flags flags =
     let status = flags / 65536 in
     let owned = flags / 4096 % 16 in
-    (status == 1 || status == 2) && (owned == 0 || owned == 2) && nat_le (flags / 256 % 16) 2 && nat_le (flags / 16 % 16) 2 && nat_le (flags % 16) 1
+    (status == 1 || status == 2) && (owned == 0 || owned == 2) && nat_le (flags / 256 % 16) 2 && nat_le (flags / 16 % 16) 2
+    && nat_le (flags % 16) 1
 
 -- a mask names the flags by 1, the quota by 2
 abbrev pub names_flags : ℕ → Bool

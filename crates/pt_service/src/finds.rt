@@ -1,17 +1,17 @@
 //! The entries of the database as calls look for them, over a draft. Each that is found is one that a database may hold, whatever the
 //! image holds.
-ghost use Rattle.std.specs.Prelude.{◌≡◌, ◌<◌, ◌^◌, ◌<ℤ◌, false, IfSome, IsSomeAnd, IfOk, IfErr, IsErrOf};
+ghost use Rattle.std.specs.Prelude.{◌≡◌, ◌<◌, ◌^◌, false, IfSome, IsSomeAnd, IfOk, IfErr, IsErrOf};
 ghost use Rattle.std.specs.Option.{option_map};
 ghost use Rattle.prdb_entries.specs.RecordEnds.{HasCause, OnlyLooks, seen};
 ghost use Rattle.prdb_entries.specs.Records.{Holds};
-ghost use Rattle.prdb_entries.specs.Registry.{IsNamed, IsNext};
+ghost use Rattle.prdb_entries.specs.Registry.{IsNamed};
 ghost use Rattle.pt_service.specs.Fitting.{entry_fits};
 ghost use Rattle.pt_service.specs.State.{is_group, is_id};
 ghost use Rattle.pt_service.specs.Told.{IsGood, Told};
 
 use crate::names::is_name_of;
 use db_image::{Draft, ImageRead, RecordFault};
-use prdb_entries::{PrEntry, find_id, find_name, next_id};
+use prdb_entries::{PrEntry, find_id, find_name};
 use std::alloc::Global;
 
 /// Whether an id is a group's.
@@ -90,43 +90,5 @@ pub fn entry_of_name<I: ImageRead>(
 {
     let found = find_name(alloc, d, name)?;
     let e = fitting(found, d.len())?;
-    Ok(e)
-}
-
-/// An entry that was found above an id, if it is above it.
-fn above(found: Option<PrEntry>, after: i32, at: u32) -> Result<Option<PrEntry>, RecordFault>
-    ensures same { IfOk result (λ e. e ≡ found) }
-    ensures above { IfOk result (λ e. IfSome e (λ f. after <ℤ f.id)) }
-    ensures fault { IfErr result (λ fault. fault ≡ RecordFault.BadRecord at) }
-    ensures not_above { IfErr result (λ fault. IsSomeAnd found (λ e. ¬ (after <ℤ e.id))) }
-{
-    match found {
-        Some(e) => {
-            if e.id > after {
-                Ok(Some(e))
-            } else {
-                Err(RecordFault::BadRecord { at })
-            }
-        }
-        None => Ok(None),
-    }
-}
-
-/// The entry with the least id above one.
-pub fn entry_after<I: ImageRead>(
-    alloc: Global,
-    d: &mut Draft<I>,
-    after: i32,
-) -> Result<Option<PrEntry>, RecordFault>
-    requires { d.old.len < 2 ^ 31 }
-    ensures found { IfOk result (λ found. Told d.old.bytes (λ r. IsNext r after (option_map seen found))) }
-    ensures good { IfOk result IsGood }
-    ensures above { IfOk result (λ found. IfSome found (λ e. after <ℤ e.id)) }
-    ensures fault { IfErr result (HasCause d.old.bytes Holds) }
-    ensures frame { OnlyLooks I.ImageRead d.old d.new (IsErrOf result RecordFault.DiskFault) }
-{
-    let found = next_id(alloc, d, after)?;
-    let next = above(found, after, d.len())?;
-    let e = fitting(next, d.len())?;
     Ok(e)
 }

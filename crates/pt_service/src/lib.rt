@@ -11,7 +11,7 @@ mod rules;
 
 pub use entering::{new_entry, new_entry_of_id, raised};
 pub use fields::{set_fields, set_max};
-pub use finds::{entry_after, entry_of_id, entry_of_name, is_group, is_id};
+pub use finds::{entry_of_id, entry_of_name, is_group, is_id};
 pub use looks::{id_to_name, list_max, name_to_id, tell};
 pub use names::{MAX_NAME, front_of, has_colon, is_name_of, lowered};
 pub use rules::{

@@ -16,7 +16,8 @@ there r = λ id. option_to_list (r.entry id)
 
 -- ---- none does
 
-one_none : (test : PrEntry → Bool) (o : Option PrEntry) → ((f : PrEntry) → o ≡ Some f → test f ≡ false) → list_any test (option_to_list o) ≡ false
+one_none : (test : PrEntry → Bool) (o : Option PrEntry) → ((f : PrEntry) → o ≡ Some f → test f ≡ false)
+    → list_any test (option_to_list o) ≡ false
 one_none test None fails = refl
 one_none test (Some f) fails = ap (λ (b : Bool). b || false) (fails f refl)
 
@@ -33,7 +34,8 @@ none_from : (test : PrEntry → Bool) (r : Registry) (first : ℤ) (count : ℕ)
 unfolding entries_from
 none_from test r first count fails = none_in test r (numbers_from first count) fails
 
-pub any_none : (r : Registry) (test : PrEntry → Bool) → ((id : ℤ) (f : PrEntry) → r.entry id ≡ Some f → test f ≡ false) → list_any test (entries r) ≡ false
+pub any_none : (r : Registry) (test : PrEntry → Bool) → ((id : ℤ) (f : PrEntry) → r.entry id ≡ Some f → test f ≡ false)
+    → list_any test (entries r) ≡ false
 any_none r test fails = none_from test r least_id 4294967295 fails
 
 -- ---- one does
@@ -65,7 +67,8 @@ by_test false P d = inr (λ p. let is = d.1 p in absurd cc)
 pub cases_id : (a b : ℤ) → (a ≡ b) ⊎ (a ≢ b)
 cases_id a b = by_test (int_eq a b) (a ≡ b) (Decides-int_eq a b)
 
-some_up : (test : PrEntry → Bool) (r : Registry) (f : PrEntry) (n : ℕ) (a : ℤ) → a ≤ℤ f.id → f.id <ℤ (a +ℤ pos n) → r.entry f.id ≡ Some f → test f ≡ true
+some_up : (test : PrEntry → Bool) (r : Registry) (f : PrEntry) (n : ℕ) (a : ℤ) → a ≤ℤ f.id → f.id <ℤ (a +ℤ pos n) → r.entry f.id ≡ Some f
+    → test f ≡ true
     → list_any test (flat_map (there r) (numbers_from a n)) ≡ true
 unfolding numbers_from
 some_up test r f zero a from below at met = absurd (nothing_between a f.id from below)
@@ -75,15 +78,18 @@ some_up test r f (suc n) a from below at met =
     ∙ ⊎_elim
     (λ (same : a ≡ f.id). or_first (list_any test (there r a)) rest (one_some test (r.entry a) f (ap r.entry same ∙ at) met))
     (λ (other : a ≢ f.id).
-    or_second (list_any test (there r a)) rest (some_up test r f n (a +ℤ pos 1) (next_up a f.id from other) (below_next a f.id n below) at met))
+    or_second (list_any test (there r a)) rest
+    (some_up test r f n (a +ℤ pos 1) (next_up a f.id from other) (below_next a f.id n below) at met))
     (cases_id a f.id)
 
-some_from : (test : PrEntry → Bool) (r : Registry) (f : PrEntry) (first : ℤ) (count : ℕ) → first ≤ℤ f.id → f.id <ℤ (first +ℤ pos count) → r.entry f.id ≡ Some f
+some_from : (test : PrEntry → Bool) (r : Registry) (f : PrEntry) (first : ℤ) (count : ℕ) → first ≤ℤ f.id → f.id <ℤ (first +ℤ pos count)
+    → r.entry f.id ≡ Some f
     → test f ≡ true → list_any test (entries_from first count r) ≡ true
 unfolding entries_from
 some_from test r f first count from below at met = some_up test r f count first from below at met
 
-pub any_some : (r : Registry) (test : PrEntry → Bool) (f : PrEntry) → IsRegistry r → r.entry f.id ≡ Some f → test f ≡ true → list_any test (entries r) ≡ true
+pub any_some : (r : Registry) (test : PrEntry → Bool) (f : PrEntry) → IsRegistry r → r.entry f.id ≡ Some f → test f ≡ true
+    → list_any test (entries r) ≡ true
 any_some r test f valid at met =
     let range = entry_range r f.id valid (is_there (r.entry f.id) f at) in
     some_from test r f least_id 4294967295 range.0 range.1 at met
@@ -112,7 +118,8 @@ which_in test r (x ∷ xs) is =
     which_by test r x (r.entry x) refl (list_any test (flat_map (there r) xs)) (which_in test r xs)
     (sym (list_any-append test (there r x) (flat_map (there r) xs)) ∙ is)
 
-which_from : (test : PrEntry → Bool) (r : Registry) (first : ℤ) (count : ℕ) → list_any test (entries_from first count r) ≡ true → IsPassing r test
+which_from : (test : PrEntry → Bool) (r : Registry) (first : ℤ) (count : ℕ) → list_any test (entries_from first count r) ≡ true
+    → IsPassing r test
 unfolding entries_from
 which_from test r first count is = which_in test r (numbers_from first count) is
 
@@ -126,11 +133,13 @@ kept_by : (p : ℤ → Bool) (xs : List ℤ) (x : ℤ) (q : ℤ → Bool) (b : B
 kept_by p xs x q true is = ap (λ (b : Bool). list_any p (cond b (x ∷ filter q xs) (filter q xs))) is
 kept_by p xs x q false is = ap (λ (b : Bool). list_any p (cond b (x ∷ filter q xs) (filter q xs))) is
 
-more_kept : (p q : ℤ → Bool) (xs : List ℤ) (x : ℤ) (b : Bool) → q x ≡ b → list_any p (filter q xs) ≡ true → list_any p (filter q (x ∷ xs)) ≡ true
+more_kept : (p q : ℤ → Bool) (xs : List ℤ) (x : ℤ) (b : Bool) → q x ≡ b → list_any p (filter q xs) ≡ true
+    → list_any p (filter q (x ∷ xs)) ≡ true
 more_kept p q xs x true is rest = kept_by p xs x q true is ∙ or_second (p x) (list_any p (filter q xs)) rest
 more_kept p q xs x false is rest = kept_by p xs x q false is ∙ rest
 
-kept_up : (p q : ℤ → Bool) (id : ℤ) (n : ℕ) (a : ℤ) → a ≤ℤ id → id <ℤ (a +ℤ pos n) → q id ≡ true → p id ≡ true → list_any p (filter q (numbers_from a n)) ≡ true
+kept_up : (p q : ℤ → Bool) (id : ℤ) (n : ℕ) (a : ℤ) → a ≤ℤ id → id <ℤ (a +ℤ pos n) → q id ≡ true → p id ≡ true
+    → list_any p (filter q (numbers_from a n)) ≡ true
 unfolding numbers_from
 kept_up p q id zero a from below kept met = absurd (nothing_between a id from below)
 kept_up p q id (suc n) a from below kept met =
@@ -143,7 +152,8 @@ kept_up p q id (suc n) a from below kept met =
     (kept_up p q id n (a +ℤ pos 1) (next_up a id from other) (below_next a id n below) kept met))
     (cases_id a id)
 
-pub any_kept : (r : Registry) (p q : ℤ → Bool) (id : ℤ) → IsRegistry r → IsSome (r.entry id) → q id ≡ true → p id ≡ true → list_any p (filter q ids) ≡ true
+pub any_kept : (r : Registry) (p q : ℤ → Bool) (id : ℤ) → IsRegistry r → IsSome (r.entry id) → q id ≡ true → p id ≡ true
+    → list_any p (filter q ids) ≡ true
 unfolding ids
 any_kept r p q id valid there kept met =
     let range = entry_range r id valid there in

@@ -50,7 +50,8 @@ record Passes (r : Registry) (e : PrEntry) (name : List ℕ) (owner new_id : ℤ
   distinct : has_equal_names r e (new_name r e name owner) ≡ false
   free : (not (int_eq (given_or new_id e.id) e.id) && is_some (r.entry (given_or new_id e.id))) ≡ false
 
-all_pass : (r : Registry) (e : PrEntry) (name : List ℕ) (owner new_id : ℤ) → turn_fault r e name owner new_id ≡ None → Passes r e name owner new_id
+all_pass : (r : Registry) (e : PrEntry) (name : List ℕ) (owner new_id : ℤ) → turn_fault r e name owner new_id ≡ None
+    → Passes r e name owner new_id
 all_pass r e name owner new_id none =
     let new = new_name r e name owner in
     let id = given_or new_id e.id in
@@ -83,8 +84,10 @@ no_none : (o : Option PrEntry) → is_none o ≡ false → (x : PrEntry) × (o �
 no_none None is = absurd cc
 no_none (Some x) is = (x, refl)
 
-given_good : (r : Registry) (e : PrEntry) (name : List ℕ) (owner new_id : ℤ) → (length name == 0) ≡ false → Passes r e name owner new_id → is_name_for e.id name ≡ true
-given_good r e name owner new_id given p = not-false (is_name_for e.id name) (and_no (length name == 0) (not (is_name_for e.id name)) p.form given)
+given_good : (r : Registry) (e : PrEntry) (name : List ℕ) (owner new_id : ℤ) → (length name == 0) ≡ false → Passes r e name owner new_id
+    → is_name_for e.id name ≡ true
+given_good r e name owner new_id given p =
+    not-false (is_name_for e.id name) (and_no (length name == 0) (not (is_name_for e.id name)) p.form given)
 
 -- with the front of another owner
 abbrev under_owner : Registry → PrEntry → (owner : ℤ) → List ℕ
@@ -93,13 +96,15 @@ under_owner r e owner = with_front (front_under r owner e.name) e.name
 front_for : (r : Registry) (owner : ℤ) (name : List ℕ) (o : PrEntry) → r.entry owner ≡ Some o → front_under r owner name ≡ front_of o.name
 front_for r owner name o at = ap (λ (x : Option PrEntry). front_of_entry x (front_of name)) at
 
-owner_good : (r : Registry) (e : PrEntry) (owner : ℤ) (o : PrEntry) → IsRegistry r → r.entry e.id ≡ Some e → r.entry owner ≡ Some o → has_colon e.name ≡ true
+owner_good : (r : Registry) (e : PrEntry) (owner : ℤ) (o : PrEntry) → IsRegistry r → r.entry e.id ≡ Some e → r.entry owner ≡ Some o
+    → has_colon e.name ≡ true
     → length (under_owner r e owner) ≤ 63 → is_name_for e.id (under_owner r e owner) ≡ true
 owner_good r e owner o valid at owner_at has short =
     let front = front_for r owner e.name o owner_at in
     let text = front_text o.id o.name (valid.records owner o owner_at).name in
     subst (λ (f : List ℕ). is_name_for e.id (with_front f e.name) ≡ true) (sym front)
-    (front_good e.id (front_of o.name) e.name text has (valid.records e.id e at).name (subst (λ (f : List ℕ). length (with_front f e.name) ≤ 63) front short))
+    (front_good e.id (front_of o.name) e.name text has (valid.records e.id e at).name
+    (subst (λ (f : List ℕ). length (with_front f e.name) ≤ 63) front short))
 
 abbrev owner_turns : PrEntry → (owner : ℤ) → Bool
 owner_turns e owner = has_colon e.name && not (int_eq owner (pos 0)) && not (int_eq owner e.owner)
@@ -107,33 +112,40 @@ owner_turns e owner = has_colon e.name && not (int_eq owner (pos 0)) && not (int
 abbrev name_cases : Registry → PrEntry → (name : List ℕ) → (owner : ℤ) → (none turns : Bool) → List ℕ
 name_cases r e name owner none turns = cond (not none) name (cond turns (under_owner r e owner) e.name)
 
-name_by : (r : Registry) (e : PrEntry) (name : List ℕ) (owner : ℤ) (none turns : Bool) → (length name == 0) ≡ none → owner_turns e owner ≡ turns
+name_by : (r : Registry) (e : PrEntry) (name : List ℕ) (owner : ℤ) (none turns : Bool) → (length name == 0) ≡ none
+    → owner_turns e owner ≡ turns
     → new_name r e name owner ≡ name_cases r e name owner none turns
 name_by r e name owner none turns one two =
     ap (λ (b : Bool). name_cases r e name owner b (owner_turns e owner)) one ∙ ap (λ (b : Bool). name_cases r e name owner none b) two
 
-good_by : (r : Registry) (e : PrEntry) (name : List ℕ) (owner new_id : ℤ) (none turns : Bool) → IsRegistry r → r.entry e.id ≡ Some e → Passes r e name owner new_id
-    → (length name == 0) ≡ none → owner_turns e owner ≡ turns → length (new_name r e name owner) ≤ 63 → is_name_for e.id (name_cases r e name owner none turns) ≡ true
+good_by : (r : Registry) (e : PrEntry) (name : List ℕ) (owner new_id : ℤ) (none turns : Bool) → IsRegistry r → r.entry e.id ≡ Some e
+    → Passes r e name owner new_id
+    → (length name == 0) ≡ none → owner_turns e owner ≡ turns → length (new_name r e name owner) ≤ 63
+    → is_name_for e.id (name_cases r e name owner none turns) ≡ true
 good_by r e name owner new_id false turns valid at p one two short = given_good r e name owner new_id one p
 good_by r e name owner new_id true false valid at p one two short = (valid.records e.id e at).name
 good_by r e name owner new_id true true valid at p one two short =
     let parts = and_parts (has_colon e.name && not (int_eq owner (pos 0))) (not (int_eq owner e.owner)) two in
     let more = and_parts (has_colon e.name) (not (int_eq owner (pos 0))) parts.0 in
-    let o = no_none (r.entry owner) (and_no (int_eq owner (pos 0)) (is_none (r.entry owner)) p.owner_there (not-true (int_eq owner (pos 0)) more.1)) in
+    let o = no_none (r.entry owner)
+    (and_no (int_eq owner (pos 0)) (is_none (r.entry owner)) p.owner_there (not-true (int_eq owner (pos 0)) more.1)) in
     owner_good r e owner o.0 valid at o.1 more.0 (subst (λ (n : List ℕ). length n ≤ 63) (name_by r e name owner true true one two) short)
 
-own_short : (r : Registry) (e : PrEntry) (new : List ℕ) → IsRegistry r → r.entry e.id ≡ Some e → has_long_name r e new ≡ false → length new ≤ 63
+own_short : (r : Registry) (e : PrEntry) (new : List ℕ) → IsRegistry r → r.entry e.id ≡ Some e → has_long_name r e new ≡ false
+    → length new ≤ 63
 own_short r e new valid at none =
     elim (cases_Bool (nat_lt 63 (length (name_after e new e)))) [
       | inl long ↦ absurd (clash (has_long_name r e new) (any_some r (λ f. nat_lt 63 (length (name_after e new f))) e valid at long) none)
       | inr short ↦ subst (λ (n : List ℕ). length n ≤ 63) (after_own e new) (ltb-false 63 (length (name_after e new e)) short)
     ]
 
-name_good : (r : Registry) (e : PrEntry) (name : List ℕ) (owner new_id : ℤ) → IsRegistry r → r.entry e.id ≡ Some e → Passes r e name owner new_id
+name_good : (r : Registry) (e : PrEntry) (name : List ℕ) (owner new_id : ℤ) → IsRegistry r → r.entry e.id ≡ Some e
+    → Passes r e name owner new_id
     → is_name_for e.id (new_name r e name owner) ≡ true
 name_good r e name owner new_id valid at p =
     ap (is_name_for e.id) (name_by r e name owner (length name == 0) (owner_turns e owner) refl refl)
-    ∙ good_by r e name owner new_id (length name == 0) (owner_turns e owner) valid at p refl refl (own_short r e (new_name r e name owner) valid at p.short)
+    ∙ good_by r e name owner new_id (length name == 0) (owner_turns e owner) valid at p refl refl
+    (own_short r e (new_name r e name owner) valid at p.short)
 
 -- ---- its owner and its id
 
@@ -142,7 +154,8 @@ owner_by : (r : Registry) (e : PrEntry) (owner : ℤ) (b : Bool) → IsRegistry 
 owner_by r e owner true valid at zero is = (valid.among e.id e at).owner
 owner_by r e owner false valid at zero is = let o = no_none (r.entry owner) is in inr (is_there (r.entry owner) o.0 o.1)
 
-owner_good_too : (r : Registry) (e : PrEntry) (owner : ℤ) → IsRegistry r → r.entry e.id ≡ Some e → (not (int_eq owner (pos 0)) && is_none (r.entry owner)) ≡ false
+owner_good_too : (r : Registry) (e : PrEntry) (owner : ℤ) → IsRegistry r → r.entry e.id ≡ Some e
+    → (not (int_eq owner (pos 0)) && is_none (r.entry owner)) ≡ false
     → IsOwner r.entry (given_or owner e.owner)
 owner_good_too r e owner valid at is = owner_by r e owner (int_eq owner (pos 0)) valid at refl is
 
@@ -162,11 +175,13 @@ no_some : (o : Option PrEntry) → is_some o ≡ false → o ≡ None
 no_some None is = refl
 no_some (Some x) is = absurd cc
 
-fits_by : (new_id own : ℤ) (b : Bool) → int_eq new_id (pos 0) ≡ b → FitsSigned w32 new_id → FitsSigned w32 own → FitsSigned w32 (cond b own new_id)
+fits_by : (new_id own : ℤ) (b : Bool) → int_eq new_id (pos 0) ≡ b → FitsSigned w32 new_id → FitsSigned w32 own
+    → FitsSigned w32 (cond b own new_id)
 fits_by new_id own true is new old = old
 fits_by new_id own false is new old = new
 
-id_by : (r : Registry) (e : PrEntry) (name : List ℕ) (owner new_id : ℤ) (b : Bool) → r.entry e.id ≡ Some e → Passes r e name owner new_id → FitsSigned w32 new_id
+id_by : (r : Registry) (e : PrEntry) (name : List ℕ) (owner new_id : ℤ) (b : Bool) → r.entry e.id ≡ Some e → Passes r e name owner new_id
+    → FitsSigned w32 new_id
     → FitsSigned w32 e.id → int_eq (given_or new_id e.id) e.id ≡ b
     → (given_or new_id e.id ≡ e.id) ⊎ MayRenumber e.id (given_or new_id e.id) r
 id_by r e name owner new_id true at p new old same = inl (id_of (given_or new_id e.id) e.id same)
@@ -181,7 +196,8 @@ id_by r e name owner new_id false at p new old same =
       new_id = no_some (r.entry id) (and_no (int_eq id e.id) (is_some (r.entry id)) p.free same);
     })
 
-pub may_turn : (r : Registry) (e : PrEntry) (name : List ℕ) (owner new_id : ℤ) → IsRegistry r → r.entry e.id ≡ Some e → turn_fault r e name owner new_id ≡ None
+pub may_turn : (r : Registry) (e : PrEntry) (name : List ℕ) (owner new_id : ℤ) → IsRegistry r → r.entry e.id ≡ Some e
+    → turn_fault r e name owner new_id ≡ None
     → FitsSigned w32 new_id → FitsSigned w32 e.id → MayTurn e (new_name r e name owner) (given_or owner e.owner) (given_or new_id e.id) r
 may_turn r e name owner new_id valid at none new old =
     let p = all_pass r e name owner new_id none in (
@@ -198,13 +214,15 @@ may_turn r e name owner new_id valid at none new old =
 
 -- ---- how it ends
 
-done_refused : (v : Verdict) (s : State) (image : List ℕ) (after : Option (List ℕ)) (rule : ℕ) (ended : CallEnd) → ended ≡ end_of (reply_by (Refuses rule))
+done_refused : (v : Verdict) (s : State) (image : List ℕ) (after : Option (List ℕ)) (rule : ℕ) (ended : CallEnd)
+    → ended ≡ end_of (reply_by (Refuses rule))
     → after ≡ Some image → v ≡ Refuses rule → IsDone v s image ended after
 done_refused v s image after rule ended told same is =
     let done : IsDone (Refuses rule) s image ended after = record { reply = told; leaves = same } in
     subst (λ (w : Verdict). IsDone w s image ended after) (sym is) done
 
-refused_so : (bytes after : Option (List ℕ)) (v : State → Verdict) (rule : ℕ) (ended : CallEnd) → ended ≡ end_of (reply_by (Refuses rule)) → after ≡ bytes
+refused_so : (bytes after : Option (List ℕ)) (v : State → Verdict) (rule : ℕ) (ended : CallEnd)
+    → ended ≡ end_of (reply_by (Refuses rule)) → after ≡ bytes
     → OfStates bytes (λ s. v s ≡ Refuses rule) → IsMeantOf bytes v ended after
 refused_so None after v rule ended told same is = tt
 refused_so (Some image) after v rule ended told same is = λ s holds. done_refused (v s) s image after rule ended told same (is s holds)
@@ -218,9 +236,11 @@ no_entry_by o goes is = ap (λ (x : Option PrEntry). of_entry x goes) (sym is)
 none_by : (bytes : Option (List ℕ)) (low : List ℕ) (id owner new_id : ℤ) → OfStates bytes (λ s. None ≡ s.registry.entry id)
     → OfStates bytes (λ s. turn_verdict low id owner new_id s ≡ Refuses 267268)
 none_by None low id owner new_id none = tt
-none_by (Some image) low id owner new_id none = λ s holds. no_entry_by (s.registry.entry id) (turns s.registry low owner new_id) (none s holds)
+none_by (Some image) low id owner new_id none =
+    λ s holds. no_entry_by (s.registry.entry id) (turns s.registry low owner new_id) (none s holds)
 
-pub turn_unknown : (bytes after : Option (List ℕ)) (low : List ℕ) (id owner new_id : ℤ) (ended : CallEnd) → OfStates bytes (λ s. None ≡ s.registry.entry id)
+pub turn_unknown : (bytes after : Option (List ℕ)) (low : List ℕ) (id owner new_id : ℤ) (ended : CallEnd)
+    → OfStates bytes (λ s. None ≡ s.registry.entry id)
     → ended ≡ end_of (reply_by (Refuses 267268)) → after ≡ bytes → IsMeantOf bytes (turn_verdict low id owner new_id) ended after
 turn_unknown bytes after low id owner new_id ended none told same =
     refused_so bytes after (turn_verdict low id owner new_id) 267268 ended told same (none_by bytes low id owner new_id none)
@@ -230,7 +250,8 @@ abbrev pub Found : Option (List ℕ) → (id : ℤ) → PrEntry → Type 0
 Found bytes id e = OfStates bytes (λ s. Some e ≡ s.registry.entry id)
 
 abbrev pub Decides : Option (List ℕ) → PrEntry → (low : List ℕ) → (owner new_id : ℤ) → Result Turn ℕ → Type 0
-Decides bytes e low owner new_id decided = OfStates bytes (λ s. s.registry.entry e.id ≡ Some e → IsDecided s.registry e low owner new_id decided)
+Decides bytes e low owner new_id decided =
+    OfStates bytes (λ s. s.registry.entry e.id ≡ Some e → IsDecided s.registry e low owner new_id decided)
 
 own_at : (r : Registry) (id : ℤ) (e : PrEntry) → IsRegistry r → Some e ≡ r.entry id → r.entry e.id ≡ Some e
 own_at r id e valid at = ap r.entry (valid.ids id e (sym at)) ∙ sym at
@@ -242,7 +263,8 @@ refuses_by : (r : Registry) (e : PrEntry) (low : List ℕ) (owner new_id : ℤ) 
     → turns r low owner new_id e ≡ unless fault (Makes answer.Done (turn_by r low owner new_id e))
 refuses_by r e low owner new_id fault is = ap (λ (f : Option ℕ). unless f (Makes answer.Done (turn_by r low owner new_id e))) is
 
-rule_by : (bytes : Option (List ℕ)) (low : List ℕ) (id owner new_id : ℤ) (e : PrEntry) (rule : ℕ) → Found bytes id e → Decides bytes e low owner new_id (Err rule)
+rule_by : (bytes : Option (List ℕ)) (low : List ℕ) (id owner new_id : ℤ) (e : PrEntry) (rule : ℕ) → Found bytes id e
+    → Decides bytes e low owner new_id (Err rule)
     → OfStates bytes (λ s. turn_verdict low id owner new_id s ≡ Refuses rule)
 rule_by None low id owner new_id e rule found decides = tt
 rule_by (Some image) low id owner new_id e rule found decides = λ s holds.
@@ -250,7 +272,8 @@ rule_by (Some image) low id owner new_id e rule found decides = λ s holds.
     entry_by (r.entry id) e (turns r low owner new_id) (found s holds)
     ∙ refuses_by r e low owner new_id (Some rule) (decides s holds (own_at r id e holds.holds.valid (found s holds)))
 
-pub turn_refused : (bytes look after : Option (List ℕ)) (low : List ℕ) (id owner new_id : ℤ) (e : PrEntry) (rule : ℕ) (ended : CallEnd) → Found bytes id e → look ≡ bytes
+pub turn_refused : (bytes look after : Option (List ℕ)) (low : List ℕ) (id owner new_id : ℤ) (e : PrEntry) (rule : ℕ) (ended : CallEnd)
+    → Found bytes id e → look ≡ bytes
     → Decides look e low owner new_id (Err rule) → ended ≡ end_of (reply_by (Refuses rule)) → after ≡ bytes
     → IsMeantOf bytes (turn_verdict low id owner new_id) ended after
 turn_refused bytes look after low id owner new_id e rule ended found seen decides told same =
@@ -264,7 +287,8 @@ Turned bytes after e t =
     Leaves bytes (λ s. MayTurn e t.name.items t.owner t.id s.registry) (after_turn e t.name.items t.owner t.id) after
 
 -- what was decided may be made, and is what is meant
-may_decided : (r : Registry) (e : PrEntry) (low : List ℕ) (owner new_id : ℤ) (t : Turn) → IsRegistry r → r.entry e.id ≡ Some e → IsDecided r e low owner new_id (Ok t)
+may_decided : (r : Registry) (e : PrEntry) (low : List ℕ) (owner new_id : ℤ) (t : Turn) → IsRegistry r → r.entry e.id ≡ Some e
+    → IsDecided r e low owner new_id (Ok t)
     → FitsSigned w32 new_id → FitsSigned w32 e.id → MayTurn e t.name.items t.owner t.id r
 may_decided r e low owner new_id t valid at decided new old =
     let may = may_turn r e low owner new_id valid at decided.0 new old in
@@ -278,40 +302,53 @@ makes_by : (r : Registry) (e : PrEntry) (low : List ℕ) (owner new_id u g : ℤ
 makes_by r e low owner new_id u g p t decided max raises =
     let user : r.max_user ≡ u = sym (ap (λ (q : ℤ × ℤ). q.0) max) in
     let group : r.max_group ≡ g = sym (ap (λ (q : ℤ × ℤ). q.1) max) in
-    let pair : raised r.max_user r.max_group new_id ≡ p = ap (λ (z : ℤ). raised z r.max_group new_id) user ∙ ap (λ (z : ℤ). raised u z new_id) group ∙ sym raises in
+    let pair : raised r.max_user r.max_group new_id ≡ p = ap (λ (z : ℤ). raised z r.max_group new_id) user
+    ∙ ap (λ (z : ℤ). raised u z new_id) group ∙ sym raises in
     refuses_by r e low owner new_id None decided.0
     ∙ ap (λ (q : ℤ × ℤ). Makes answer.Done (Turns e (new_name r e low owner) (given_or owner e.owner) (given_or new_id e.id) q.0 q.1)) pair
     ∙ ap (λ (n : List ℕ). Makes answer.Done (Turns e n (given_or owner e.owner) (given_or new_id e.id) p.0 p.1)) (sym decided.1)
     ∙ ap (λ (o : ℤ). Makes answer.Done (Turns e t.name.items o (given_or new_id e.id) p.0 p.1)) (sym decided.2)
     ∙ ap (λ (i : ℤ). Makes answer.Done (Turns e t.name.items t.owner i p.0 p.1)) (sym decided.3)
 
-done_made : (v : Verdict) (s : State) (image : List ℕ) (after : Option (List ℕ)) (e : PrEntry) (name : List ℕ) (owner id u g : ℤ) (ended : CallEnd)
+done_made : (v : Verdict) (s : State) (image : List ℕ) (after : Option (List ℕ)) (e : PrEntry) (name : List ℕ) (owner id u g : ℤ)
+    (ended : CallEnd)
     → ended ≡ end_of (reply_by (Answers answer.Done)) → after ≡ Some (after_set_maxima u g (after_turn e name owner id s image))
     → v ≡ Makes answer.Done (Turns e name owner id u g) → IsDone v s image ended after
 done_made v s image after e name owner id u g ended told leaves is =
     let done : IsDone (Makes answer.Done (Turns e name owner id u g)) s image ended after = record { reply = told; leaves = leaves } in
     subst (λ (w : Verdict). IsDone w s image ended after) (sym is) done
 
-pub turn_made : (bytes b1 bm b2 b3 after : Option (List ℕ)) (low : List ℕ) (id owner new_id : ℤ) (e : PrEntry) (t : Turn) (u g : ℤ) (p : ℤ × ℤ) (ended : CallEnd)
+pub turn_made : (bytes b1 bm b2 b3 after : Option (List ℕ)) (low : List ℕ) (id owner new_id : ℤ) (e : PrEntry) (t : Turn) (u g : ℤ)
+    (p : ℤ × ℤ) (ended : CallEnd)
     → Found bytes id e → b1 ≡ bytes → Decides b1 e low owner new_id (Ok t) → FitsSigned w32 new_id → FitsSigned w32 e.id
-    → bm ≡ bytes → IfSome bm (λ image. (r : Registry) → Holds image r → ◌≡◌ {A = ℤ × ℤ} (u, g) (r.max_user, r.max_group)) → ◌≡◌ {A = ℤ × ℤ} p (raised u g new_id)
+    → bm ≡ bytes → IfSome bm (λ image. (r : Registry) → Holds image r → ◌≡◌ {A = ℤ × ℤ} (u, g) (r.max_user, r.max_group))
+    → ◌≡◌ {A = ℤ × ℤ} p (raised u g new_id)
     → b2 ≡ bytes → Turned b2 b3 e t → after ≡ option_map (after_set_maxima p.0 p.1) b3 → ended ≡ end_of (reply_by (Answers answer.Done))
     → IsMeantOf bytes (turn_verdict low id owner new_id) ended after
-turn_made None b1 bm b2 b3 after low id owner new_id e t u g p ended found same1 decides new old same_m max raises same2 turned made told = tt
-turn_made (Some image) b1 bm b2 b3 after low id owner new_id e t u g p ended found same1 decides new old same_m max raises same2 turned made told = λ s holds.
+turn_made None b1 bm b2 b3 after low id owner new_id e t u g p ended found same1 decides new old same_m max raises same2 turned made told =
+    tt
+turn_made (Some image) b1 bm b2 b3 after low id owner new_id e t u g p ended found same1 decides new old same_m max raises same2 turned
+    made told =
+    λ s holds.
     let r = s.registry in
     let own = own_at r id e holds.holds.valid (found s holds) in
-    let decided = at_some b1 image (λ i. (s : State) → HoldsState i s → s.registry.entry e.id ≡ Some e → IsDecided s.registry e low owner new_id (Ok t)) same1 decides s holds own in
-    let maxima = at_some bm image (λ i. (r : Registry) → Holds i r → ◌≡◌ {A = ℤ × ℤ} (u, g) (r.max_user, r.max_group)) same_m max r holds.holds in
+    let decided = at_some b1 image
+    (λ i. (s : State) → HoldsState i s → s.registry.entry e.id ≡ Some e
+    → IsDecided s.registry e low owner new_id (Ok t)) same1 decides s holds own in
+    let maxima = at_some bm image
+    (λ i. (r : Registry) → Holds i r → ◌≡◌ {A = ℤ × ℤ} (u, g) (r.max_user, r.max_group)) same_m max r holds.holds in
     let at = at_some b2 image
-    (λ i. (s : State) → HoldsState i s → MayTurn e t.name.items t.owner t.id s.registry → b3 ≡ Some (after_turn e t.name.items t.owner t.id s i)) same2 turned s holds
+    (λ i. (s : State) → HoldsState i s → MayTurn e t.name.items t.owner t.id s.registry
+    → b3 ≡ Some (after_turn e t.name.items t.owner t.id s i)) same2 turned s holds
     (may_decided r e low owner new_id t holds.holds.valid own decided new old) in
-    done_made (turn_verdict low id owner new_id s) s image after e t.name.items t.owner t.id p.0 p.1 ended told (made ∙ ap (option_map (after_set_maxima p.0 p.1)) at)
+    done_made (turn_verdict low id owner new_id s) s image after e t.name.items t.owner t.id p.0 p.1 ended told
+    (made ∙ ap (option_map (after_set_maxima p.0 p.1)) at)
     (entry_by (r.entry id) e (turns r low owner new_id) (found s holds) ∙ makes_by r e low owner new_id u g p t decided maxima raises)
 
 -- ---- faults
 
-pub turn_fault_cause : (bytes b1 b2 : Option (List ℕ)) (low : List ℕ) (id owner new_id : ℤ) (e : PrEntry) (t : Turn) (fault : RecordFault) → Found bytes id e → b1 ≡ bytes
+pub turn_fault_cause : (bytes b1 b2 : Option (List ℕ)) (low : List ℕ) (id owner new_id : ℤ) (e : PrEntry) (t : Turn)
+    (fault : RecordFault) → Found bytes id e → b1 ≡ bytes
     → Decides b1 e low owner new_id (Ok t) → FitsSigned w32 new_id → FitsSigned w32 e.id → b2 ≡ bytes
     → HasChangeCause b2 (λ s. MayTurn e t.name.items t.owner t.id s.registry) fault → HasItsCause bytes fault
 turn_fault_cause bytes b1 b2 low id owner new_id e t DiskFault found same1 decides new old same2 cause = tt
@@ -319,23 +356,31 @@ turn_fault_cause None b1 b2 low id owner new_id e t (BadRecord at) found same1 d
 turn_fault_cause (Some image) b1 b2 low id owner new_id e t (BadRecord at) found same1 decides new old same2 cause = λ some.
     let s : State = record { registry = some.0; is_in = some.1.has } in
     let own = own_at s.registry id e some.2.holds.valid (found s some.2) in
-    let decided = at_some b1 image (λ i. (s : State) → HoldsState i s → s.registry.entry e.id ≡ Some e → IsDecided s.registry e low owner new_id (Ok t)) same1 decides s some.2 own in
+    let decided = at_some b1 image
+    (λ i. (s : State) → HoldsState i s → s.registry.entry e.id ≡ Some e
+    → IsDecided s.registry e low owner new_id (Ok t)) same1 decides s some.2 own in
     at_some b2 image (λ i. ((s : State) × HoldsState i s × MayTurn e t.name.items t.owner t.id s.registry) → ⊥) same2 cause
     (s, some.2, may_decided s.registry e low owner new_id t some.2.holds.valid own decided new old)
 turn_fault_cause bytes b1 b2 low id owner new_id e t NoMemory found same1 decides new old same2 cause = tt
 
-pub maxima_cause : GivesKeep → MoveKeeps → (bytes b1 b2 b3 : Option (List ℕ)) (low : List ℕ) (id owner new_id : ℤ) (e : PrEntry) (t : Turn) (fault : RecordFault)
-    → Found bytes id e → b1 ≡ bytes → Decides b1 e low owner new_id (Ok t) → FitsSigned w32 new_id → FitsSigned w32 e.id → b2 ≡ bytes → Turned b2 b3 e t
+pub maxima_cause : GivesKeep → MoveKeeps
+    → (bytes b1 b2 b3 : Option (List ℕ)) (low : List ℕ) (id owner new_id : ℤ) (e : PrEntry) (t : Turn) (fault : RecordFault)
+    → Found bytes id e → b1 ≡ bytes → Decides b1 e low owner new_id (Ok t) → FitsSigned w32 new_id → FitsSigned w32 e.id → b2 ≡ bytes
+    → Turned b2 b3 e t
     → HasCause b3 Holds fault → HasItsCause bytes fault
 maxima_cause keep moves bytes b1 b2 b3 low id owner new_id e t DiskFault found same1 decides new old same2 turned cause = tt
 maxima_cause keep moves None b1 b2 b3 low id owner new_id e t (BadRecord at) found same1 decides new old same2 turned cause = tt
-maxima_cause keep moves (Some image) b1 b2 b3 low id owner new_id e t (BadRecord at) found same1 decides new old same2 turned cause = λ some.
+maxima_cause keep moves (Some image) b1 b2 b3 low id owner new_id e t (BadRecord at) found same1 decides new old same2 turned cause =
+    λ some.
     let s : State = record { registry = some.0; is_in = some.1.has } in
     let own = own_at s.registry id e some.2.holds.valid (found s some.2) in
-    let decided = at_some b1 image (λ i. (s : State) → HoldsState i s → s.registry.entry e.id ≡ Some e → IsDecided s.registry e low owner new_id (Ok t)) same1 decides s some.2 own in
+    let decided = at_some b1 image
+    (λ i. (s : State) → HoldsState i s → s.registry.entry e.id ≡ Some e
+    → IsDecided s.registry e low owner new_id (Ok t)) same1 decides s some.2 own in
     let may = may_decided s.registry e low owner new_id t some.2.holds.valid own decided new old in
     let left = at_some b2 image
-    (λ i. (s : State) → HoldsState i s → MayTurn e t.name.items t.owner t.id s.registry → b3 ≡ Some (after_turn e t.name.items t.owner t.id s i)) same2 turned s some.2 may in
+    (λ i. (s : State) → HoldsState i s → MayTurn e t.name.items t.owner t.id s.registry
+    → b3 ≡ Some (after_turn e t.name.items t.owner t.id s i)) same2 turned s some.2 may in
     let held = turn_keeps keep moves image s e t.name.items t.owner t.id some.2 may in
     at_some b3 (after_turn e t.name.items t.owner t.id s image) (λ i. (r : Registry) → Holds i r → ⊥) left cause
     (with_turned e t.name.items t.owner t.id s).registry held.holds
@@ -358,13 +403,15 @@ raised_none u g z are zero =
     let stays = low_stays u g (pos 0) (int_lt u (pos 0)) are refl refl in
     subst (λ (x : ℤ). AreMaxima (raised u g x).0 (raised u g x).1) (sym zero) (subst (λ (x : ℤ). AreMaxima x g) (sym stays) are)
 
-raised_by : (u g new own : ℤ) (b : Bool) → AreMaxima u g → FitsSigned w32 new → int_eq new (pos 0) ≡ b → is_id (is_group own) (cond b own new) ≡ true
+raised_by : (u g new own : ℤ) (b : Bool) → AreMaxima u g → FitsSigned w32 new → int_eq new (pos 0) ≡ b
+    → is_id (is_group own) (cond b own new) ≡ true
     → AreMaxima (raised u g new).0 (raised u g new).1
 raised_by u g new own true are fits zero is = raised_none u g new are (id_of new (pos 0) zero)
 raised_by u g new own false are fits zero is =
     raised_are u g new are fits (subst (λ (k : Bool). is_id k new ≡ true) (sym (kind_is (is_group own) new is)) is)
 
-pub raised_good : (u g new own : ℤ) (p : ℤ × ℤ) → AreMaxima u g → FitsSigned w32 new → is_id (is_group own) (given_or new own) ≡ true → ◌≡◌ {A = ℤ × ℤ} p (raised u g new)
+pub raised_good : (u g new own : ℤ) (p : ℤ × ℤ) → AreMaxima u g → FitsSigned w32 new → is_id (is_group own) (given_or new own) ≡ true
+    → ◌≡◌ {A = ℤ × ℤ} p (raised u g new)
     → AreMaxima p.0 p.1
 raised_good u g new own p are fits is same =
     subst (λ (q : ℤ × ℤ). AreMaxima q.0 q.1) (sym same) (raised_by u g new own (int_eq new (pos 0)) are fits refl is)

@@ -42,7 +42,8 @@ of_not false is = refl
 
 not_turned : (a b : ℤ) → not (int_eq a b) ≡ true → not (int_eq b a) ≡ true
 not_turned a b is =
-    of_not (int_eq b a) (false_from_ne_true (int_eq b a) (λ same. clash (int_eq a b) ((Decides-int_eq a b).1 (sym (same_of b a same))) (not_of (int_eq a b) is)))
+    of_not (int_eq b a) (false_from_ne_true (int_eq b a)
+    (λ same. clash (int_eq a b) ((Decides-int_eq a b).1 (sym (same_of b a same))) (not_of (int_eq a b) is)))
 
 or_one : (a b : Bool) → a ≡ true → (a || b) ≡ true
 or_one true b is = refl
@@ -87,10 +88,12 @@ share_parts e new id name g is =
 
 share_from : (e : PrEntry) (new : List ℕ) (id : ℤ) (name : List ℕ) (g : PrEntry) → not (int_eq id g.id) ≡ true → name ≡ name_after e new g
     → shares e new id name g ≡ true
-share_from e new id name g other same = and_from (not (int_eq id g.id)) (bytes_eq name (name_after e new g)) other (to_text name (name_after e new g) same)
+share_from e new id name g other same =
+    and_from (not (int_eq id g.id)) (bytes_eq name (name_after e new g)) other (to_text name (name_after e new g) same)
 
 -- the other way round
-turned : (e : PrEntry) (new : List ℕ) (f g : PrEntry) → shares e new f.id (name_after e new f) g ≡ true → shares e new g.id (name_after e new g) f ≡ true
+turned : (e : PrEntry) (new : List ℕ) (f g : PrEntry) → shares e new f.id (name_after e new f) g ≡ true
+    → shares e new g.id (name_after e new g) f ≡ true
 turned e new f g is =
     let parts = share_parts e new f.id (name_after e new f) g is in
     share_from e new g.id (name_after e new g) f (not_turned f.id g.id parts.0) (sym parts.1)
@@ -101,7 +104,8 @@ shared_by r e new id name g valid at is = any_some r (shares e new id name) g va
 
 -- ---- from those that turn to all
 
-own_equal : (r : Registry) (e : PrEntry) (new : List ℕ) → IsRegistry r → r.entry e.id ≡ Some e → is_shared r e new e.id new ≡ true → has_equal_names r e new ≡ true
+own_equal : (r : Registry) (e : PrEntry) (new : List ℕ) → IsRegistry r → r.entry e.id ≡ Some e → is_shared r e new e.id new ≡ true
+    → has_equal_names r e new ≡ true
 own_equal r e new valid at is =
     any_some r (λ f. is_shared r e new f.id (name_after e new f)) e valid at (ap (is_shared r e new e.id) (after_own e new) ∙ is)
 
@@ -110,7 +114,8 @@ one_at : (r : Registry) (e : PrEntry) (new : List ℕ) (o : Option PrEntry) → 
 one_at r e new None is = absurd cc
 one_at r e new (Some f) is = (f, refl, is)
 
-under_equal : (r : Registry) (e : PrEntry) (new : List ℕ) → IsRegistry r → list_any (λ id. shares_one r e new (r.entry id)) (under r e.name) ≡ true
+under_equal : (r : Registry) (e : PrEntry) (new : List ℕ) → IsRegistry r
+    → list_any (λ id. shares_one r e new (r.entry id)) (under r e.name) ≡ true
     → has_equal_names r e new ≡ true
 unfolding under
 under_equal r e new valid is =
@@ -134,14 +139,17 @@ own_share r e new f at f_at same is =
     ap (is_shared r e new e.id) (sym (after_own e new)) ∙ subst (λ (x : PrEntry). is_shared r e new x.id (name_after e new x) ≡ true) one is
 
 -- an entry whose name turns and shares it
-one_turns : (r : Registry) (e : PrEntry) (new : List ℕ) (f : PrEntry) (own front : Bool) → IsRegistry r → r.entry e.id ≡ Some e → r.entry f.id ≡ Some f
-    → int_eq f.id e.id ≡ own → goes_under e f ≡ front → is_shared r e new f.id (name_after e new f) ≡ true → (own ≡ false → front ≡ false → changed_share r e new ≡ true)
+one_turns : (r : Registry) (e : PrEntry) (new : List ℕ) (f : PrEntry) (own front : Bool) → IsRegistry r → r.entry e.id ≡ Some e
+    → r.entry f.id ≡ Some f
+    → int_eq f.id e.id ≡ own → goes_under e f ≡ front → is_shared r e new f.id (name_after e new f) ≡ true
+    → (own ≡ false → front ≡ false → changed_share r e new ≡ true)
     → changed_share r e new ≡ true
 one_turns r e new f true front valid at f_at same is_front is other =
     or_one (is_shared r e new e.id new) (list_any (λ id. shares_one r e new (r.entry id)) (under r e.name))
     (own_share r e new f at f_at (same_of f.id e.id same) is)
 one_turns r e new f false true valid at f_at same is_front is other =
-    or_two (is_shared r e new e.id new) (list_any (λ id. shares_one r e new (r.entry id)) (under r e.name)) (under_share r e new f valid f_at is_front is)
+    or_two (is_shared r e new e.id new) (list_any (λ id. shares_one r e new (r.entry id)) (under r e.name))
+    (under_share r e new f valid f_at is_front is)
 one_turns r e new f false false valid at f_at same is_front is other = other refl refl
 
 -- two of which neither turns have two names
@@ -150,11 +158,13 @@ neither : (r : Registry) (e : PrEntry) (new : List ℕ) (f g : PrEntry) → IsRe
 neither r e new f g valid f_at g_at other same =
     clash (int_eq f.id g.id) ((Decides-int_eq f.id g.id).1 (valid.names f.id g.id f g f_at g_at same)) (not_of (int_eq f.id g.id) other)
 
-two_turn : (r : Registry) (e : PrEntry) (new : List ℕ) (f g : PrEntry) → IsRegistry r → r.entry e.id ≡ Some e → r.entry f.id ≡ Some f → r.entry g.id ≡ Some g
+two_turn : (r : Registry) (e : PrEntry) (new : List ℕ) (f g : PrEntry) → IsRegistry r → r.entry e.id ≡ Some e → r.entry f.id ≡ Some f
+    → r.entry g.id ≡ Some g
     → shares e new f.id (name_after e new f) g ≡ true → changed_share r e new ≡ true
 two_turn r e new f g valid at f_at g_at is =
     let parts = share_parts e new f.id (name_after e new f) g is in
-    one_turns r e new f (int_eq f.id e.id) (goes_under e f) valid at f_at refl refl (shared_by r e new f.id (name_after e new f) g valid g_at is)
+    one_turns r e new f (int_eq f.id e.id) (goes_under e f) valid at f_at refl refl
+    (shared_by r e new f.id (name_after e new f) g valid g_at is)
     (λ f_other f_front.
     one_turns r e new g (int_eq g.id e.id) (goes_under e g) valid at g_at refl refl
     (shared_by r e new g.id (name_after e new g) f valid f_at (turned e new f g is))
@@ -162,7 +172,8 @@ two_turn r e new f g valid at f_at g_at is =
     absurd (neither r e new f g valid f_at g_at parts.0
     (sym (after_by e new f false false f_other f_front) ∙ parts.1 ∙ after_by e new g false false g_other g_front))))
 
-pub changed_tell : (r : Registry) (e : PrEntry) (new : List ℕ) → IsRegistry r → r.entry e.id ≡ Some e → changed_share r e new ≡ has_equal_names r e new
+pub changed_tell : (r : Registry) (e : PrEntry) (new : List ℕ) → IsRegistry r → r.entry e.id ≡ Some e
+    → changed_share r e new ≡ has_equal_names r e new
 changed_tell r e new valid at =
     both_ways (changed_share r e new) (has_equal_names r e new)
     (λ is. elim (or_cases (is_shared r e new e.id new) (list_any (λ id. shares_one r e new (r.entry id)) (under r e.name)) is) [
@@ -183,7 +194,8 @@ front_same e f is =
     let same : front_of e.name ≡ front_of f.name = ap front_of (sym old) ∙ front_all (front_of f.name) (front_free f.name) in
     ap (λ (front : List ℕ). with_front front f.name) same ∙ sym (parts_of f.name parts.0)
 
-stays_by : (r : Registry) (e f : PrEntry) (own front : Bool) → r.entry e.id ≡ Some e → r.entry f.id ≡ Some f → int_eq f.id e.id ≡ own → goes_under e f ≡ front
+stays_by : (r : Registry) (e f : PrEntry) (own front : Bool) → r.entry e.id ≡ Some e → r.entry f.id ≡ Some f → int_eq f.id e.id ≡ own
+    → goes_under e f ≡ front
     → name_after e e.name f ≡ f.name
 stays_by r e f true front at f_at same is =
     after_by e e.name f true front same is
@@ -194,7 +206,8 @@ stays_by r e f false false at f_at same is = after_by e e.name f false false sam
 name_stays : (r : Registry) (e f : PrEntry) → r.entry e.id ≡ Some e → r.entry f.id ≡ Some f → name_after e e.name f ≡ f.name
 name_stays r e f at f_at = stays_by r e f (int_eq f.id e.id) (goes_under e f) at f_at refl refl
 
-pub none_equal : (r : Registry) (e : PrEntry) (new : List ℕ) → IsRegistry r → r.entry e.id ≡ Some e → new ≡ e.name → has_equal_names r e new ≡ false
+pub none_equal : (r : Registry) (e : PrEntry) (new : List ℕ) → IsRegistry r → r.entry e.id ≡ Some e → new ≡ e.name
+    → has_equal_names r e new ≡ false
 none_equal r e new valid at same =
     false_from_ne_true (has_equal_names r e new) (λ is.
     let f = any_which r (λ f. is_shared r e new f.id (name_after e new f)) is in

@@ -52,10 +52,21 @@ pub record IsOneUnder (r now : Registry) (whole front : List ℕ) (id : ℤ) : T
 again : (front : List ℕ) (f : PrEntry) → list_any is_colon front ≡ false → fronted front (fronted front f) ≡ fronted front f
 again front f none = ap (λ (n : List ℕ). record f { name = n }) (front_twice front front f.name none)
 
-one_now : (r now : Registry) (whole front : List ℕ) (id : ℤ) (f : PrEntry) → IsRegistry r → list_any is_colon front ≡ false → r.entry id ≡ Some f → is_under whole f.name ≡ true
+one_now : (r now : Registry) (whole front : List ℕ) (id : ℤ) (f : PrEntry) → IsRegistry r → list_any is_colon front ≡ false
+    → r.entry id ≡ Some f → is_under whole f.name ≡ true
     → (now.entry id ≡ r.entry id) ⊎ IsFronted r whole front id (now.entry id) → IsOneUnder r now whole front id
 one_now r now whole front id f valid none at is (inl same) =
-    record { old = f; entry = f; old_at = at; is = is; now_at = same ∙ at; turns = refl; id_is = valid.ids id f at; own_id = valid.ids id f at }
+    record {
+      old = f;
+      entry = f;
+      old_at = at;
+      is = is;
+      now_at = same
+          ∙ at;
+      turns = refl;
+      id_is = valid.ids id f at;
+      own_id = valid.ids id f at;
+    }
 one_now r now whole front id f valid none at is (inr has) =
     let one : has.entry ≡ f = some_same (sym has.there ∙ at) in
     record {
@@ -69,11 +80,13 @@ one_now r now whole front id f valid none at is (inr has) =
       own_id = valid.ids id f at;
     }
 
-under_at : (whole : List ℕ) (o : Option PrEntry) → is_one_under whole o ≡ true → (f : PrEntry) × (o ≡ Some f) × (is_under whole f.name ≡ true)
+under_at : (whole : List ℕ) (o : Option PrEntry) → is_one_under whole o ≡ true → (f : PrEntry) × (o ≡ Some f)
+    × (is_under whole f.name ≡ true)
 under_at whole None is = absurd cc
 under_at whole (Some f) is = (f, refl, is)
 
-pub one_under : (r now : Registry) (whole front : List ℕ) (id : ℤ) → IsRegistry r → list_any is_colon front ≡ false → IsPartly r whole front now
+pub one_under : (r now : Registry) (whole front : List ℕ) (id : ℤ) → IsRegistry r → list_any is_colon front ≡ false
+    → IsPartly r whole front now
     → is_one_under whole (r.entry id) ≡ true → IsOneUnder r now whole front id
 one_under r now whole front id valid none partly is =
     let f = under_at whole (r.entry id) is in
@@ -81,11 +94,14 @@ one_under r now whole front id valid none partly is =
 
 -- ---- the next one has it
 
-with_at : (front : List ℕ) (now : Registry) (o : Option PrEntry) (f : PrEntry) → o ≡ Some f → with_fronted front o now ≡ with_entry (fronted front f) now
+with_at : (front : List ℕ) (now : Registry) (o : Option PrEntry) (f : PrEntry) → o ≡ Some f
+    → with_fronted front o now ≡ with_entry (fronted front f) now
 with_at front now o f is = ap (λ (x : Option PrEntry). with_fronted front x now) is
 
-next_each : (r now : Registry) (whole front : List ℕ) (id : ℤ) (one : IsOneUnder r now whole front id) → IsPartly r whole front now → (z : ℤ)
-    → ((with_entry (fronted front one.entry) now).entry z ≡ r.entry z) ⊎ IsFronted r whole front z ((with_entry (fronted front one.entry) now).entry z)
+next_each : (r now : Registry) (whole front : List ℕ) (id : ℤ) (one : IsOneUnder r now whole front id) → IsPartly r whole front now
+    → (z : ℤ)
+    → ((with_entry (fronted front one.entry) now).entry z ≡ r.entry z)
+    ⊎ IsFronted r whole front z ((with_entry (fronted front one.entry) now).entry z)
 next_each r now whole front id one partly z =
     by_id z one.entry.id
     (λ same.
@@ -108,24 +124,32 @@ partly_next r now whole front id one partly =
 -- ---- it may have it
 
 -- a name with the new front is no other one's
-front_other : (r : Registry) (e : PrEntry) (name : List ℕ) (owner : ℤ) (f g : PrEntry) → IsTurning r e name owner → r.entry f.id ≡ Some f → r.entry g.id ≡ Some g
-    → is_under e.name f.name ≡ true → (own front : Bool) → int_eq g.id e.id ≡ own → is_under e.name g.name ≡ front → g.name ≡ with_front (front_of name) f.name → g.id ≡ f.id
+front_other : (r : Registry) (e : PrEntry) (name : List ℕ) (owner : ℤ) (f g : PrEntry) → IsTurning r e name owner → r.entry f.id ≡ Some f
+    → r.entry g.id ≡ Some g
+    → is_under e.name f.name ≡ true → (own front : Bool) → int_eq g.id e.id ≡ own → is_under e.name g.name ≡ front
+    → g.name ≡ with_front (front_of name) f.name → g.id ≡ f.id
 front_other r e name owner f g t f_at g_at is true front own under same =
     -- it is the entry itself, whose name has no `:`
     let one : g ≡ e = some_same (sym g_at ∙ ap r.entry (id_of g.id e.id own) ∙ t.may.there) in
-    absurd (clash (has_colon g.name) (ap has_colon same ∙ colon_there (front_of name) (behind_colon f.name)) (ap (λ (x : PrEntry). has_colon x.name) one ∙ whole_free e.name f.name is))
+    absurd (clash (has_colon g.name) (ap has_colon same ∙ colon_there (front_of name) (behind_colon f.name))
+    (ap (λ (x : PrEntry). has_colon x.name) one ∙ whole_free e.name f.name is))
 front_other r e name owner f g t f_at g_at is false true own under same =
     -- it is named after the entry: the new front is the old one
     let f_parts = under_parts e.name f.name is in
     let g_parts = under_parts e.name g.name under in
-    let fronts : front_of name ≡ e.name = sym (front_again (front_of name) (behind_colon f.name) (front_free name)) ∙ ap front_of (sym same) ∙ g_parts.1 in
-    let stays : with_front (front_of name) f.name ≡ f.name = ap (λ (x : List ℕ). with_front x f.name) (fronts ∙ sym f_parts.1) ∙ sym (parts_of f.name f_parts.0) in
+    let fronts : front_of name ≡ e.name = sym (front_again (front_of name) (behind_colon f.name) (front_free name))
+    ∙ ap front_of (sym same) ∙ g_parts.1 in
+    let stays : with_front (front_of name) f.name ≡ f.name = ap (λ (x : List ℕ). with_front x f.name) (fronts ∙ sym f_parts.1)
+    ∙ sym (parts_of f.name f_parts.0) in
     t.valid.names g.id f.id g f g_at f_at (same ∙ stays)
 front_other r e name owner f g t f_at g_at is false false own under same =
-    sym (names_apart r e name owner f g t f_at g_at (after_under r e name owner f t f_at is ∙ sym same ∙ sym (after_other e name g own under)))
+    sym (names_apart r e name owner f g t f_at g_at
+    (after_under r e name owner f t f_at is ∙ sym same ∙ sym (after_other e name g own under)))
 
-now_other : (r now : Registry) (e : PrEntry) (name : List ℕ) (owner : ℤ) (f : PrEntry) (other : ℤ) (g : PrEntry) → IsTurning r e name owner → r.entry f.id ≡ Some f
-    → is_under e.name f.name ≡ true → now.entry other ≡ Some g → (now.entry other ≡ r.entry other) ⊎ IsFronted r e.name (front_of name) other (now.entry other)
+now_other : (r now : Registry) (e : PrEntry) (name : List ℕ) (owner : ℤ) (f : PrEntry) (other : ℤ) (g : PrEntry)
+    → IsTurning r e name owner → r.entry f.id ≡ Some f
+    → is_under e.name f.name ≡ true → now.entry other ≡ Some g → (now.entry other ≡ r.entry other)
+    ⊎ IsFronted r e.name (front_of name) other (now.entry other)
     → g.name ≡ with_front (front_of name) f.name → other ≡ f.id
 now_other r now e name owner f other g t f_at is at (inl stays) same =
     let was : r.entry other ≡ Some g = sym stays ∙ at in
@@ -136,7 +160,8 @@ now_other r now e name owner f other g t f_at is at (inr has) same =
     let h_at = own_at r other has.entry t.valid has.there in
     sym (t.valid.ids other has.entry has.there)
     ∙ sym (names_apart r e name owner f has.entry t f_at h_at
-    (after_under r e name owner f t f_at is ∙ sym same ∙ ap (λ (x : PrEntry). x.name) one ∙ sym (after_under r e name owner has.entry t h_at has.is)))
+    (after_under r e name owner f t f_at is ∙ sym same ∙ ap (λ (x : PrEntry). x.name) one
+    ∙ sym (after_under r e name owner has.entry t h_at has.is)))
 
 -- an owner that was there is there
 pub partly_some : (r now : Registry) (whole front : List ℕ) (z : ℤ) → IsPartly r whole front now → IsSome (r.entry z) → IsSome (now.entry z)
@@ -146,7 +171,8 @@ partly_some r now whole front z partly some =
       | inr has ↦ is_there (now.entry z) (fronted front has.entry) has.now_is
     ]
 
-pub owner_stays : (r now : Registry) (whole front : List ℕ) (f : PrEntry) (owner : ℤ) → IsPartly r whole front now → IsOwner r.entry owner → IsOwner (with_entry f now).entry owner
+pub owner_stays : (r now : Registry) (whole front : List ℕ) (f : PrEntry) (owner : ℤ) → IsPartly r whole front now
+    → IsOwner r.entry owner → IsOwner (with_entry f now).entry owner
 owner_stays r now whole front f owner partly (inl none) = inl none
 owner_stays r now whole front f owner partly (inr some) = inr (some_with now f owner (partly_some r now whole front owner partly some))
 
@@ -174,13 +200,15 @@ unfolding is_user_name is_group_name
 system_for (pos n) = refl
 system_for (negsuc n) = refl
 
-system_under : (whole name : List ℕ) (b : Bool) → has_colon name ≡ b → is_under whole name ≡ true → (not b || bytes_eq (front_of name) (codes "system")) ≡ true
+system_under : (whole name : List ℕ) (b : Bool) → has_colon name ≡ b → is_under whole name ≡ true
+    → (not b || bytes_eq (front_of name) (codes "system")) ≡ true
     → whole ≡ codes "system"
 system_under whole name true has is of = sym (under_parts whole name is).1 ∙ (bytes_eq-Decides (front_of name) (codes "system")).0 of
 system_under whole name false has is of = absurd (clash (has_colon name) (under_parts whole name is).0 has)
 
 -- no fixed entry is named after another one
-pub fixed_free : (r : Registry) (e : PrEntry) (name : List ℕ) (owner : ℤ) (f : PrEntry) → IsTurning r e name owner → r.entry f.id ≡ Some f → is_under e.name f.name ≡ true
+pub fixed_free : (r : Registry) (e : PrEntry) (name : List ℕ) (owner : ℤ) (f : PrEntry) → IsTurning r e name owner
+    → r.entry f.id ≡ Some f → is_under e.name f.name ≡ true
     → All (λ h. h.id ≡ f.id → with_front (front_of name) f.name ≡ h.name) fixed_entries
 fixed_free r e name owner f t f_at is = λ k d below same.
     let h = get_or fixed_entries k d in
@@ -191,7 +219,8 @@ fixed_free r e name owner f t f_at is = λ k d below same.
 
 -- ---- each may have it
 
-may_replace : (r now : Registry) (e : PrEntry) (name : List ℕ) (owner : ℤ) (f : PrEntry) → IsTurning r e name owner → IsPartly r e.name (front_of name) now
+may_replace : (r now : Registry) (e : PrEntry) (name : List ℕ) (owner : ℤ) (f : PrEntry) → IsTurning r e name owner
+    → IsPartly r e.name (front_of name) now
     → r.entry f.id ≡ Some f → is_under e.name f.name ≡ true → MayReplace f.id (fronted (front_of name) f) now
 may_replace r now e name owner f t partly f_at is = record {
   there = partly_some r now e.name (front_of name) f.id partly (is_there (r.entry f.id) f f_at);
@@ -207,11 +236,13 @@ may_replace r now e name owner f t partly f_at is = record {
 abbrev MayBe : Registry → PrEntry → Type 0
 MayBe now y = MayReplace y.id y now × IsTrue (is_name_for y.id y.name)
 
-pub may_front : (r now : Registry) (e : PrEntry) (name : List ℕ) (owner : ℤ) (id : ℤ) → IsTurning r e name owner → IsPartly r e.name (front_of name) now
+pub may_front : (r now : Registry) (e : PrEntry) (name : List ℕ) (owner : ℤ) (id : ℤ) → IsTurning r e name owner
+    → IsPartly r e.name (front_of name) now
     → (one : IsOneUnder r now e.name (front_of name) id) → MayFront (front_of name) now one.entry
 may_front r now e name owner id t partly one =
     let f_at : r.entry one.old.id ≡ Some one.old = ap r.entry one.id_is ∙ one.old_at in
-    subst (MayBe now) (sym one.turns) (may_replace r now e name owner one.old t partly f_at one.is, under_good r e name owner one.old t f_at one.is)
+    subst (MayBe now) (sym one.turns)
+    (may_replace r now e name owner one.old t partly f_at one.is, under_good r e name owner one.old t f_at one.is)
 
 abbrev pub AreUnder : Registry → (whole : List ℕ) → List ℤ → Type 0
 AreUnder r whole those = AllByRecursion (λ id. is_one_under whole (r.entry id) ≡ true) those
@@ -221,16 +252,20 @@ pub may_fronts : (r : Registry) (e : PrEntry) (name : List ℕ) (owner : ℤ) (t
 may_fronts r e name owner [] now t partly all = tt
 may_fronts r e name owner (id ∷ those) now t partly all =
     let one = one_under r now e.name (front_of name) id t.valid (front_free name) partly all.0 in (
-      subst (λ (o : Option PrEntry). IsSomeAnd o (MayFront (front_of name) now)) (sym one.now_at) (may_front r now e name owner id t partly one),
-      may_fronts r e name owner those (with_fronted (front_of name) (now.entry id) now) t (partly_next r now e.name (front_of name) id one partly) all.1,
+      subst (λ (o : Option PrEntry). IsSomeAnd o (MayFront (front_of name) now)) (sym one.now_at)
+          (may_front r now e name owner id t partly one),
+      may_fronts r e name owner those (with_fronted (front_of name) (now.entry id) now) t
+          (partly_next r now e.name (front_of name) id one partly) all.1,
     )
 
 pub partly_all : (r : Registry) (e : PrEntry) (name : List ℕ) (owner : ℤ) (those : List ℤ) (now : Registry) → IsTurning r e name owner
-    → IsPartly r e.name (front_of name) now → AreUnder r e.name those → IsPartly r e.name (front_of name) (with_fronts (front_of name) those now)
+    → IsPartly r e.name (front_of name) now → AreUnder r e.name those
+    → IsPartly r e.name (front_of name) (with_fronts (front_of name) those now)
 partly_all r e name owner [] now t partly all = partly
 partly_all r e name owner (id ∷ those) now t partly all =
     let one = one_under r now e.name (front_of name) id t.valid (front_free name) partly all.0 in
-    partly_all r e name owner those (with_fronted (front_of name) (now.entry id) now) t (partly_next r now e.name (front_of name) id one partly) all.1
+    partly_all r e name owner those (with_fronted (front_of name) (now.entry id) now) t
+    (partly_next r now e.name (front_of name) id one partly) all.1
 
 -- ---- all of them have it in the end
 
@@ -245,18 +280,21 @@ first_fronted r now whole front id z one same = record {
       ∙ under_same one.entry.id z (Some (fronted front one.entry)) now.entry (same ∙ sym one.own_id) ∙ ap Some one.turns;
 }
 
-stays_fronted : (r now : Registry) (whole front : List ℕ) (id z : ℤ) (one : IsOneUnder r now whole front id) → z ≢ id → IsFronted r whole front z (now.entry z)
+stays_fronted : (r now : Registry) (whole front : List ℕ) (id z : ℤ) (one : IsOneUnder r now whole front id) → z ≢ id
+    → IsFronted r whole front z (now.entry z)
     → IsFronted r whole front z ((with_fronted front (now.entry id) now).entry z)
 stays_fronted r now whole front id z one other has =
     subst (IsFronted r whole front z)
     (sym (ap (λ (x : Registry). x.entry z) (with_at front now (now.entry id) one.entry one.now_at)
     ∙ under_other one.entry.id z (Some (fronted front one.entry)) now.entry (λ same. other (same ∙ one.own_id)))) has
 
-not_first : (z id : ℤ) (those : List ℤ) (b : Bool) → int_eq z id ≡ b → z ≢ id → list_any (int_eq z) (id ∷ those) ≡ true → list_any (int_eq z) those ≡ true
+not_first : (z id : ℤ) (those : List ℤ) (b : Bool) → int_eq z id ≡ b → z ≢ id → list_any (int_eq z) (id ∷ those) ≡ true
+    → list_any (int_eq z) those ≡ true
 not_first z id those true same other is = absurd (other (id_of z id same))
 not_first z id those false same other is = ap (λ (b : Bool). b || list_any (int_eq z) those) (sym same) ∙ is
 
-pub fronts_at : (r : Registry) (e : PrEntry) (name : List ℕ) (owner : ℤ) (those : List ℤ) (now : Registry) (z : ℤ) → IsTurning r e name owner
+pub fronts_at : (r : Registry) (e : PrEntry) (name : List ℕ) (owner : ℤ) (those : List ℤ) (now : Registry) (z : ℤ)
+    → IsTurning r e name owner
     → IsPartly r e.name (front_of name) now → AreUnder r e.name those
     → (list_any (int_eq z) those ≡ true) ⊎ IsFronted r e.name (front_of name) z (now.entry z)
     → IsFronted r e.name (front_of name) z ((with_fronts (front_of name) those now).entry z)
@@ -264,7 +302,8 @@ fronts_at r e name owner [] now z t partly all (inl in_list) = absurd cc
 fronts_at r e name owner [] now z t partly all (inr has) = has
 fronts_at r e name owner (id ∷ those) now z t partly all in_or_has =
     let one = one_under r now e.name (front_of name) id t.valid (front_free name) partly all.0 in
-    fronts_at r e name owner those (with_fronted (front_of name) (now.entry id) now) z t (partly_next r now e.name (front_of name) id one partly) all.1
+    fronts_at r e name owner those (with_fronted (front_of name) (now.entry id) now) z t
+    (partly_next r now e.name (front_of name) id one partly) all.1
     (by_id z id
     (λ same. inr (first_fronted r now e.name (front_of name) id z one same))
     (λ other.
@@ -276,7 +315,8 @@ fronts_at r e name owner (id ∷ those) now z t partly all in_or_has =
 -- the ids are those of what is under the name
 kept_next : (P : ℤ → Type 0) (q : ℤ → Bool) (xs : List ℤ) (x : ℤ) (b : Bool) → q x ≡ b → (q x ≡ true → P x) → AllByRecursion P (filter q xs)
     → AllByRecursion P (filter q (x ∷ xs))
-kept_next P q xs x true is one rest = subst (λ (b : Bool). AllByRecursion P (cond b (x ∷ filter q xs) (filter q xs))) (sym is) (one is, rest)
+kept_next P q xs x true is one rest =
+    subst (λ (b : Bool). AllByRecursion P (cond b (x ∷ filter q xs) (filter q xs))) (sym is) (one is, rest)
 kept_next P q xs x false is one rest = subst (λ (b : Bool). AllByRecursion P (cond b (x ∷ filter q xs) (filter q xs))) (sym is) rest
 
 pub kept_all : (P : ℤ → Type 0) (q : ℤ → Bool) (xs : List ℤ) → ((x : ℤ) → q x ≡ true → P x) → AllByRecursion P (filter q xs)
@@ -291,7 +331,8 @@ some_under : (whole : List ℕ) (o : Option PrEntry) → is_one_under whole o �
 some_under whole None is = absurd cc
 some_under whole (Some f) is = refl
 
-pub in_under : (r : Registry) (whole : List ℕ) (z : ℤ) → IsRegistry r → is_one_under whole (r.entry z) ≡ true → list_any (int_eq z) (under r whole) ≡ true
+pub in_under : (r : Registry) (whole : List ℕ) (z : ℤ) → IsRegistry r → is_one_under whole (r.entry z) ≡ true
+    → list_any (int_eq z) (under r whole) ≡ true
 unfolding under
 in_under r whole z valid is =
     any_kept r (int_eq z) (λ id. is_one_under whole (r.entry id)) z valid (some_under whole (r.entry z) is) is (to_id z z refl)

@@ -67,7 +67,8 @@ behind_again xs rest none =
 
 -- ---- a name is its front, a `:` and what stands behind it
 
-within_by : (x : ℕ) (xs : List ℕ) (b : Bool) → is_colon x ≡ b → (b || list_any is_colon xs) ≡ true → (list_any is_colon xs ≡ true → at_colon xs < length xs)
+within_by : (x : ℕ) (xs : List ℕ) (b : Bool) → is_colon x ≡ b → (b || list_any is_colon xs) ≡ true
+    → (list_any is_colon xs ≡ true → at_colon xs < length xs)
     → at_colon (x ∷ xs) < length (x ∷ xs)
 within_by x xs true is has later =
     let here : at_colon (x ∷ xs) ≡ 0 = ap (λ (b : Bool). cond (not b) (1 + prefix_len (λ y. not (is_colon y)) xs) 0) is in
@@ -91,13 +92,15 @@ parts_of name has =
     ∙ ap (λ (n : ℕ). front_of name ++ 58 ∷ drop (n + 1) name) (sym size)
 
 -- a name with another front, and its own front again
-pub front_back : (front name : List ℕ) → has_colon name ≡ true → list_any is_colon front ≡ false → with_front (front_of name) (with_front front name) ≡ name
+pub front_back : (front name : List ℕ) → has_colon name ≡ true → list_any is_colon front ≡ false
+    → with_front (front_of name) (with_front front name) ≡ name
 front_back front name has none =
     ap (λ (rest : List ℕ). front_of name ++ 58 ∷ rest) (behind_again front (behind_colon name) none) ∙ sym (parts_of name has)
 
 -- ---- a text without a `:` is its own front
 
-none_by : (x : ℕ) (xs : List ℕ) (b : Bool) → is_colon x ≡ b → (b || list_any is_colon xs) ≡ false → (list_any is_colon xs ≡ false → at_colon xs ≡ length xs)
+none_by : (x : ℕ) (xs : List ℕ) (b : Bool) → is_colon x ≡ b → (b || list_any is_colon xs) ≡ false
+    → (list_any is_colon xs ≡ false → at_colon xs ≡ length xs)
     → at_colon (x ∷ xs) ≡ length (x ∷ xs)
 none_by x xs true is none later = absurd cc
 none_by x xs false is none later =
@@ -142,5 +145,6 @@ parts_from front name x none is =
 
 pub parts_tell : (front name x : List ℕ) → list_any is_colon front ≡ false → has_parts front name x ≡ bytes_eq x (with_front front name)
 parts_tell front name x none =
-    both_ways (has_parts front name x) (bytes_eq x (with_front front name)) (λ is. to_same x (with_front front name) (parts_to front name x is))
+    both_ways (has_parts front name x) (bytes_eq x (with_front front name))
+    (λ is. to_same x (with_front front name) (parts_to front name x is))
     (λ is. parts_from front name x none (same_text x (with_front front name) is))

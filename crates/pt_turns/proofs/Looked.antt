@@ -20,7 +20,8 @@ tells r test true valid told =
     sym (any_some r test e valid (ap r.entry (valid.ids told.0 e told.1.1) ∙ told.1.1) told.1.2)
 tells r test false valid told = sym (any_none r test told)
 
-any_told : (bytes : Option (List ℕ)) (test : PrEntry → Bool) (b : Bool) → IfSome bytes (λ image. (r : Registry) → Holds image r → TellsWhether test r b)
+any_told : (bytes : Option (List ℕ)) (test : PrEntry → Bool) (b : Bool)
+    → IfSome bytes (λ image. (r : Registry) → Holds image r → TellsWhether test r b)
     → OfStates bytes (λ s. b ≡ list_any test (entries s.registry))
 any_told None test b told = tt
 any_told (Some image) test b told = λ s holds. tells s.registry test b holds.holds.valid (told s.registry holds.holds)
@@ -39,19 +40,23 @@ named_under whole e = is_under whole e.name
 met_at : (r : Registry) (whole : List ℕ) (x : ℤ) → IsMetAt (named_under whole) r x → is_one_under whole (r.entry x) ≡ true
 met_at r whole x is = ap (is_one_under whole) is.1 ∙ is.2
 
-met_by : (r : Registry) (whole : List ℕ) (x : ℤ) (o : Option PrEntry) → r.entry x ≡ o → is_one_under whole o ≡ true → IsMetAt (named_under whole) r x
+met_by : (r : Registry) (whole : List ℕ) (x : ℤ) (o : Option PrEntry) → r.entry x ≡ o → is_one_under whole o ≡ true
+    → IsMetAt (named_under whole) r x
 met_by r whole x None at is = absurd cc
 met_by r whole x (Some e) at is = (e, at, is)
 
-list_under : (r : Registry) (whole : List ℕ) (xs : List ℤ) → IsRegistry r → IsFoundList (IsMetAt (named_under whole) r) xs → xs ≡ under r whole
+list_under : (r : Registry) (whole : List ℕ) (xs : List ℤ) → IsRegistry r → IsFoundList (IsMetAt (named_under whole) r) xs
+    → xs ≡ under r whole
 unfolding under
 list_under r whole xs valid list =
-    list_is (λ id. is_one_under whole (r.entry id)) (IsMetAt (named_under whole) r) xs (record { ascending = list.ascending; each = list.each; all = list.all })
+    list_is (λ id. is_one_under whole (r.entry id)) (IsMetAt (named_under whole) r) xs
+    (record { ascending = list.ascending; each = list.each; all = list.all })
     (λ x met. met_at r whole x met) (λ x is. met_by r whole x (r.entry x) refl is)
     (λ x met. entry_range r x valid (is_there (r.entry x) met.0 met.1))
 
 under_told : (bytes : Option (List ℕ)) (whole : List ℕ) (xs : List ℤ)
-    → IfSome bytes (λ image. (r : Registry) → Holds image r → IsFoundList (IsMetAt (named_under whole) r) xs) → OfStates bytes (λ s. xs ≡ under s.registry whole)
+    → IfSome bytes (λ image. (r : Registry) → Holds image r → IsFoundList (IsMetAt (named_under whole) r) xs)
+    → OfStates bytes (λ s. xs ≡ under s.registry whole)
 under_told None whole xs told = tt
 under_told (Some image) whole xs told = λ s holds. list_under s.registry whole xs holds.holds.valid (told s.registry holds.holds)
 

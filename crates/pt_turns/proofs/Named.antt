@@ -78,7 +78,8 @@ pub own_at : (r : Registry) (id : ℤ) (g : PrEntry) → IsRegistry r → r.entr
 own_at r id g valid at = ap r.entry (valid.ids id g at) ∙ at
 
 -- the entry itself is not under its name
-other_id : (r : Registry) (e : PrEntry) (name : List ℕ) (owner : ℤ) (f : PrEntry) → IsTurning r e name owner → r.entry f.id ≡ Some f → is_under e.name f.name ≡ true
+other_id : (r : Registry) (e : PrEntry) (name : List ℕ) (owner : ℤ) (f : PrEntry) → IsTurning r e name owner → r.entry f.id ≡ Some f
+    → is_under e.name f.name ≡ true
     → int_eq f.id e.id ≡ false
 other_id r e name owner f t at is =
     false_from_ne_true (int_eq f.id e.id) (λ same.
@@ -89,7 +90,8 @@ pub after_under : (r : Registry) (e : PrEntry) (name : List ℕ) (owner : ℤ) (
     → is_under e.name f.name ≡ true → name_after e name f ≡ with_front (front_of name) f.name
 after_under r e name owner f t at is = after_by e name f false true (other_id r e name owner f t at is) is
 
-pub after_other : (e : PrEntry) (name : List ℕ) (f : PrEntry) → int_eq f.id e.id ≡ false → is_under e.name f.name ≡ false → name_after e name f ≡ f.name
+pub after_other : (e : PrEntry) (name : List ℕ) (f : PrEntry) → int_eq f.id e.id ≡ false → is_under e.name f.name ≡ false
+    → name_after e name f ≡ f.name
 after_other e name f other is = after_by e name f false false other is
 
 -- no two entries have one name afterwards
@@ -98,15 +100,18 @@ inner : (r : Registry) (e : PrEntry) (name : List ℕ) (f g : PrEntry) → IsReg
     → list_any (λ (g : PrEntry). not (int_eq f.id g.id) && bytes_eq (name_after e name f) (name_after e name g)) (entries r) ≡ true
 inner r e name f g valid f_at g_at same other =
     any_some r (λ g. not (int_eq f.id g.id) && bytes_eq (name_after e name f) (name_after e name g)) g valid g_at
-    (and_from (not (int_eq f.id g.id)) (bytes_eq (name_after e name f) (name_after e name g)) other (to_text (name_after e name f) (name_after e name g) same))
+    (and_from (not (int_eq f.id g.id)) (bytes_eq (name_after e name f) (name_after e name g)) other
+    (to_text (name_after e name f) (name_after e name g) same))
 
-pub names_apart : (r : Registry) (e : PrEntry) (name : List ℕ) (owner : ℤ) (f g : PrEntry) → IsTurning r e name owner → r.entry f.id ≡ Some f → r.entry g.id ≡ Some g
+pub names_apart : (r : Registry) (e : PrEntry) (name : List ℕ) (owner : ℤ) (f g : PrEntry) → IsTurning r e name owner
+    → r.entry f.id ≡ Some f → r.entry g.id ≡ Some g
     → name_after e name f ≡ name_after e name g → f.id ≡ g.id
 names_apart r e name owner f g t f_at g_at same =
     elim (cases_Bool (int_eq f.id g.id)) [
       | inl is ↦ id_of f.id g.id is
       | inr other ↦ absurd (clash (has_equal_names r e name)
-          (any_some r (λ f. list_any (λ g. not (int_eq f.id g.id) && bytes_eq (name_after e name f) (name_after e name g)) (entries r)) f t.valid f_at
+          (any_some r (λ f. list_any (λ g. not (int_eq f.id g.id) && bytes_eq (name_after e name f) (name_after e name g)) (entries r)) f
+          t.valid f_at
           (inner r e name f g t.valid f_at g_at same (not_to (int_eq f.id g.id) other)))
           t.may.distinct)
     ]
@@ -124,7 +129,8 @@ name_short r e name owner f t at =
 -- ---- their forms
 
 -- a text has no `:`
-free_by : (x : ℕ) (xs : List ℕ) (b : Bool) → is_colon x ≡ b → is_name_byte x ≡ true → list_any is_colon xs ≡ false → list_any is_colon (x ∷ xs) ≡ false
+free_by : (x : ℕ) (xs : List ℕ) (b : Bool) → is_colon x ≡ b → is_name_byte x ≡ true → list_any is_colon xs ≡ false
+    → list_any is_colon (x ∷ xs) ≡ false
 free_by x xs true is name rest =
     let two = and_parts (nat_le 33 x && nat_le x 126 && not (is_colon x)) (not (nat_eq x 64)) name in
     let one = and_parts (nat_le 33 x && nat_le x 126) (not (is_colon x)) two.0 in
@@ -140,7 +146,8 @@ text_free (x ∷ xs) all =
 user_text : (name : List ℕ) → is_user_name name ≡ true → is_text name ≡ true
 unfolding is_user_name
 user_text name is =
-    let three = and_parts (nat_le 1 (length name) && nat_le (length name) 63 && list_all is_name_byte name) (not (bytes_eq name (codes "system"))) is in
+    let three = and_parts (nat_le 1 (length name) && nat_le (length name) 63 && list_all is_name_byte name)
+    (not (bytes_eq name (codes "system"))) is in
     let two = and_parts (nat_le 1 (length name) && nat_le (length name) 63) (list_all is_name_byte name) three.0 in
     let one = and_parts (nat_le 1 (length name)) (nat_le (length name) 63) two.0 in
     and_from (nat_le 1 (length name)) (list_all is_name_byte name) one.0 two.1
@@ -153,7 +160,8 @@ group_front : (name : List ℕ) → is_group_name name ≡ true → is_text (fro
 unfolding is_group_name
 group_front name is =
     (and_parts (nat_le (length name) 63) (is_text (front_of name))
-    (and_parts (nat_le (length name) 63 && is_text (front_of name)) (cond (has_colon name) (is_text (behind_colon name)) (not (bytes_eq name (codes "system")))) is).0).1
+    (and_parts (nat_le (length name) 63 && is_text (front_of name))
+    (cond (has_colon name) (is_text (behind_colon name)) (not (bytes_eq name (codes "system")))) is).0).1
 
 pub front_text : (id : ℤ) (name : List ℕ) → is_name_for id name ≡ true → is_text (front_of name) ≡ true
 front_text (pos n) name is =
@@ -165,7 +173,8 @@ front_text (negsuc n) name is = group_front name is
 behind_by : (name : List ℕ) (b : Bool) → has_colon name ≡ b → b ≡ true → is_group_name name ≡ true → is_text (behind_colon name) ≡ true
 unfolding is_group_name
 behind_by name true has one is =
-    let last = (and_parts (nat_le (length name) 63 && is_text (front_of name)) (cond (has_colon name) (is_text (behind_colon name)) (not (bytes_eq name (codes "system")))) is).1 in
+    let last = (and_parts (nat_le (length name) 63 && is_text (front_of name))
+    (cond (has_colon name) (is_text (behind_colon name)) (not (bytes_eq name (codes "system")))) is).1 in
     ap (λ (b : Bool). cond b (is_text (behind_colon name)) (not (bytes_eq name (codes "system")))) (sym has) ∙ last
 behind_by name false has one is = absurd cc
 
@@ -174,20 +183,24 @@ user_free : (name : List ℕ) → is_user_name name ≡ true → has_colon name 
 user_free name is = text_free name (text_of_all name (user_text name is))
 
 -- a name with a `:` and another text before it is a group's again, where it is short
-front_group : (front name : List ℕ) → is_text front ≡ true → has_colon name ≡ true → is_group_name name ≡ true → length (with_front front name) ≤ 63
+front_group : (front name : List ℕ) → is_text front ≡ true → has_colon name ≡ true → is_group_name name ≡ true
+    → length (with_front front name) ≤ 63
     → is_group_name (with_front front name) ≡ true
 unfolding is_group_name
 front_group front name text has is short =
     let none = text_free front (text_of_all front text) in
     and_from (nat_le (length (with_front front name)) 63 && is_text (front_of (with_front front name)))
-    (cond (has_colon (with_front front name)) (is_text (behind_colon (with_front front name))) (not (bytes_eq (with_front front name) (codes "system"))))
-    (and_from (nat_le (length (with_front front name)) 63) (is_text (front_of (with_front front name))) (le-leb (length (with_front front name)) 63 short)
+    (cond (has_colon (with_front front name)) (is_text (behind_colon (with_front front name)))
+    (not (bytes_eq (with_front front name) (codes "system"))))
+    (and_from (nat_le (length (with_front front name)) 63) (is_text (front_of (with_front front name)))
+    (le-leb (length (with_front front name)) 63 short)
     (ap is_text (front_again front (behind_colon name) none) ∙ text))
     (ap (λ (b : Bool). cond b (is_text (behind_colon (with_front front name))) (not (bytes_eq (with_front front name) (codes "system"))))
     (colon_there front (behind_colon name))
     ∙ ap is_text (behind_again front (behind_colon name) none) ∙ behind_by name (has_colon name) refl has is)
 
-pub front_good : (id : ℤ) (front name : List ℕ) → is_text front ≡ true → has_colon name ≡ true → is_name_for id name ≡ true → length (with_front front name) ≤ 63
+pub front_good : (id : ℤ) (front name : List ℕ) → is_text front ≡ true → has_colon name ≡ true → is_name_for id name ≡ true
+    → length (with_front front name) ≤ 63
     → is_name_for id (with_front front name) ≡ true
 front_good (pos n) front name text has is short = absurd (clash (has_colon name) has (user_free name is))
 front_good (negsuc n) front name text has is short = front_group front name text has is short
@@ -196,7 +209,8 @@ front_good (negsuc n) front name text has is short = front_group front name text
 pub under_good : (r : Registry) (e : PrEntry) (name : List ℕ) (owner : ℤ) (f : PrEntry) → IsTurning r e name owner → r.entry f.id ≡ Some f
     → is_under e.name f.name ≡ true → is_name_for f.id (with_front (front_of name) f.name) ≡ true
 under_good r e name owner f t at is =
-    front_good f.id (front_of name) f.name (front_text e.id name t.may.good) (under_parts e.name f.name is).0 (t.valid.records f.id f at).name
+    front_good f.id (front_of name) f.name (front_text e.id name t.may.good) (under_parts e.name f.name is).0
+    (t.valid.records f.id f at).name
     (subst (λ (n : List ℕ). length n ≤ 63) (after_under r e name owner f t at is) (name_short r e name owner f t at))
 
 -- ---- what an entry is by itself, with another name and owner

@@ -33,14 +33,17 @@ registry_is a b each user group =
 
 -- ---- one front after the other
 
-fronted_keep : (image : List ℕ) (r : Registry) (m : Members) (front : List ℕ) (o : Option PrEntry) (id : ℤ) → HoldsPairs image r m → r.entry id ≡ o
+fronted_keep : (image : List ℕ) (r : Registry) (m : Members) (front : List ℕ) (o : Option PrEntry) (id : ℤ) → HoldsPairs image r m
+    → r.entry id ≡ o
     → IsSomeAnd o (MayFront front r) → HoldsPairs (after_fronted front o image) (with_fronted front o r) m
 fronted_keep image r m front None id holds at may = absurd may
 fronted_keep image r m front (Some e) id holds at may =
     replace_keep image r m e.id (fronted front e) holds
-    (record_with e (with_front front e.name) e.owner (holds.holds.valid.records id e at) may.1 (holds.holds.valid.records id e at).fields.owner) may.0
+    (record_with e (with_front front e.name) e.owner (holds.holds.valid.records id e at) may.1
+    (holds.holds.valid.records id e at).fields.owner) may.0
 
-pub fronts_keep : (front : List ℕ) (those : List ℤ) (image : List ℕ) (r : Registry) (m : Members) → HoldsPairs image r m → MayFronts front those r
+pub fronts_keep : (front : List ℕ) (those : List ℤ) (image : List ℕ) (r : Registry) (m : Members) → HoldsPairs image r m
+    → MayFronts front those r
     → HoldsPairs (after_fronts front those r image) (with_fronts front those r) m
 fronts_keep front [] image r m holds may = holds
 fronts_keep front (id ∷ those) image r m holds may =
@@ -55,13 +58,16 @@ turning r e name = with_fronts (front_of name) (under r e.name) r
 abbrev pub as_named : PrEntry → (name : List ℕ) → (owner : ℤ) → PrEntry
 as_named e name owner = record e { name = name; owner = owner }
 
-pub turning_partly : (r : Registry) (e : PrEntry) (name : List ℕ) (owner : ℤ) → IsTurning r e name owner → IsPartly r e.name (front_of name) (turning r e name)
+pub turning_partly : (r : Registry) (e : PrEntry) (name : List ℕ) (owner : ℤ) → IsTurning r e name owner
+    → IsPartly r e.name (front_of name) (turning r e name)
 turning_partly r e name owner t = partly_all r e name owner (under r e.name) r t (partly_none r e.name (front_of name)) (are_under r e.name)
 
-turning_at : (r : Registry) (e : PrEntry) (name : List ℕ) (owner : ℤ) (z : ℤ) → IsTurning r e name owner → is_one_under e.name (r.entry z) ≡ true
+turning_at : (r : Registry) (e : PrEntry) (name : List ℕ) (owner : ℤ) (z : ℤ) → IsTurning r e name owner
+    → is_one_under e.name (r.entry z) ≡ true
     → IsFronted r e.name (front_of name) z ((turning r e name).entry z)
 turning_at r e name owner z t is =
-    fronts_at r e name owner (under r e.name) r z t (partly_none r e.name (front_of name)) (are_under r e.name) (inl (in_under r e.name z t.valid is))
+    fronts_at r e name owner (under r e.name) r z t (partly_none r e.name (front_of name)) (are_under r e.name)
+    (inl (in_under r e.name z t.valid is))
 
 -- each name is that afterwards
 abbrev IsNamed : Registry → PrEntry → (name : List ℕ) → (z : ℤ) → PrEntry → Type 0
@@ -70,13 +76,16 @@ IsNamed r e name z g = (f : PrEntry) × (r.entry z ≡ Some f) × (g.name ≡ na
 other_than : (e : PrEntry) (z : ℤ) (f : PrEntry) → f.id ≡ z → z ≢ e.id → int_eq f.id e.id ≡ false
 other_than e z f own other = false_from_ne_true (int_eq f.id e.id) (λ same. other (sym own ∙ id_of f.id e.id same))
 
-under_is : (whole : List ℕ) (o : Option PrEntry) (f : PrEntry) (b : Bool) → o ≡ Some f → is_one_under whole o ≡ b → is_under whole f.name ≡ b
+under_is : (whole : List ℕ) (o : Option PrEntry) (f : PrEntry) (b : Bool) → o ≡ Some f → is_one_under whole o ≡ b
+    → is_under whole f.name ≡ b
 under_is whole o f b at is = ap (is_one_under whole) (sym at) ∙ is
 
-not_fronted : (r : Registry) (whole front : List ℕ) (z : ℤ) (now : Option PrEntry) → IsFronted r whole front z now → is_one_under whole (r.entry z) ≡ false → ⊥
+not_fronted : (r : Registry) (whole front : List ℕ) (z : ℤ) (now : Option PrEntry) → IsFronted r whole front z now
+    → is_one_under whole (r.entry z) ≡ false → ⊥
 not_fronted r whole front z now has none = clash (is_one_under whole (r.entry z)) (ap (is_one_under whole) has.there ∙ has.is) none
 
-turning_by : (r : Registry) (e : PrEntry) (name : List ℕ) (owner : ℤ) (z : ℤ) (g : PrEntry) (b : Bool) → IsTurning r e name owner → (turning r e name).entry z ≡ Some g
+turning_by : (r : Registry) (e : PrEntry) (name : List ℕ) (owner : ℤ) (z : ℤ) (g : PrEntry) (b : Bool) → IsTurning r e name owner
+    → (turning r e name).entry z ≡ Some g
     → z ≢ e.id → is_one_under e.name (r.entry z) ≡ b → IsNamed r e name z g
 turning_by r e name owner z g true t at other is =
     let has = turning_at r e name owner z t is in
@@ -93,11 +102,13 @@ turning_by r e name owner z g false t at other is =
       | inr has ↦ absurd (not_fronted r e.name (front_of name) z ((turning r e name).entry z) has is)
     ]
 
-turning_name : (r : Registry) (e : PrEntry) (name : List ℕ) (owner : ℤ) (z : ℤ) (g : PrEntry) → IsTurning r e name owner → (turning r e name).entry z ≡ Some g → z ≢ e.id
+turning_name : (r : Registry) (e : PrEntry) (name : List ℕ) (owner : ℤ) (z : ℤ) (g : PrEntry) → IsTurning r e name owner
+    → (turning r e name).entry z ≡ Some g → z ≢ e.id
     → IsNamed r e name z g
 turning_name r e name owner z g t at other = turning_by r e name owner z g (is_one_under e.name (r.entry z)) t at other refl
 
-own_name : (r : Registry) (e : PrEntry) (name : List ℕ) (owner : ℤ) (z : ℤ) (g : PrEntry) → IsTurning r e name owner → (turning r e name).entry z ≡ Some g
+own_name : (r : Registry) (e : PrEntry) (name : List ℕ) (owner : ℤ) (z : ℤ) (g : PrEntry) → IsTurning r e name owner
+    → (turning r e name).entry z ≡ Some g
     → g.name ≡ name → z ≡ e.id
 own_name r e name owner z g t at same =
     by_id z e.id
@@ -107,15 +118,22 @@ own_name r e name owner z g t at same =
     sym (t.valid.ids z f.0 f.1)
     ∙ names_apart r e name owner f.0 e t (own_at r z f.0 t.valid f.1) t.may.there (sym f.2 ∙ same ∙ sym (after_own e name)))
 
-pub may_own : (r : Registry) (e : PrEntry) (name : List ℕ) (owner : ℤ) → IsTurning r e name owner → MayReplace e.id (as_named e name owner) (turning r e name)
+pub may_own : (r : Registry) (e : PrEntry) (name : List ℕ) (owner : ℤ) → IsTurning r e name owner
+    → MayReplace e.id (as_named e name owner) (turning r e name)
 may_own r e name owner t = record {
-  there = partly_some r (turning r e name) e.name (front_of name) e.id (turning_partly r e name owner t) (subst (λ (o : Option PrEntry). IsSome o) (sym t.may.there) refl);
+  there =
+      partly_some r (turning r e name) e.name (front_of name) e.id (turning_partly r e name owner t)
+      (subst (λ (o : Option PrEntry). IsSome o) (sym t.may.there) refl);
   same_id = refl;
   name = λ other g at same. own_name r e name owner other g t at same;
   fixed = λ k d below same.
-      absurd (clash (is_fixed e.id) (list_any_at (λ (h : PrEntry). int_eq h.id e.id) fixed_entries k d below (to_id (get_or fixed_entries k d).id e.id same)) t.may.not_fixed);
+      absurd (clash (is_fixed e.id)
+      (list_any_at (λ (h : PrEntry). int_eq h.id e.id) fixed_entries k d below (to_id (get_or fixed_entries k d).id e.id same))
+      t.may.not_fixed);
   among = record {
-    owner = owner_stays r (turning r e name) e.name (front_of name) (as_named e name owner) owner (turning_partly r e name owner t) t.may.owner_there;
+    owner =
+        owner_stays r (turning r e name) e.name (front_of name) (as_named e name owner) owner
+        (turning_partly r e name owner t) t.may.owner_there;
     creator = (t.valid.among e.id e t.may.there).creator;
   };
 }
@@ -150,24 +168,28 @@ own_turned : (e : PrEntry) (name : List ℕ) (owner : ℤ) → turned e name own
 own_turned e name owner =
     turned_is e name owner e name owner (after_own e name) (ap (λ (b : Bool). cond b owner e.owner) (to_id e.id e.id refl))
 
-other_turned : (e : PrEntry) (name : List ℕ) (owner : ℤ) (f : PrEntry) (after : List ℕ) → name_after e name f ≡ after → int_eq f.id e.id ≡ false
+other_turned : (e : PrEntry) (name : List ℕ) (owner : ℤ) (f : PrEntry) (after : List ℕ) → name_after e name f ≡ after
+    → int_eq f.id e.id ≡ false
     → turned e name owner e.id f ≡ record f { name = after }
 other_turned e name owner f after named other = turned_is e name owner f after f.owner named (ap (λ (b : Bool). cond b owner f.owner) other)
 
-kept_turned : (r : Registry) (e : PrEntry) (name : List ℕ) (owner : ℤ) (z : ℤ) (o : Option PrEntry) → IsTurning r e name owner → r.entry z ≡ o → z ≢ e.id
+kept_turned : (r : Registry) (e : PrEntry) (name : List ℕ) (owner : ℤ) (z : ℤ) (o : Option PrEntry) → IsTurning r e name owner
+    → r.entry z ≡ o → z ≢ e.id
     → is_one_under e.name o ≡ false → o ≡ option_map (turned e name owner e.id) o
 kept_turned r e name owner z None t at other is = refl
 kept_turned r e name owner z (Some f) t at other is =
     let apart = other_than e z f (t.valid.ids z f at) other in
     sym (ap Some (other_turned e name owner f f.name (after_other e name f apart is) apart))
 
-turned_by : (r : Registry) (e : PrEntry) (name : List ℕ) (owner : ℤ) (z : ℤ) (b : Bool) → IsTurning r e name owner → z ≢ e.id → is_one_under e.name (r.entry z) ≡ b
+turned_by : (r : Registry) (e : PrEntry) (name : List ℕ) (owner : ℤ) (z : ℤ) (b : Bool) → IsTurning r e name owner → z ≢ e.id
+    → is_one_under e.name (r.entry z) ≡ b
     → (turning r e name).entry z ≡ option_map (turned e name owner e.id) (r.entry z)
 turned_by r e name owner z true t other is =
     let has = turning_at r e name owner z t is in
     let f = has.entry in
     has.now_is
-    ∙ sym (ap Some (other_turned e name owner f (with_front (front_of name) f.name) (after_under r e name owner f t (own_at r z f t.valid has.there) has.is)
+    ∙ sym (ap Some (other_turned e name owner f (with_front (front_of name) f.name)
+    (after_under r e name owner f t (own_at r z f t.valid has.there) has.is)
     (other_than e z f (t.valid.ids z f has.there) other)))
     ∙ ap (option_map (turned e name owner e.id)) (sym has.there)
 turned_by r e name owner z false t other is =
@@ -191,17 +213,23 @@ pub renamed_is : (r : Registry) (e : PrEntry) (name : List ℕ) (owner : ℤ) �
     → with_entry (as_named e name owner) (turning r e name) ≡ renamed e name owner r
 renamed_is r e name owner t =
     let partly = turning_partly r e name owner t in
-    registry_is (with_entry (as_named e name owner) (turning r e name)) (renamed e name owner r) (λ z. renamed_each r e name owner z t) partly.user partly.group
+    registry_is (with_entry (as_named e name owner) (turning r e name)) (renamed e name owner r)
+    (λ z. renamed_each r e name owner z t) partly.user partly.group
 
 -- ---- the image
 
-pub rename_keeps : (image : List ℕ) (r : Registry) (m : Members) (e : PrEntry) (name : List ℕ) (owner : ℤ) → HoldsPairs image r m → MayRename e name owner r
+pub rename_keeps : (image : List ℕ) (r : Registry) (m : Members) (e : PrEntry) (name : List ℕ) (owner : ℤ) → HoldsPairs image r m
+    → MayRename e name owner r
     → HoldsPairs (after_rename e name owner r image) (renamed e name owner r) m
 unfolding after_rename
 rename_keeps image r m e name owner holds may =
     let t : IsTurning r e name owner = record { valid = holds.holds.valid; may = may } in
     let those = under r e.name in
-    let mid = fronts_keep (front_of name) those image r m holds (may_fronts r e name owner those r t (partly_none r e.name (front_of name)) (are_under r e.name)) in
-    let fields = record_with e name owner (holds.holds.valid.records e.id e may.there) may.good (owner_fits r owner holds.holds.valid may.owner_there) in
-    subst (λ (x : Registry). HoldsPairs (after_replace e.id (as_named e name owner) (after_fronts (front_of name) those r image)) x m) (renamed_is r e name owner t)
-    (replace_keep (after_fronts (front_of name) those r image) (turning r e name) m e.id (as_named e name owner) mid fields (may_own r e name owner t))
+    let mid = fronts_keep (front_of name) those image r m holds
+    (may_fronts r e name owner those r t (partly_none r e.name (front_of name)) (are_under r e.name)) in
+    let fields = record_with e name owner (holds.holds.valid.records e.id e may.there) may.good
+    (owner_fits r owner holds.holds.valid may.owner_there) in
+    subst (λ (x : Registry). HoldsPairs (after_replace e.id (as_named e name owner) (after_fronts (front_of name) those r image)) x m)
+    (renamed_is r e name owner t)
+    (replace_keep (after_fronts (front_of name) those r image) (turning r e name) m e.id (as_named e name owner) mid fields
+    (may_own r e name owner t))

@@ -31,7 +31,8 @@ GivesKeep = (image : List ℕ) (s : State) (those : List ℤ) (owner : ℤ) → 
 
 abbrev pub MoveKeeps : Type 0
 MoveKeeps = (image : List ℕ) (r : Registry) (m : Members) (old new : ℤ) (others : List ℤ) → HoldsPairs image r m → MayMove old new r
-    → IsListOf (λ other. are_paired m old other ≡ true) others → HoldsPairs (after_move old new others image) (moved_registry old new r) (moved_members old new m)
+    → IsListOf (λ other. are_paired m old other ≡ true) others
+    → HoldsPairs (after_move old new others image) (moved_registry old new r) (moved_members old new m)
 
 -- ---- ids that move
 
@@ -49,11 +50,13 @@ before_new old new z same = ap (λ (b : Bool). cond b (Some old) (cond (int_eq z
 
 before_old : (old new z : ℤ) → z ≢ new → z ≡ old → before old new z ≡ None
 before_old old new z other same =
-    ap (λ (b : Bool). cond b (Some old) (cond (int_eq z old) None (Some z))) (is_other z new other) ∙ ap (λ (b : Bool). cond b None (Some z)) (to_id z old same)
+    ap (λ (b : Bool). cond b (Some old) (cond (int_eq z old) None (Some z))) (is_other z new other)
+    ∙ ap (λ (b : Bool). cond b None (Some z)) (to_id z old same)
 
 before_other : (old new z : ℤ) → z ≢ new → z ≢ old → before old new z ≡ Some z
 before_other old new z one two =
-    ap (λ (b : Bool). cond b (Some old) (cond (int_eq z old) None (Some z))) (is_other z new one) ∙ ap (λ (b : Bool). cond b None (Some z)) (is_other z old two)
+    ap (λ (b : Bool). cond b (Some old) (cond (int_eq z old) None (Some z))) (is_other z new one)
+    ∙ ap (λ (b : Bool). cond b None (Some z)) (is_other z old two)
 
 -- where an id came from
 pub record CameFrom (old new z y : ℤ) : Type 0 where
@@ -79,7 +82,8 @@ same_test old new z y x came not_new =
     (λ is.
     elim came.place [
       | inl own ↦ to_id z (moved old new x) (own.0 ∙ sym (moved_own old new x is)) ∙ sym (to_id y x (own.1 ∙ sym is))
-      | inr other ↦ is_other z (moved old new x) (λ same. other.0 (same ∙ moved_own old new x is)) ∙ sym (is_other y x (λ same. other.1 (sym other.2 ∙ same ∙ is)))
+      | inr other ↦ is_other z (moved old new x) (λ same. other.0 (same ∙ moved_own old new x is))
+          ∙ sym (is_other y x (λ same. other.1 (sym other.2 ∙ same ∙ is)))
     ])
     (λ apart.
     elim came.place [
@@ -89,7 +93,8 @@ same_test old new z y x came not_new =
       | inr other ↦ ap (int_eq z) (moved_other old new x apart) ∙ ap (λ (v : ℤ). int_eq v x) (sym other.2)
     ])
 
-moved_in : (old new z y : ℤ) (xs : List ℤ) → CameFrom old new z y → AllByRecursion (λ x. x ≢ new) xs → list_any (int_eq z) (map (moved old new) xs) ≡ list_any (int_eq y) xs
+moved_in : (old new z y : ℤ) (xs : List ℤ) → CameFrom old new z y → AllByRecursion (λ x. x ≢ new) xs
+    → list_any (int_eq z) (map (moved old new) xs) ≡ list_any (int_eq y) xs
 moved_in old new z y [] came all = refl
 moved_in old new z y (x ∷ xs) came all =
     ap (λ (b : Bool). b || list_any (int_eq z) (map (moved old new) xs)) (same_test old new z y x came all.0)
@@ -115,9 +120,11 @@ of_its r old z is =
 
 its_by : (r : Registry) (old z : ℤ) (b : Bool) → IsRegistry r → is_property old (r.entry z) ≡ b → list_any (int_eq z) (property r old) ≡ b
 its_by r old z true valid is = in_its r old z valid is
-its_by r old z false valid is = false_from_ne_true (list_any (int_eq z) (property r old)) (λ has. clash (is_property old (r.entry z)) (of_its r old z has) is)
+its_by r old z false valid is =
+    false_from_ne_true (list_any (int_eq z) (property r old)) (λ has. clash (is_property old (r.entry z)) (of_its r old z has) is)
 
-its_all : (r : Registry) (old : ℤ) (P : ℤ → Type 0) → ((x : ℤ) → is_property old (r.entry x) ≡ true → P x) → AllByRecursion P (property r old)
+its_all : (r : Registry) (old : ℤ) (P : ℤ → Type 0) → ((x : ℤ) → is_property old (r.entry x) ≡ true → P x)
+    → AllByRecursion P (property r old)
 unfolding property
 its_all r old P each = kept_all P (λ id. is_property old (r.entry id)) ids each
 
@@ -126,11 +133,13 @@ its_all r old P each = kept_all P (λ id. is_property old (r.entry id)) ids each
 abbrev disowned : (old : ℤ) → PrEntry → PrEntry
 disowned old f = cond (int_eq f.owner old) (with_owner (pos 0) f) f
 
-disowned_by : (old : ℤ) (f : PrEntry) (b : Bool) → int_eq f.owner old ≡ b → cond b (Some (with_owner (pos 0) f)) (Some f) ≡ Some (disowned old f)
+disowned_by : (old : ℤ) (f : PrEntry) (b : Bool) → int_eq f.owner old ≡ b
+    → cond b (Some (with_owner (pos 0) f)) (Some f) ≡ Some (disowned old f)
 disowned_by old f true is = ap (λ (b : Bool). Some (cond b (with_owner (pos 0) f) f)) (sym is)
 disowned_by old f false is = ap (λ (b : Bool). Some (cond b (with_owner (pos 0) f) f)) (sym is)
 
-left_by : (old : ℤ) (o : Option PrEntry) (b : Bool) → is_property old o ≡ b → cond b (option_map (with_owner (pos 0)) o) o ≡ option_map (disowned old) o
+left_by : (old : ℤ) (o : Option PrEntry) (b : Bool) → is_property old o ≡ b
+    → cond b (option_map (with_owner (pos 0)) o) o ≡ option_map (disowned old) o
 left_by old None true is = refl
 left_by old None false is = refl
 left_by old (Some f) b is = disowned_by old f b is
@@ -140,7 +149,8 @@ left r old = with_owners (pos 0) (property r old) r
 
 left_at : (r : Registry) (old z : ℤ) → IsRegistry r → (left r old).entry z ≡ option_map (disowned old) (r.entry z)
 left_at r old z valid =
-    ap (λ (b : Bool). cond b (option_map (with_owner (pos 0)) (r.entry z)) (r.entry z)) (its_by r old z (is_property old (r.entry z)) valid refl)
+    ap (λ (b : Bool). cond b (option_map (with_owner (pos 0)) (r.entry z)) (r.entry z))
+    (its_by r old z (is_property old (r.entry z)) valid refl)
     ∙ left_by old (r.entry z) (is_property old (r.entry z)) refl
 
 map_there : {X Y : Type 0} (f : X → Y) (o : Option X) → IsSome o → IsSome (option_map f o)
@@ -148,7 +158,8 @@ map_there f None is = absurd cc
 map_there f (Some x) is = refl
 
 left_there : (r : Registry) (old z : ℤ) → IsRegistry r → IsSome (r.entry z) → IsSome ((left r old).entry z)
-left_there r old z valid is = subst (λ (o : Option PrEntry). IsSome o) (sym (left_at r old z valid)) (map_there (disowned old) (r.entry z) is)
+left_there r old z valid is =
+    subst (λ (o : Option PrEntry). IsSome o) (sym (left_at r old z valid)) (map_there (disowned old) (r.entry z) is)
 
 -- ---- each step may be made
 
@@ -194,18 +205,21 @@ or_second true b is = refl
 or_second false b is = is
 
 -- no fixed id is one that is not fixed
-fixed_at : (xs : List PrEntry) (k : ℕ) (id : ℤ) → k < length (map (λ (e : PrEntry). e.id) xs) → get_or (map (λ (e : PrEntry). e.id) xs) k id ≡ id
+fixed_at : (xs : List PrEntry) (k : ℕ) (id : ℤ) → k < length (map (λ (e : PrEntry). e.id) xs)
+    → get_or (map (λ (e : PrEntry). e.id) xs) k id ≡ id
     → list_any (λ (h : PrEntry). int_eq h.id id) xs ≡ true
 fixed_at [] k id below is = absurd (omega (arith, below))
 fixed_at (x ∷ xs) zero id below is = ap (λ (b : Bool). b || list_any (λ (h : PrEntry). int_eq h.id id) xs) (to_id x.id id is)
-fixed_at (x ∷ xs) (suc k) id below is = or_second (int_eq x.id id) (list_any (λ (h : PrEntry). int_eq h.id id) xs) (fixed_at xs k id (omega (arith, below)) is)
+fixed_at (x ∷ xs) (suc k) id below is =
+    or_second (int_eq x.id id) (list_any (λ (h : PrEntry). int_eq h.id id) xs) (fixed_at xs k id (omega (arith, below)) is)
 
 pub not_fixed : (id : ℤ) → is_fixed id ≡ false → ¬ IsFixedId id
 not_fixed id is fixed = clash (is_fixed id) (fixed_at fixed_entries fixed.0 id fixed.1 fixed.2) is
 
 owner_apart : (old : ℤ) (g : PrEntry) (b : Bool) → int_eq g.owner old ≡ b → old ≢ pos 0 → (disowned old g).owner ≢ old
 owner_apart old g true is id same = id (sym same ∙ ap (λ (b : Bool). (cond b (with_owner (pos 0) g) g).owner) is)
-owner_apart old g false is id same = clash (int_eq g.owner old) (to_id g.owner old (sym (ap (λ (b : Bool). (cond b (with_owner (pos 0) g) g).owner) is) ∙ same)) is
+owner_apart old g false is id same =
+    clash (int_eq g.owner old) (to_id g.owner old (sym (ap (λ (b : Bool). (cond b (with_owner (pos 0) g) g).owner) is) ∙ same)) is
 
 nothing_left : (old : ℤ) (o : Option PrEntry) (f : PrEntry) → option_map (disowned old) o ≡ Some f → old ≢ pos 0 → f.owner ≢ old
 nothing_left old None f at id = absurd cc
@@ -248,7 +262,8 @@ given_none true owner = refl
 given_none false owner = refl
 
 own_by : (old new : ℤ) (f : PrEntry) (b : Bool) → int_eq f.owner old ≡ b
-    → cond b (Some (with_owner new (with_moved_id old new (disowned old f)))) (Some (with_moved_id old new (disowned old f))) ≡ Some (with_new_id old new f)
+    → cond b (Some (with_owner new (with_moved_id old new (disowned old f)))) (Some (with_moved_id old new (disowned old f))) ≡ Some
+    (with_new_id old new f)
 own_by old new f true is =
     ap (λ (t : Bool). Some (with_owner new (with_moved_id old new (cond t (with_owner (pos 0) f) f)))) is
     ∙ ap (λ (t : Bool). Some (record f { id = moved old new f.id; owner = cond t new f.owner })) (sym is)
@@ -257,12 +272,14 @@ own_by old new f false is =
     ∙ ap (λ (t : Bool). Some (record f { id = moved old new f.id; owner = cond t new f.owner })) (sym is)
 
 given_some : (old new : ℤ) (f : PrEntry) (b : Bool) → int_eq f.owner old ≡ b
-    → cond b (option_map (with_owner new) (Some (with_moved_id old new (disowned old f)))) (Some (with_moved_id old new (disowned old f))) ≡ Some (with_new_id old new f)
+    → cond b (option_map (with_owner new) (Some (with_moved_id old new (disowned old f))))
+    (Some (with_moved_id old new (disowned old f))) ≡ Some (with_new_id old new f)
 given_some old new f true is = own_by old new f true is
 given_some old new f false is = own_by old new f false is
 
 given_by : (old new : ℤ) (o : Option PrEntry) (b : Bool) → is_property old o ≡ b
-    → cond b (option_map (with_owner new) (option_map (with_moved_id old new) (option_map (disowned old) o))) (option_map (with_moved_id old new) (option_map (disowned old) o))
+    → cond b (option_map (with_owner new) (option_map (with_moved_id old new) (option_map (disowned old) o)))
+    (option_map (with_moved_id old new) (option_map (disowned old) o))
     ≡ option_map (with_new_id old new) o
 given_by old new None b is = given_none b new
 given_by old new (Some f) b is =
@@ -273,15 +290,18 @@ end_each : (r : Registry) (old new z : ℤ) → IsMoving r old new
 end_each r old new z t =
     elim (origin old new z) [
       | inl none ↦
-          ap (λ (o : Option PrEntry). cond (list_any (int_eq z) (map (moved old new) (property r old))) (option_map (with_owner new) o) o) (there_none r old new z none)
+          ap (λ (o : Option PrEntry). cond (list_any (int_eq z) (map (moved old new) (property r old)))
+          (option_map (with_owner new) o) o) (there_none r old new z none)
           ∙ given_none (list_any (int_eq z) (map (moved old new) (property r old))) new
           ∙ sym (ap (λ (o : Option ℤ). option_map (with_new_id old new) (option_and_then r.entry o)) none)
       | inr some ↦
           let y = some.0 in
           let came = some.1 in
-          let in_list = moved_in old new z y (property r old) came (its_not_new r old new t) ∙ its_by r old y (is_property old (r.entry y)) t.valid refl in
+          let in_list = moved_in old new z y (property r old) came (its_not_new r old new t)
+          ∙ its_by r old y (is_property old (r.entry y)) t.valid refl in
           ap (λ (b : Bool). cond b (option_map (with_owner new) ((there r old new).entry z)) ((there r old new).entry z)) in_list
-          ∙ ap (λ (o : Option PrEntry). cond (is_property old (r.entry y)) (option_map (with_owner new) o) o) (there_at r old new z y t.valid came.before_is)
+          ∙ ap (λ (o : Option PrEntry). cond (is_property old (r.entry y)) (option_map (with_owner new) o) o)
+          (there_at r old new z y t.valid came.before_is)
           ∙ given_by old new (r.entry y) (is_property old (r.entry y)) refl
           ∙ sym (ap (λ (o : Option ℤ). option_map (with_new_id old new) (option_and_then r.entry o)) came.before_is)
     ]
@@ -289,11 +309,13 @@ end_each r old new z t =
 pub end_is : (r : Registry) (old new : ℤ) → IsMoving r old new
     → with_owners new (map (moved old new) (property r old)) (there r old new) ≡ renumbered old new r
 end_is r old new t =
-    registry_is (with_owners new (map (moved old new) (property r old)) (there r old new)) (renumbered old new r) (λ z. end_each r old new z t) refl refl
+    registry_is (with_owners new (map (moved old new) (property r old)) (there r old new)) (renumbered old new r)
+    (λ z. end_each r old new z t) refl refl
 
 -- ---- the last step may be made
 
-there_some : (r : Registry) (old new z y : ℤ) → IsRegistry r → before old new z ≡ Some y → IsSome (r.entry y) → IsSome ((there r old new).entry z)
+there_some : (r : Registry) (old new z y : ℤ) → IsRegistry r → before old new z ≡ Some y → IsSome (r.entry y)
+    → IsSome ((there r old new).entry z)
 there_some r old new z y valid is some =
     subst (λ (o : Option PrEntry). IsSome o) (sym (there_at r old new z y valid is))
     (map_there (with_moved_id old new) (option_map (disowned old) (r.entry y)) (map_there (disowned old) (r.entry y) some))
@@ -306,7 +328,8 @@ went old new x not_new =
     (λ apart.
     ap (before old new) (moved_other old new x apart) ∙ before_other old new x not_new apart)
 
-moved_there : (r : Registry) (old new : ℤ) (xs : List ℤ) → IsRegistry r → AllByRecursion (λ x. x ≢ new) xs → AllByRecursion (λ x. IsSome (r.entry x)) xs
+moved_there : (r : Registry) (old new : ℤ) (xs : List ℤ) → IsRegistry r → AllByRecursion (λ x. x ≢ new) xs
+    → AllByRecursion (λ x. IsSome (r.entry x)) xs
     → AllByRecursion (λ x. IsSome ((there r old new).entry x)) (map (moved old new) xs)
 moved_there r old new [] valid apart some = tt
 moved_there r old new (x ∷ xs) valid apart some = (
@@ -317,7 +340,8 @@ moved_there r old new (x ∷ xs) valid apart some = (
 abbrev pub moved_state : (old new : ℤ) → State → State
 moved_state old new s = record { registry = there s.registry old new; is_in = (moved_members old new (members_of s)).has }
 
-pub may_come : (s : State) (old new : ℤ) → IsMoving s.registry old new → MayGive (map (moved old new) (property s.registry old)) new (moved_state old new s)
+pub may_come : (s : State) (old new : ℤ) → IsMoving s.registry old new
+    → MayGive (map (moved old new) (property s.registry old)) new (moved_state old new s)
 may_come s old new t = record {
   there = moved_there s.registry old new (property s.registry old) t.valid (its_not_new s.registry old new t) (its_there s.registry old);
   owner_there = inr (there_some s.registry old new new old t.valid (before_new old new new refl) t.may.there);
@@ -325,7 +349,8 @@ may_come s old new t = record {
 
 -- ---- the image
 
-lists_ascend : (image : List ℕ) (s : State) (id : ℤ) → (holds : HoldsState image s) → IsSome (s.registry.entry id) → IsAscending (holds.lists id).ids
+lists_ascend : (image : List ℕ) (s : State) (id : ℤ) → (holds : HoldsState image s) → IsSome (s.registry.entry id)
+    → IsAscending (holds.lists id).ids
 lists_ascend image s id holds there =
     let e = some_is (s.registry.entry id) there in
     let k = holds.holds.laid.only id e.0 e.1 in
@@ -334,7 +359,8 @@ lists_ascend image s id holds there =
 
 ids_are : (image : List ℕ) (s : State) (id : ℤ) → (holds : HoldsState image s) → IsSome (s.registry.entry id)
     → IsListOf (λ other. are_paired (members_of s) id other ≡ true) (holds.lists id).ids
-ids_are image s id holds there = record { ascending = lists_ascend image s id holds there; each = holds.each id there; all = holds.all id there }
+ids_are image s id holds there =
+    record { ascending = lists_ascend image s id holds there; each = holds.each id there; all = holds.all id there }
 
 -- the groups in which a user is, or the users in a group
 pub list_of : (image : List ℕ) (s : State) (id : ℤ) → HoldsState image s → IsSome (s.registry.entry id)
@@ -343,7 +369,8 @@ list_of image s id holds there =
     let list : IsListOf (λ other. are_paired (members_of s) id other ≡ true) (holds.lists id).ids = ids_are image s id holds there in
     subst (IsListOf (λ other. are_paired (members_of s) id other ≡ true)) (elements_are image s id (holds.lists id).ids holds list) list
 
-pub renumber_keeps : GivesKeep → MoveKeeps → (image : List ℕ) (s : State) (old new : ℤ) → HoldsState image s → MayRenumber old new s.registry
+pub renumber_keeps : GivesKeep → MoveKeeps → (image : List ℕ) (s : State) (old new : ℤ) → HoldsState image s
+    → MayRenumber old new s.registry
     → HoldsPairs (after_renumber old new s image) (renumbered old new s.registry) (moved_members old new (members_of s))
 unfolding after_renumber
 renumber_keeps gives moves image s old new holds may =
@@ -351,8 +378,10 @@ renumber_keeps gives moves image s old new holds may =
     let its = property s.registry old in
     let one = gives image s its (pos 0) holds (may_leave s old) in
     let others = list_of image s old holds may.there in
-    let two = moves (after_gives (pos 0) its s.registry image) (left s.registry old) (members_of s) old new (elements s old) one (may_move s.registry old new t) others in
+    let two = moves (after_gives (pos 0) its s.registry image) (left s.registry old) (members_of s) old new (elements s old) one
+    (may_move s.registry old new t) others in
     let moved_image = after_move old new (elements s old) (after_gives (pos 0) its s.registry image) in
     let three = gives moved_image (moved_state old new s) (map (moved old new) its) new two (may_come s old new t) in
-    subst (λ (x : Registry). HoldsPairs (after_gives new (map (moved old new) its) (there s.registry old new) moved_image) x (moved_members old new (members_of s)))
+    subst (λ (x : Registry). HoldsPairs (after_gives new (map (moved old new) its) (there s.registry old new) moved_image) x
+    (moved_members old new (members_of s)))
     (end_is s.registry old new t) three

@@ -34,31 +34,43 @@ AreUnder bytes whole ids = OfStates bytes (λ s. ids ≡ under s.registry whole)
 abbrev pub Fronts : (bytes after : Option (List ℕ)) → (front : List ℕ) → List ℤ → Type 0
 Fronts bytes after front ids = Leaves bytes (λ s. MayFronts front ids s.registry) (λ s. after_fronts front ids s.registry) after
 
-may_all : (s : State) (image : List ℕ) (e : PrEntry) (name : List ℕ) (owner : ℤ) (front : List ℕ) (ids : List ℤ) → HoldsState image s → MayRename e name owner s.registry
+may_all : (s : State) (image : List ℕ) (e : PrEntry) (name : List ℕ) (owner : ℤ) (front : List ℕ) (ids : List ℤ) → HoldsState image s
+    → MayRename e name owner s.registry
     → front ≡ front_of name → ids ≡ under s.registry e.name → MayFronts front ids s.registry
 may_all s image e name owner front ids holds may is are =
     let t : IsTurning s.registry e name owner = record { valid = holds.holds.valid; may = may } in
-    let all = may_fronts s.registry e name owner (under s.registry e.name) s.registry t (partly_none s.registry e.name (front_of name)) (are_under s.registry e.name) in
-    subst (λ (f : List ℕ). MayFronts f ids s.registry) (sym is) (subst (λ (xs : List ℤ). MayFronts (front_of name) xs s.registry) (sym are) all)
+    let all = may_fronts s.registry e name owner (under s.registry e.name) s.registry t (partly_none s.registry e.name (front_of name))
+    (are_under s.registry e.name) in
+    subst (λ (f : List ℕ). MayFronts f ids s.registry) (sym is)
+    (subst (λ (xs : List ℤ). MayFronts (front_of name) xs s.registry) (sym are) all)
 
 -- the bytes once what is named after the entry has turned
-fronts_at : (image : List ℕ) (look mid : Option (List ℕ)) (s : State) (e : PrEntry) (name : List ℕ) (owner : ℤ) (front : List ℕ) (ids : List ℤ) → HoldsState image s
-    → MayRename e name owner s.registry → front ≡ front_of name → ids ≡ under s.registry e.name → look ≡ Some image → Fronts look mid front ids
+fronts_at : (image : List ℕ) (look mid : Option (List ℕ)) (s : State) (e : PrEntry) (name : List ℕ) (owner : ℤ) (front : List ℕ)
+    (ids : List ℤ) → HoldsState image s
+    → MayRename e name owner s.registry → front ≡ front_of name → ids ≡ under s.registry e.name → look ≡ Some image
+    → Fronts look mid front ids
     → mid ≡ Some (after_fronts (front_of name) (under s.registry e.name) s.registry image)
 fronts_at image look mid s e name owner front ids holds may is are same fronts =
-    at_some look image (λ i. (s : State) → HoldsState i s → MayFronts front ids s.registry → mid ≡ Some (after_fronts front ids s.registry i)) same fronts s holds
+    at_some look image (λ i. (s : State) → HoldsState i s → MayFronts front ids s.registry
+    → mid ≡ Some (after_fronts front ids s.registry i)) same fronts s holds
     (may_all s image e name owner front ids holds may is are)
-    ∙ ap (λ (f : List ℕ). Some (after_fronts f ids s.registry image)) is ∙ ap (λ (xs : List ℤ). Some (after_fronts (front_of name) xs s.registry image)) are
+    ∙ ap (λ (f : List ℕ). Some (after_fronts f ids s.registry image)) is
+    ∙ ap (λ (xs : List ℤ). Some (after_fronts (front_of name) xs s.registry image)) are
 
-rename_bytes : (bytes look mid after : Option (List ℕ)) (e x : PrEntry) (name : List ℕ) (owner : ℤ) (front : List ℕ) (ids : List ℤ) → AreUnder bytes e.name ids
-    → look ≡ bytes → front ≡ front_of name → Fronts look mid front ids → x ≡ named name owner e → after ≡ option_map (after_replace x.id x) mid
+rename_bytes : (bytes look mid after : Option (List ℕ)) (e x : PrEntry) (name : List ℕ) (owner : ℤ) (front : List ℕ) (ids : List ℤ)
+    → AreUnder bytes e.name ids
+    → look ≡ bytes → front ≡ front_of name → Fronts look mid front ids → x ≡ named name owner e
+    → after ≡ option_map (after_replace x.id x) mid
     → Leaves bytes (λ s. MayRename e name owner s.registry) (λ s. after_rename e name owner s.registry) after
 unfolding after_rename
 rename_bytes None look mid after e x name owner front ids found same is fronts so made = tt
 rename_bytes (Some image) look mid after e x name owner front ids found same is fronts so made = λ s holds may.
-    made ∙ ap (λ (y : PrEntry). option_map (after_replace y.id y) mid) so ∙ ap (option_map (after_replace e.id (named name owner e))) (fronts_at image look mid s e name owner front ids holds may is (found s holds) same fronts)
+    made ∙ ap (λ (y : PrEntry). option_map (after_replace y.id y) mid) so
+    ∙ ap (option_map (after_replace e.id (named name owner e)))
+    (fronts_at image look mid s e name owner front ids holds may is (found s holds) same fronts)
 
-pub rename_ok : {T : Type 0} (res : Result T RecordFault) (bytes look mid after : Option (List ℕ)) (e x : PrEntry) (name : List ℕ) (owner : ℤ) (front : List ℕ) (ids : List ℤ)
+pub rename_ok : {T : Type 0} (res : Result T RecordFault) (bytes look mid after : Option (List ℕ)) (e x : PrEntry) (name : List ℕ)
+    (owner : ℤ) (front : List ℕ) (ids : List ℤ)
     → AreUnder bytes e.name ids → look ≡ bytes → front ≡ front_of name → Fronts look mid front ids → x ≡ named name owner e
     → OnOk res (after ≡ option_map (after_replace x.id x) mid)
     → OnOk res (Leaves bytes (λ s. MayRename e name owner s.registry) (λ s. after_rename e name owner s.registry) after)
@@ -66,7 +78,8 @@ rename_ok (Err fault) bytes look mid after e x name owner front ids found same i
 rename_ok (Ok v) bytes look mid after e x name owner front ids found same is fronts so made =
     rename_bytes bytes look mid after e x name owner front ids found same is fronts so made
 
-pub fronts_cause : (bytes look : Option (List ℕ)) (e : PrEntry) (name : List ℕ) (owner : ℤ) (front : List ℕ) (ids : List ℤ) (fault : RecordFault) → AreUnder bytes e.name ids
+pub fronts_cause : (bytes look : Option (List ℕ)) (e : PrEntry) (name : List ℕ) (owner : ℤ) (front : List ℕ) (ids : List ℤ)
+    (fault : RecordFault) → AreUnder bytes e.name ids
     → look ≡ bytes → front ≡ front_of name → HasChangeCause look (λ s. MayFronts front ids s.registry) fault
     → HasChangeCause bytes (λ s. MayRename e name owner s.registry) fault
 fronts_cause bytes look e name owner front ids DiskFault found same is cause = tt
@@ -76,8 +89,10 @@ fronts_cause (Some image) look e name owner front ids (BadRecord at) found same 
     (some.0, some.1, may_all some.0 image e name owner front ids some.1 some.2 is (found some.0 some.1))
 fronts_cause bytes look e name owner front ids NoMemory found same is cause = tt
 
-put_cause : (bytes look mid : Option (List ℕ)) (e x : PrEntry) (name : List ℕ) (owner : ℤ) (front : List ℕ) (ids : List ℤ) (fault : RecordFault) → AreUnder bytes e.name ids
-    → look ≡ bytes → front ≡ front_of name → Fronts look mid front ids → x ≡ named name owner e → HasCause mid (λ image r. Holds image r × MayStand r x) fault
+put_cause : (bytes look mid : Option (List ℕ)) (e x : PrEntry) (name : List ℕ) (owner : ℤ) (front : List ℕ) (ids : List ℤ)
+    (fault : RecordFault) → AreUnder bytes e.name ids
+    → look ≡ bytes → front ≡ front_of name → Fronts look mid front ids → x ≡ named name owner e
+    → HasCause mid (λ image r. Holds image r × MayStand r x) fault
     → HasChangeCause bytes (λ s. MayRename e name owner s.registry) fault
 put_cause bytes look mid e x name owner front ids DiskFault found same is fronts so cause = tt
 put_cause None look mid e x name owner front ids (BadRecord at) found same is fronts so cause = tt
@@ -86,16 +101,19 @@ put_cause (Some image) look mid e x name owner front ids (BadRecord at) found sa
     let r = s.registry in
     let t : IsTurning r e name owner = record { valid = some.1.holds.valid; may = some.2 } in
     let those = under r e.name in
-    let held = fronts_keep (front_of name) those image r (members_of s) some.1 (may_fronts r e name owner those r t (partly_none r e.name (front_of name)) (are_under r e.name)) in
+    let held = fronts_keep (front_of name) those image r (members_of s) some.1
+    (may_fronts r e name owner those r t (partly_none r e.name (front_of name)) (are_under r e.name)) in
     let now = with_fronts (front_of name) those r in
     at_some mid (after_fronts (front_of name) those r image) (λ i. (q : Registry) → (Holds i q × MayStand q x) → ⊥)
     (fronts_at image look mid s e name owner front ids some.1 some.2 is (found s some.1) same fronts) cause now
     (held.holds, subst (MayStand now) (sym so) (may_own r e name owner t, some.2.good))
 put_cause bytes look mid e x name owner front ids NoMemory found same is fronts so cause = tt
 
-pub put_err : {T : Type 0} (res : Result T RecordFault) (bytes look mid : Option (List ℕ)) (e x : PrEntry) (name : List ℕ) (owner : ℤ) (front : List ℕ) (ids : List ℤ)
+pub put_err : {T : Type 0} (res : Result T RecordFault) (bytes look mid : Option (List ℕ)) (e x : PrEntry) (name : List ℕ) (owner : ℤ)
+    (front : List ℕ) (ids : List ℤ)
     → AreUnder bytes e.name ids → look ≡ bytes → front ≡ front_of name → Fronts look mid front ids → x ≡ named name owner e
-    → IfErr res (HasCause mid (λ image r. Holds image r × MayStand r x)) → IfErr res (HasChangeCause bytes (λ s. MayRename e name owner s.registry))
+    → IfErr res (HasCause mid (λ image r. Holds image r × MayStand r x))
+    → IfErr res (HasChangeCause bytes (λ s. MayRename e name owner s.registry))
 put_err (Err fault) bytes look mid e x name owner front ids found same is fronts so cause =
     put_cause bytes look mid e x name owner front ids fault found same is fronts so cause
 put_err (Ok v) bytes look mid e x name owner front ids found same is fronts so cause = tt
@@ -109,7 +127,8 @@ abbrev pub Gives : (bytes after : Option (List ℕ)) → List ℤ → (owner : �
 Gives bytes after ids owner = Leaves bytes (MayGive ids owner) (λ s. after_gives owner ids s.registry) after
 
 abbrev pub Moves : (bytes after : Option (List ℕ)) → (old new : ℤ) → Type 0
-Moves bytes after old new = IfSome bytes (λ image. (r : Registry) (m : Members) → HoldsPairs image r m → MayMove old new r → IsMoved old new m image after)
+Moves bytes after old new =
+    IfSome bytes (λ image. (r : Registry) (m : Members) → HoldsPairs image r m → MayMove old new r → IsMoved old new m image after)
 
 abbrev given : (old : ℤ) → State → List ℕ → List ℕ
 given old s image = after_gives (pos 0) (property s.registry old) s.registry image
@@ -121,20 +140,24 @@ abbrev gone : (old new : ℤ) → State → List ℕ → List ℕ
 gone old new s image = after_move old new (elements s old) (given old s image)
 
 -- what its first step leaves
-given_at : (image : List ℕ) (look b2 : Option (List ℕ)) (s : State) (old : ℤ) (its : List ℤ) → HoldsState image s → its ≡ property s.registry old → look ≡ Some image
+given_at : (image : List ℕ) (look b2 : Option (List ℕ)) (s : State) (old : ℤ) (its : List ℤ) → HoldsState image s
+    → its ≡ property s.registry old → look ≡ Some image
     → Gives look b2 its (pos 0) → b2 ≡ Some (given old s image)
 given_at image look b2 s old its holds are same gives =
-    at_some look image (λ i. (s : State) → HoldsState i s → MayGive its (pos 0) s → b2 ≡ Some (after_gives (pos 0) its s.registry i)) same gives s holds
+    at_some look image (λ i. (s : State) → HoldsState i s → MayGive its (pos 0) s
+    → b2 ≡ Some (after_gives (pos 0) its s.registry i)) same gives s holds
     (subst (λ (xs : List ℤ). MayGive xs (pos 0) s) (sym are) (may_leave s old))
     ∙ ap (λ (xs : List ℤ). Some (after_gives (pos 0) xs s.registry image)) are
 
 -- and its second one
-gone_at : GivesKeep → (image : List ℕ) (b2 b3 : Option (List ℕ)) (s : State) (old new : ℤ) → HoldsState image s → MayRenumber old new s.registry
+gone_at : GivesKeep → (image : List ℕ) (b2 b3 : Option (List ℕ)) (s : State) (old new : ℤ) → HoldsState image s
+    → MayRenumber old new s.registry
     → b2 ≡ Some (given old s image) → Moves b2 b3 old new → b3 ≡ Some (gone old new s image)
 gone_at keep image b2 b3 s old new holds may at moves =
     let t : IsMoving s.registry old new = record { valid = holds.holds.valid; may = may } in
     let held = keep image s (property s.registry old) (pos 0) holds (may_leave s old) in
-    at_some b2 (given old s image) (λ i. (r : Registry) (m : Members) → HoldsPairs i r m → MayMove old new r → IsMoved old new m i b3) at moves
+    at_some b2 (given old s image)
+    (λ i. (r : Registry) (m : Members) → HoldsPairs i r m → MayMove old new r → IsMoved old new m i b3) at moves
     (given_state old s).registry (members_of s) held (may_move s.registry old new t) (elements s old) (list_of image s old holds may.there)
 
 gone_holds : GivesKeep → MoveKeeps → (image : List ℕ) (s : State) (old new : ℤ) → HoldsState image s → MayRenumber old new s.registry
@@ -142,18 +165,21 @@ gone_holds : GivesKeep → MoveKeeps → (image : List ℕ) (s : State) (old new
 gone_holds keep moves image s old new holds may =
     let t : IsMoving s.registry old new = record { valid = holds.holds.valid; may = may } in
     let held = keep image s (property s.registry old) (pos 0) holds (may_leave s old) in
-    moves (given old s image) (given_state old s).registry (members_of s) old new (elements s old) held (may_move s.registry old new t) (list_of image s old holds may.there)
+    moves (given old s image) (given_state old s).registry (members_of s) old new (elements s old) held (may_move s.registry old new t)
+    (list_of image s old holds may.there)
 
 abbrev there : (old new : ℤ) → State → List ℤ
 there old new s = map (moved old new) (property s.registry old)
 
-may_last : (s : State) (image : List ℕ) (old new : ℤ) (its ids : List ℤ) → HoldsState image s → MayRenumber old new s.registry → its ≡ property s.registry old
+may_last : (s : State) (image : List ℕ) (old new : ℤ) (its ids : List ℤ) → HoldsState image s → MayRenumber old new s.registry
+    → its ≡ property s.registry old
     → ids ≡ map (moved old new) its → MayGive ids new (moved_state old new s)
 may_last s image old new its ids holds may are is =
     let t : IsMoving s.registry old new = record { valid = holds.holds.valid; may = may } in
     subst (λ (xs : List ℤ). MayGive xs new (moved_state old new s)) (sym (is ∙ ap (map (moved old new)) are)) (may_come s old new t)
 
-renumber_bytes : GivesKeep → MoveKeeps → (bytes look b2 b3 after : Option (List ℕ)) (old new : ℤ) (its ids : List ℤ) → AreIts bytes old its → look ≡ bytes
+renumber_bytes : GivesKeep → MoveKeeps → (bytes look b2 b3 after : Option (List ℕ)) (old new : ℤ) (its ids : List ℤ)
+    → AreIts bytes old its → look ≡ bytes
     → Gives look b2 its (pos 0) → Moves b2 b3 old new → ids ≡ map (moved old new) its → Gives b3 after ids new
     → Leaves bytes (λ s. MayRenumber old new s.registry) (after_renumber old new) after
 unfolding after_renumber
@@ -161,12 +187,16 @@ renumber_bytes keep moved_keeps None look b2 b3 after old new its ids found same
 renumber_bytes keep moved_keeps (Some image) look b2 b3 after old new its ids found same first moves is last = λ s holds may.
     let are = found s holds in
     let at = gone_at keep image b2 b3 s old new holds may (given_at image look b2 s old its holds are same first) moves in
-    at_some b3 (gone old new s image) (λ i. (s : State) → HoldsState i s → MayGive ids new s → after ≡ Some (after_gives new ids s.registry i)) at last
+    at_some b3 (gone old new s image)
+    (λ i. (s : State) → HoldsState i s → MayGive ids new s → after ≡ Some (after_gives new ids s.registry i)) at last
     (moved_state old new s) (gone_holds keep moved_keeps image s old new holds may) (may_last s image old new its ids holds may are is)
-    ∙ ap (λ (xs : List ℤ). Some (after_gives new xs (moved_state old new s).registry (gone old new s image))) (is ∙ ap (map (moved old new)) are)
+    ∙ ap (λ (xs : List ℤ). Some (after_gives new xs (moved_state old new s).registry (gone old new s image)))
+    (is ∙ ap (map (moved old new)) are)
 
-pub renumber_ok : GivesKeep → MoveKeeps → {T : Type 0} (res : Result T RecordFault) (bytes look b2 b3 after : Option (List ℕ)) (old new : ℤ) (its ids : List ℤ)
-    → AreIts bytes old its → look ≡ bytes → Gives look b2 its (pos 0) → Moves b2 b3 old new → ids ≡ map (moved old new) its → OnOk res (Gives b3 after ids new)
+pub renumber_ok : GivesKeep → MoveKeeps
+    → {T : Type 0} (res : Result T RecordFault) (bytes look b2 b3 after : Option (List ℕ)) (old new : ℤ) (its ids : List ℤ)
+    → AreIts bytes old its → look ≡ bytes → Gives look b2 its (pos 0) → Moves b2 b3 old new → ids ≡ map (moved old new) its
+    → OnOk res (Gives b3 after ids new)
     → OnOk res (Leaves bytes (λ s. MayRenumber old new s.registry) (after_renumber old new) after)
 renumber_ok keep moved_keeps (Err fault) bytes look b2 b3 after old new its ids found same first moves is last = tt
 renumber_ok keep moved_keeps (Ok x) bytes look b2 b3 after old new its ids found same first moves is last =
@@ -181,8 +211,10 @@ first_cause (Some image) look old new its (BadRecord at) found same cause = λ s
     (some.0, some.1, subst (λ (xs : List ℤ). MayGive xs (pos 0) some.0) (sym (found some.0 some.1)) (may_leave some.0 old))
 first_cause bytes look old new its NoMemory found same cause = tt
 
-pub move_cause : GivesKeep → (bytes look b2 : Option (List ℕ)) (old new : ℤ) (its : List ℤ) (fault : RecordFault) → AreIts bytes old its → look ≡ bytes
-    → Gives look b2 its (pos 0) → HasPairCause b2 (λ r m. MayMove old new r) fault → HasChangeCause bytes (λ s. MayRenumber old new s.registry) fault
+pub move_cause : GivesKeep → (bytes look b2 : Option (List ℕ)) (old new : ℤ) (its : List ℤ) (fault : RecordFault) → AreIts bytes old its
+    → look ≡ bytes
+    → Gives look b2 its (pos 0) → HasPairCause b2 (λ r m. MayMove old new r) fault
+    → HasChangeCause bytes (λ s. MayRenumber old new s.registry) fault
 move_cause keep bytes look b2 old new its DiskFault found same first cause = tt
 move_cause keep None look b2 old new its (BadRecord at) found same first cause = tt
 move_cause keep (Some image) look b2 old new its (BadRecord at) found same first cause = λ some.
@@ -194,7 +226,8 @@ move_cause keep (Some image) look b2 old new its (BadRecord at) found same first
     ((given_state old s).registry, members_of s, held, may_move s.registry old new t)
 move_cause keep bytes look b2 old new its NoMemory found same first cause = tt
 
-last_cause : GivesKeep → MoveKeeps → (bytes look b2 b3 : Option (List ℕ)) (old new : ℤ) (its ids : List ℤ) (fault : RecordFault) → AreIts bytes old its → look ≡ bytes
+last_cause : GivesKeep → MoveKeeps → (bytes look b2 b3 : Option (List ℕ)) (old new : ℤ) (its ids : List ℤ) (fault : RecordFault)
+    → AreIts bytes old its → look ≡ bytes
     → Gives look b2 its (pos 0) → Moves b2 b3 old new → ids ≡ map (moved old new) its → HasChangeCause b3 (MayGive ids new) fault
     → HasChangeCause bytes (λ s. MayRenumber old new s.registry) fault
 last_cause keep moved_keeps bytes look b2 b3 old new its ids DiskFault found same first moves is cause = tt
@@ -203,11 +236,16 @@ last_cause keep moved_keeps (Some image) look b2 b3 old new its ids (BadRecord a
     let s = some.0 in
     let are = found s some.1 in
     at_some b3 (gone old new s image) (λ i. ((t : State) × HoldsState i t × MayGive ids new t) → ⊥)
-    (gone_at keep image b2 b3 s old new some.1 some.2 (given_at image look b2 s old its some.1 are same first) moves) cause
-    (moved_state old new s, gone_holds keep moved_keeps image s old new some.1 some.2, may_last s image old new its ids some.1 some.2 are is)
+    (gone_at keep image b2 b3 s old new some.1 some.2 (given_at image look b2 s old its some.1 are same first) moves) cause (
+      moved_state old new s,
+      gone_holds keep moved_keeps image s old new some.1 some.2,
+      may_last s image old new its ids some.1 some.2 are
+          is,
+    )
 last_cause keep moved_keeps bytes look b2 b3 old new its ids NoMemory found same first moves is cause = tt
 
-pub last_err : GivesKeep → MoveKeeps → {T : Type 0} (res : Result T RecordFault) (bytes look b2 b3 : Option (List ℕ)) (old new : ℤ) (its ids : List ℤ)
+pub last_err : GivesKeep → MoveKeeps
+    → {T : Type 0} (res : Result T RecordFault) (bytes look b2 b3 : Option (List ℕ)) (old new : ℤ) (its ids : List ℤ)
     → AreIts bytes old its → look ≡ bytes → Gives look b2 its (pos 0) → Moves b2 b3 old new → ids ≡ map (moved old new) its
     → IfErr res (HasChangeCause b3 (MayGive ids new)) → IfErr res (HasChangeCause bytes (λ s. MayRenumber old new s.registry))
 last_err keep moved_keeps (Err fault) bytes look b2 b3 old new its ids found same first moves is cause =
@@ -232,7 +270,8 @@ not_same : (id own : ℤ) (P : Type 0) → int_eq id own ≡ false → (id ≡ o
 not_same id own P other (inl same) = absurd (let is = to_id id own same in let both : true ≡ false = sym is ∙ other in cc)
 not_same id own P other (inr p) = p
 
-turn_bytes : (bytes mid after : Option (List ℕ)) (e : PrEntry) (name : List ℕ) (owner id : ℤ) → Renames bytes mid e name owner → int_eq id e.id ≡ false
+turn_bytes : (bytes mid after : Option (List ℕ)) (e : PrEntry) (name : List ℕ) (owner id : ℤ) → Renames bytes mid e name owner
+    → int_eq id e.id ≡ false
     → Leaves mid (λ s. MayRenumber e.id id s.registry) (after_renumber e.id id) after
     → Leaves bytes (λ s. MayTurn e name owner id s.registry) (after_turn e name owner id) after
 unfolding after_turn
@@ -241,24 +280,29 @@ turn_bytes (Some image) mid after e name owner id renames other moves = λ s hol
     let here = after_rename e name owner s.registry image in
     let moved_image = after_renumber e.id id (named_state e name owner s) here in
     let new = not_same id e.id (MayRenumber e.id id s.registry) other may.1 in
-    at_some mid here (λ i. (t : State) → HoldsState i t → MayRenumber e.id id t.registry → after ≡ Some (after_renumber e.id id t i)) (renames s holds may.0) moves
-    (named_state e name owner s) (rename_keeps image s.registry (members_of s) e name owner holds may.0) (may_still s.registry e name owner id new)
+    at_some mid here (λ i. (t : State) → HoldsState i t → MayRenumber e.id id t.registry → after ≡ Some (after_renumber e.id id t i))
+    (renames s holds may.0) moves
+    (named_state e name owner s) (rename_keeps image s.registry (members_of s) e name owner holds may.0)
+    (may_still s.registry e name owner id new)
     ∙ ap (λ (b : Bool). Some (cond b here moved_image)) (sym other)
 
-pub turn_ok : {T : Type 0} (res : Result T RecordFault) (bytes mid after : Option (List ℕ)) (e : PrEntry) (name : List ℕ) (owner id : ℤ) → Renames bytes mid e name owner
+pub turn_ok : {T : Type 0} (res : Result T RecordFault) (bytes mid after : Option (List ℕ)) (e : PrEntry) (name : List ℕ) (owner id : ℤ)
+    → Renames bytes mid e name owner
     → int_eq id e.id ≡ false → OnOk res (Leaves mid (λ s. MayRenumber e.id id s.registry) (after_renumber e.id id) after)
     → OnOk res (Leaves bytes (λ s. MayTurn e name owner id s.registry) (after_turn e name owner id) after)
 turn_ok (Err fault) bytes mid after e name owner id renames other moves = tt
 turn_ok (Ok x) bytes mid after e name owner id renames other moves = turn_bytes bytes mid after e name owner id renames other moves
 
 pub rename_cause : (bytes : Option (List ℕ)) (e : PrEntry) (name : List ℕ) (owner id : ℤ) (fault : RecordFault)
-    → HasChangeCause bytes (λ s. MayRename e name owner s.registry) fault → HasChangeCause bytes (λ s. MayTurn e name owner id s.registry) fault
+    → HasChangeCause bytes (λ s. MayRename e name owner s.registry) fault
+    → HasChangeCause bytes (λ s. MayTurn e name owner id s.registry) fault
 rename_cause bytes e name owner id DiskFault cause = tt
 rename_cause None e name owner id (BadRecord at) cause = tt
 rename_cause (Some image) e name owner id (BadRecord at) cause = λ some. cause (some.0, some.1, some.2.0)
 rename_cause bytes e name owner id NoMemory cause = tt
 
-turn_cause : (bytes mid : Option (List ℕ)) (e : PrEntry) (name : List ℕ) (owner id : ℤ) (fault : RecordFault) → Renames bytes mid e name owner → int_eq id e.id ≡ false
+turn_cause : (bytes mid : Option (List ℕ)) (e : PrEntry) (name : List ℕ) (owner id : ℤ) (fault : RecordFault)
+    → Renames bytes mid e name owner → int_eq id e.id ≡ false
     → HasChangeCause mid (λ s. MayRenumber e.id id s.registry) fault → HasChangeCause bytes (λ s. MayTurn e name owner id s.registry) fault
 turn_cause bytes mid e name owner id DiskFault renames other cause = tt
 turn_cause None mid e name owner id (BadRecord at) renames other cause = tt
@@ -272,7 +316,9 @@ turn_cause (Some image) mid e name owner id (BadRecord at) renames other cause =
     )
 turn_cause bytes mid e name owner id NoMemory renames other cause = tt
 
-pub turn_err : {T : Type 0} (res : Result T RecordFault) (bytes mid : Option (List ℕ)) (e : PrEntry) (name : List ℕ) (owner id : ℤ) → Renames bytes mid e name owner
-    → int_eq id e.id ≡ false → IfErr res (HasChangeCause mid (λ s. MayRenumber e.id id s.registry)) → IfErr res (HasChangeCause bytes (λ s. MayTurn e name owner id s.registry))
+pub turn_err : {T : Type 0} (res : Result T RecordFault) (bytes mid : Option (List ℕ)) (e : PrEntry) (name : List ℕ) (owner id : ℤ)
+    → Renames bytes mid e name owner
+    → int_eq id e.id ≡ false → IfErr res (HasChangeCause mid (λ s. MayRenumber e.id id s.registry))
+    → IfErr res (HasChangeCause bytes (λ s. MayTurn e name owner id s.registry))
 turn_err (Err fault) bytes mid e name owner id renames other cause = turn_cause bytes mid e name owner id fault renames other cause
 turn_err (Ok x) bytes mid e name owner id renames other cause = tt

@@ -55,10 +55,12 @@ both_stay s user group a b one two = ap (λ (x : Option ℤ). both_in s x b) one
 same_pairs : (id : ℤ) (s : State) → members_of s ≡ moved_pairs id id s
 same_pairs id s =
     let all : s.is_in ≡ (moved_pairs id id s).has =
-    fun_ext (λ user. fun_ext (λ group. sym (both_stay s user group (before id id user) (before id id group) (stays id user) (stays id group)))) in
+    fun_ext (λ user. fun_ext
+    (λ group. sym (both_stay s user group (before id id user) (before id id group) (stays id user) (stays id group)))) in
     ap as_members all
 
-same_registry : (e : PrEntry) (name : List ℕ) (owner : ℤ) (s : State) → renamed e name owner s.registry ≡ (with_turned e name owner e.id s).registry
+same_registry : (e : PrEntry) (name : List ℕ) (owner : ℤ) (s : State)
+    → renamed e name owner s.registry ≡ (with_turned e name owner e.id s).registry
 same_registry e name owner s =
     registry_is (renamed e name owner s.registry) (with_turned e name owner e.id s).registry
     (λ z. ap (λ (o : Option ℤ). option_map (turned e name owner e.id) (option_and_then s.registry.entry o)) (sym (stays e.id z))) refl refl
@@ -82,14 +84,16 @@ turned_twice e name owner id f other =
     ∙ ap (λ (z : ℤ). record f { name = name_after e name f; id = moved e.id id f.id; owner = moved e.id id own; creator = z })
     (sym (creator_stays e.id id f (int_eq f.creator e.id) refl other))
 
-twice_at : (r : Registry) (e : PrEntry) (name : List ℕ) (owner id y : ℤ) (o : Option PrEntry) → IsRegistry r → r.entry y ≡ o → is_fixed e.id ≡ false
+twice_at : (r : Registry) (e : PrEntry) (name : List ℕ) (owner id y : ℤ) (o : Option PrEntry) → IsRegistry r → r.entry y ≡ o
+    → is_fixed e.id ≡ false
     → option_map (with_new_id e.id id) (option_map (turned e name owner e.id) o) ≡ option_map (turned e name owner id) o
 twice_at r e name owner id y None valid at fixed = refl
 twice_at r e name owner id y (Some f) valid at fixed =
     ap Some (turned_twice e name owner id f (λ same. not_fixed e.id fixed (subst IsFixedId same (valid.among y f at).creator)))
 
 twice_of : (r : Registry) (e : PrEntry) (name : List ℕ) (owner id : ℤ) (o : Option ℤ) → IsRegistry r → is_fixed e.id ≡ false
-    → option_map (with_new_id e.id id) (option_and_then (renamed e name owner r).entry o) ≡ option_map (turned e name owner id) (option_and_then r.entry o)
+    → option_map (with_new_id e.id id) (option_and_then (renamed e name owner r).entry o) ≡ option_map (turned e name owner id)
+    (option_and_then r.entry o)
 twice_of r e name owner id None valid fixed = refl
 twice_of r e name owner id (Some y) valid fixed = twice_at r e name owner id y (r.entry y) valid refl fixed
 
@@ -108,7 +112,8 @@ there_still : (e : PrEntry) (name : List ℕ) (owner : ℤ) (o : Option PrEntry)
 there_still e name owner None is = absurd cc
 there_still e name owner (Some f) is = refl
 
-pub may_still : (r : Registry) (e : PrEntry) (name : List ℕ) (owner id : ℤ) → MayRenumber e.id id r → MayRenumber e.id id (renamed e name owner r)
+pub may_still : (r : Registry) (e : PrEntry) (name : List ℕ) (owner id : ℤ) → MayRenumber e.id id r
+    → MayRenumber e.id id (renamed e name owner r)
 may_still r e name owner id may = record {
   there = there_still e name owner (r.entry e.id) may.there;
   not_fixed = may.not_fixed;
@@ -137,8 +142,10 @@ turn_same image s e name owner id same holds =
     subst (λ (bytes : List ℕ). HoldsState bytes (with_turned e name owner id s)) image_is
     (subst (λ (z : ℤ). HoldsState here (with_turned e name owner z s)) (sym same) two)
 
-turn_other : GivesKeep → MoveKeeps → (image : List ℕ) (s : State) (e : PrEntry) (name : List ℕ) (owner id : ℤ) → IsRegistry s.registry → is_fixed e.id ≡ false
-    → MayRenumber e.id id s.registry → HoldsPairs (after_rename e name owner s.registry image) (renamed e name owner s.registry) (members_of s)
+turn_other : GivesKeep → MoveKeeps → (image : List ℕ) (s : State) (e : PrEntry) (name : List ℕ) (owner id : ℤ) → IsRegistry s.registry
+    → is_fixed e.id ≡ false
+    → MayRenumber e.id id s.registry
+    → HoldsPairs (after_rename e name owner s.registry image) (renamed e name owner s.registry) (members_of s)
     → HoldsState (after_turn e name owner id s image) (with_turned e name owner id s)
 unfolding after_turn
 turn_other gives moves image s e name owner id valid fixed may holds =
@@ -162,6 +169,7 @@ turn_keeps gives moves image s e name owner id holds may =
       | inr new ↦ turn_other gives moves image s e name owner id holds.holds.valid may.0.not_fixed new named
     ]
 
-pub turned_holds : (image : List ℕ) (s : State) (e : PrEntry) (name : List ℕ) (owner id : ℤ) → HoldsState image s → MayTurn e name owner id s.registry
+pub turned_holds : (image : List ℕ) (s : State) (e : PrEntry) (name : List ℕ) (owner id : ℤ) → HoldsState image s
+    → MayTurn e name owner id s.registry
     → HoldsState (after_turn e name owner id s image) (with_turned e name owner id s)
 turned_holds image s e name owner id holds may = turn_keeps gives_keep move_keeps image s e name owner id holds may

@@ -16,7 +16,8 @@ use Rattle.pt_turns.specs.declared.deciding.Turn.{Turn}
 abbrev pub name_by : PrEntry → (name : List ℕ) → (owner : ℤ) → (found : Option PrEntry) → List ℕ
 name_by e name owner found =
     if not (length name == 0) then name
-    else if has_colon e.name && not (int_eq owner (pos 0)) && not (int_eq owner e.owner) then with_front (front_of_entry found (front_of e.name)) e.name
+    else if has_colon e.name && not (int_eq owner (pos 0))
+    && not (int_eq owner e.owner) then with_front (front_of_entry found (front_of e.name)) e.name
     else e.name
 
 -- the rule by which what is given does not fit an entry by itself
@@ -31,7 +32,8 @@ given_fault e name owner new_id found =
 -- a group's given name begins otherwise than that of its owner
 abbrev pub misnamed_by : PrEntry → (name : List ℕ) → (owner : ℤ) → (found : Option PrEntry) → Bool
 misnamed_by e name owner found =
-    is_group e.id && has_colon name && not (int_eq (given_or owner e.owner) (pos 0)) && not (bytes_eq (front_of name) (front_of_entry found (front_of name)))
+    is_group e.id && has_colon name && not (int_eq (given_or owner e.owner) (pos 0))
+    && not (bytes_eq (front_of name) (front_of_entry found (front_of name)))
 
 -- the name of an entry of this id and name, once an entry has a new one
 abbrev pub name_then : PrEntry → (new : List ℕ) → (id : ℤ) → (name : List ℕ) → List ℕ

@@ -33,7 +33,8 @@ with_fronted front (Some e) r = with_entry (fronted front e) r
 -- the entries of these ids have it, one after the other
 abbrev pub after_fronts : (front : List ℕ) → List ℤ → Registry → List ℕ → List ℕ
 after_fronts front [] r image = image
-after_fronts front (id ∷ those) r image = after_fronts front those (with_fronted front (r.entry id) r) (after_fronted front (r.entry id) image)
+after_fronts front (id ∷ those) r image =
+    after_fronts front those (with_fronted front (r.entry id) r) (after_fronted front (r.entry id) image)
 
 abbrev pub with_fronts : (front : List ℕ) → List ℤ → Registry → Registry
 with_fronts front [] r = r
@@ -68,7 +69,8 @@ unfoldable pub after_renumber : (old new : ℤ) → State → List ℕ → List 
 after_renumber old new s image =
     let its = property s.registry old in
     let left = with_owners (pos 0) its s.registry in
-    after_gives new (map (moved old new) its) (moved_registry old new left) (after_move old new (elements s old) (after_gives (pos 0) its s.registry image))
+    after_gives new (map (moved old new) its) (moved_registry old new left)
+    (after_move old new (elements s old) (after_gives (pos 0) its s.registry image))
 
 -- ---- all of it
 

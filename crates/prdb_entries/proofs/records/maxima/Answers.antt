@@ -14,7 +14,8 @@ returns-then-len-eq0-clause-exact g c =
 
 pub returns-then-len-eq0-clause-found : goal.returns-then-len-eq0-clause-found
 returns-then-len-eq0-clause-found g c =
-    maxima_found c.args.d.now.bytes _ (maxima_empty c.args.d.now.bytes c.len.result (rw c.len.ensures.size c.len.ensures.told) c.if-len-eq0.true)
+    maxima_found c.args.d.now.bytes _
+    (maxima_empty c.args.d.now.bytes c.len.result (rw c.len.ensures.size c.len.ensures.told) c.if-len-eq0.true)
 
 pub returns-clause-exact : goal.returns-clause-exact
 returns-clause-exact g c =
@@ -31,7 +32,8 @@ returns-clause-found g c = maxima_found c.args.d.now.bytes _ (returns-clause-exa
 pub returns-in_err-block_count-clause-fault : goal.returns-in_err-block_count-clause-fault
 returns-in_err-block_count-clause-fault g c =
     let p = err_from_is_err_and c.from_residual.result c.from_residual.ensures.1 in
-    rw (p.1, p.2) (fault_whole c.args.d.now.bytes c.len-2.result c.in_err-block_count.field-0.0 (rw c.len-2.ensures.size c.len-2.ensures.told) (omega arith)
+    rw (p.1, p.2) (fault_whole c.args.d.now.bytes c.len-2.result c.in_err-block_count.field-0.0
+    (rw c.len-2.ensures.size c.len-2.ensures.told) (omega arith)
     (bad_size c.args.d.now.bytes c.len-2.result c.len-2.result c.in_err-block_count.field-0.0 c.in_err-block_count.ensures.fault.0
     (rw c.len-2.ensures.size c.len-2.ensures.told) c.in_err-block_count.ensures.fault.1))
 

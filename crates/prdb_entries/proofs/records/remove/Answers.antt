@@ -11,7 +11,8 @@ returns-clause-bytes g c =
     let fits = c.ranges.id in
     let first = c.in_ok-found.ensures.found in
     let found = rw c.in-Some.is at first in
-    removed_ok c.put_whole.result c.args.d.now.bytes c.find_block.new.d.bytes c.put_whole.new.d.bytes c.args.id c.in-Some.found c.block_place.result
+    removed_ok c.put_whole.result c.args.d.now.bytes c.find_block.new.d.bytes c.put_whole.new.d.bytes c.args.id c.in-Some.found
+    c.block_place.result
     c.find_block.ensures.frame.same.bytes c.block_place.ensures
     (simp to_z-of_z at found) c.put_whole.ensures.bytes
 
@@ -20,7 +21,8 @@ returns-clause-holds g c =
     let fits = c.ranges.id in
     let first = c.in_ok-found.ensures.found in
     let found = rw c.in-Some.is at first in
-    remove_makes_ok c.put_whole.result c.args.d.now.bytes c.put_whole.new.d.bytes c.args.id c.in-Some.found (simp to_z-of_z at found) (returns-clause-bytes g c)
+    remove_makes_ok c.put_whole.result c.args.d.now.bytes c.put_whole.new.d.bytes c.args.id c.in-Some.found (simp to_z-of_z at found)
+    (returns-clause-bytes g c)
 
 pub returns-in_default-clause-fault : goal.returns-in_default-clause-fault
 returns-in_default-clause-fault g c =

@@ -27,12 +27,15 @@ returns-clause-bytes g c =
     let v = c.ranges.group in
     let test = sym c.eq.ensures ∙ c.if-eq.false in
     let words = c.in_ok-words.ensures in
-    maxima_ok c.put_whole.result c.args.d.now.bytes c.maxima.new.d.bytes c.put_whole.new.d.bytes c.args.user c.args.group c.in_ok-maxima.field-0 c.deref.result.now
-    c.maxima.ensures.frame.same.bytes c.in_ok-maxima.ensures.exact (simp to_z-of_z at test) (c.deref.ensures.value ∙ (simp to_z-of_z at words)) c.put_whole.ensures.bytes
+    maxima_ok c.put_whole.result c.args.d.now.bytes c.maxima.new.d.bytes c.put_whole.new.d.bytes c.args.user c.args.group
+    c.in_ok-maxima.field-0 c.deref.result.now
+    c.maxima.ensures.frame.same.bytes c.in_ok-maxima.ensures.exact (simp to_z-of_z at test)
+    (c.deref.ensures.value ∙ (simp to_z-of_z at words)) c.put_whole.ensures.bytes
 
 pub returns-clause-holds : goal.returns-clause-holds
 returns-clause-holds g c =
-    maxima_make_ok c.put_whole.result c.args.d.now.bytes c.put_whole.new.d.bytes c.args.user c.args.group c.requires.maxima (returns-clause-bytes g c)
+    maxima_make_ok c.put_whole.result c.args.d.now.bytes c.put_whole.new.d.bytes c.args.user c.args.group c.requires.maxima
+    (returns-clause-bytes g c)
 
 pub returns-clause-frame : goal.returns-clause-frame
 returns-clause-frame g c =

@@ -9,7 +9,8 @@ use Rattle.prdb_entries.proofs.scans.scan.Goals as goal
 pub returns-in_err-count-clause-fault : goal.returns-in_err-count-clause-fault
 returns-in_err-count-clause-fault g c =
     let p = err_from_is_err_and c.from_residual.result c.from_residual.ensures.1 in
-    rw (p.1, p.2) (bad_size c.args.d.now.bytes c.len.result c.len.result c.in_err-count.field-0.0 c.in_err-count.ensures.fault.0 (rw c.len.ensures.size c.len.ensures.told) c.in_err-count.ensures.fault.1)
+    rw (p.1, p.2) (bad_size c.args.d.now.bytes c.len.result c.len.result c.in_err-count.field-0.0 c.in_err-count.ensures.fault.0
+    (rw c.len.ensures.size c.len.ensures.told) c.in_err-count.ensures.fault.1)
 
 pub loop-number-init : goal.loop-number-init
 loop-number-init g c =
@@ -18,13 +19,15 @@ loop-number-init g c =
 
 pub loop-number-preserved : goal.loop-number-preserved
 loop-number-preserved g c =
-    scanned_more g.I.ImageRead c.args.d.now c.loop-number.d c.read_block.new.d c.args.wanted c.in_ok-count.count c.loop-number.number c.in_ok-block.block _
+    scanned_more g.I.ImageRead c.args.d.now c.loop-number.d c.read_block.new.d c.args.wanted c.in_ok-count.count c.loop-number.number
+    c.in_ok-block.block _
     c.loop-number.invariant c.read_block.ensures.frame c.in_ok-block.ensures.block (sym c.is_met.ensures ∙ c.if-is_met.false)
 
 pub returns-in_err-block-clause-fault : goal.returns-in_err-block-clause-fault
 returns-in_err-block-clause-fault g c =
     let p = err_from_is_err_and c.from_residual-in_err-block.result c.from_residual-in_err-block.ensures.1 in
-    rw (p.1, p.2) (bad_block c.args.d.now.bytes c.in_ok-count.count c.loop-number.number c.in_err-block.field-0.0 c.loop-number.invariant.told (omega arith)
+    rw (p.1, p.2) (bad_block c.args.d.now.bytes c.in_ok-count.count c.loop-number.number c.in_err-block.field-0.0
+    c.loop-number.invariant.told (omega arith)
     (subst (λ (b : Option (List ℕ)). HasCause b (λ image r. kind_of (block_in image c.loop-number.number) ≤ 2) c.in_err-block.field-0.0)
     c.loop-number.invariant.frame.same.bytes c.in_err-block.ensures.fault))
 

@@ -7,10 +7,14 @@ pub loop-init : goal.loop-init
 loop-init c = begins 5000 id_at c.args.from.now c.get_count.new.self c.in_ok-count.count c.in_ok-count.ensures.exact
 
 pub loop-preserved : goal.loop-preserved
-loop-preserved c = goes_on id_at c.in_ok-count.count c.loop.counter c.loop.from c.skip_id.new.from (rest_of (list_at 5000 id_at c.args.from.now)) c.loop-test.true c.in_ok-skip_id.ensures c.loop.invariant
+loop-preserved c =
+    goes_on id_at c.in_ok-count.count c.loop.counter c.loop.from c.skip_id.new.from
+    (rest_of (list_at 5000 id_at c.args.from.now)) c.loop-test.true c.in_ok-skip_id.ensures c.loop.invariant
 
 pub returns : goal.returns
-returns c = is_done id_at c.in_ok-count.count c.loop.counter c.loop.from (rest_of (list_at 5000 id_at c.args.from.now)) c.loop-test.false c.loop.invariant
+returns c =
+    is_done id_at c.in_ok-count.count c.loop.counter c.loop.from
+    (rest_of (list_at 5000 id_at c.args.from.now)) c.loop-test.false c.loop.invariant
 
 pub returns-in_err-count : goal.returns-in_err-count
 returns-in_err-count c =

@@ -11,7 +11,8 @@ pub returns-clause-found : goal.returns-clause-found
 returns-clause-found g c =
     let fits = c.ranges.id in
     let found = c.entry_of_id.ensures.found in
-    ok_so c.entry_of_id.result c.args.d.now.bytes (λ (found : Option PrEntry) (r : Registry). option_map seen found ≡ r.entry c.args.id) (simp to_z-of_z at found)
+    ok_so c.entry_of_id.result c.args.d.now.bytes (λ (found : Option PrEntry) (r : Registry). option_map seen found ≡ r.entry c.args.id)
+    (simp to_z-of_z at found)
 
 pub returns-clause-fault : goal.returns-clause-fault
 returns-clause-fault g c = err_so c.entry_of_id.result c.args.d.now.bytes c.entry_of_id.ensures.fault

@@ -10,7 +10,8 @@ returns-clause-found g c =
     let one = c.ranges.member in
     let two = c.ranges.group in
     let found = c.has_pair.ensures.found in
-    pairs_ok c.has_pair.result c.args.d.now.bytes (λ (there : Bool) (r : Registry) (m : Members). there ≡ m.has c.args.member c.args.group) (simp to_z-of_z at found)
+    pairs_ok c.has_pair.result c.args.d.now.bytes
+    (λ (there : Bool) (r : Registry) (m : Members). there ≡ m.has c.args.member c.args.group) (simp to_z-of_z at found)
 
 pub returns-clause-frame : goal.returns-clause-frame
 returns-clause-frame g c = as_looks g.I.ImageRead c.args.d.now c.has_pair.new.d _ c.has_pair.ensures.frame

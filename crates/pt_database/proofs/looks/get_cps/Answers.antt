@@ -17,7 +17,8 @@ returns-then-branch-clause-meant g c =
     let fits = c.ranges.id in
     let found = c.in_ok-is_unknown.ensures.found in
     let none = rw c.if-branch.true at found in
-    unknown_ends c.args.d.now.bytes c.args.id (λ (s : State) (e : PrEntry). Answers (answer.Ids (filter (counts_for s c.args.id) ids))) _ (simp to_z-of_z at none) refl
+    unknown_ends c.args.d.now.bytes c.args.id (λ (s : State) (e : PrEntry). Answers (answer.Ids (filter (counts_for s c.args.id) ids))) _
+    (simp to_z-of_z at none) refl
 
 pub returns-clause-meant : goal.returns-clause-meant
 returns-clause-meant g c =
@@ -27,8 +28,10 @@ returns-clause-meant g c =
     let known = simp to_z-of_z at some in
     let list = c.in_ok-ids.ensures.found in
     let first = c.is_unknown.ensures.frame.same in
-    known_ends c.tell_ids.result c.args.d.now.bytes c.is_unknown.new.d.bytes c.args.id (λ (s : State). filter (counts_for s c.args.id) ids) c.in_ok-ids.ids known first.bytes
-    (counts_told c.is_unknown.new.d.bytes c.args.id c.in_ok-ids.ids (simp to_z-of_z at list) (known_same c.args.d.now.bytes c.is_unknown.new.d.bytes c.args.id first.bytes known))
+    known_ends c.tell_ids.result c.args.d.now.bytes c.is_unknown.new.d.bytes c.args.id
+    (λ (s : State). filter (counts_for s c.args.id) ids) c.in_ok-ids.ids known first.bytes
+    (counts_told c.is_unknown.new.d.bytes c.args.id c.in_ok-ids.ids (simp to_z-of_z at list)
+    (known_same c.args.d.now.bytes c.is_unknown.new.d.bytes c.args.id first.bytes known))
     c.tell_ids.ensures.told
 
 pub returns-clause-fault : goal.returns-clause-fault
@@ -43,13 +46,15 @@ returns-clause-fault g c =
     err_many c.tell_ids.result c.args.d.now.bytes (length c.in_ok-ids.ids) c.tell_ids.ensures.fault
     (of_same c.args.d.now.bytes c.is_unknown.new.d.bytes (λ (s : State). length c.in_ok-ids.ids ≤ 262143) first.bytes
     (counts_few c.is_unknown.new.d.bytes c.cps.new.d.len c.args.id c.in_ok-ids.ids
-    (long_same c.is_unknown.new.d.bytes c.cps.new.d.bytes c.cps.new.d.len same.bytes c.len.ensures.told) (omega (arith, same.len, first.len, c.requires)) (simp to_z-of_z at list)
+    (long_same c.is_unknown.new.d.bytes c.cps.new.d.bytes c.cps.new.d.len same.bytes c.len.ensures.told)
+    (omega (arith, same.len, first.len, c.requires)) (simp to_z-of_z at list)
     (known_same c.args.d.now.bytes c.is_unknown.new.d.bytes c.args.id first.bytes known)))
 
 pub returns-clause-frame : goal.returns-clause-frame
 returns-clause-frame g c =
     looked_then g.I.ImageRead c.args.d.now c.is_unknown.new.d c.cps.new.d _ _ _ c.is_unknown.ensures.frame
-    (as_looks g.I.ImageRead c.is_unknown.new.d c.cps.new.d _ c.cps.ensures.frame) (λ h. absurd (no_disk_fault c.tell_ids.result _ c.tell_ids.ensures.fault h))
+    (as_looks g.I.ImageRead c.is_unknown.new.d c.cps.new.d _ c.cps.ensures.frame)
+    (λ h. absurd (no_disk_fault c.tell_ids.result _ c.tell_ids.ensures.fault h))
 
 pub returns-in_err-ids-clause-frame : goal.returns-in_err-ids-clause-frame
 returns-in_err-ids-clause-frame g c =

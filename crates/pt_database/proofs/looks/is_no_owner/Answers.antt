@@ -16,5 +16,6 @@ returns-clause-found g c =
     let fits = c.ranges.id in
     let found = c.is_unknown.ensures.found in
     no_owner_known c.is_unknown.result c.args.d.now.bytes c.args.id
-    (false_from_ne_true (int_eq c.args.id (pos 0)) (λ is. let same : c.args.id ≡ pos 0 = (Decides-int_eq c.args.id (pos 0)).0 is in omega (arith, ints)))
+    (false_from_ne_true (int_eq c.args.id (pos 0))
+    (λ is. let same : c.args.id ≡ pos 0 = (Decides-int_eq c.args.id (pos 0)).0 is in omega (arith, ints)))
     (simp to_z-of_z at found)

@@ -16,7 +16,8 @@ returns-then-branch-clause-meant g c =
     let fits = c.ranges.id in
     let found = c.in_ok-is_unknown.ensures.found in
     let none = rw c.if-branch.true at found in
-    unknown_ends c.args.d.now.bytes c.args.id (λ (s : State) (e : PrEntry). Answers (answer.Ids (elements s c.args.id))) _ (simp to_z-of_z at none) refl
+    unknown_ends c.args.d.now.bytes c.args.id (λ (s : State) (e : PrEntry). Answers (answer.Ids (elements s c.args.id))) _
+    (simp to_z-of_z at none) refl
 
 pub returns-clause-meant : goal.returns-clause-meant
 returns-clause-meant g c =
@@ -24,8 +25,10 @@ returns-clause-meant g c =
     let found = c.in_ok-is_unknown.ensures.found in
     let known = rw c.if-branch.false at found in
     let list = c.in_ok-ids.ensures.found in
-    known_ends c.tell_ids.result c.args.d.now.bytes c.is_unknown.new.d.bytes c.args.id (λ (s : State). elements s c.args.id) c.in_ok-ids.ids (simp to_z-of_z at known)
-    c.is_unknown.ensures.frame.same.bytes (elements_told c.is_unknown.new.d.bytes c.args.id c.in_ok-ids.ids (simp to_z-of_z at list)) c.tell_ids.ensures.told
+    known_ends c.tell_ids.result c.args.d.now.bytes c.is_unknown.new.d.bytes c.args.id
+    (λ (s : State). elements s c.args.id) c.in_ok-ids.ids (simp to_z-of_z at known)
+    c.is_unknown.ensures.frame.same.bytes
+    (elements_told c.is_unknown.new.d.bytes c.args.id c.in_ok-ids.ids (simp to_z-of_z at list)) c.tell_ids.ensures.told
 
 pub returns-clause-fault : goal.returns-clause-fault
 returns-clause-fault g c =
@@ -36,12 +39,14 @@ returns-clause-fault g c =
     err_many c.tell_ids.result c.args.d.now.bytes (length c.in_ok-ids.ids) c.tell_ids.ensures.fault
     (of_same c.args.d.now.bytes c.is_unknown.new.d.bytes (λ (s : State). length c.in_ok-ids.ids ≤ 262143) first.bytes
     (elements_few c.is_unknown.new.d.bytes c.elements.new.d.len c.args.id c.in_ok-ids.ids
-    (long_same c.is_unknown.new.d.bytes c.elements.new.d.bytes c.elements.new.d.len same.bytes c.len.ensures.told) (omega (arith, same.len, first.len, c.requires)) (simp to_z-of_z at list)))
+    (long_same c.is_unknown.new.d.bytes c.elements.new.d.bytes c.elements.new.d.len same.bytes c.len.ensures.told)
+    (omega (arith, same.len, first.len, c.requires)) (simp to_z-of_z at list)))
 
 pub returns-clause-frame : goal.returns-clause-frame
 returns-clause-frame g c =
     looked_then g.I.ImageRead c.args.d.now c.is_unknown.new.d c.elements.new.d _ _ _ c.is_unknown.ensures.frame
-    (as_looks g.I.ImageRead c.is_unknown.new.d c.elements.new.d _ c.elements.ensures.frame) (λ h. absurd (no_disk_fault c.tell_ids.result _ c.tell_ids.ensures.fault h))
+    (as_looks g.I.ImageRead c.is_unknown.new.d c.elements.new.d _ c.elements.ensures.frame)
+    (λ h. absurd (no_disk_fault c.tell_ids.result _ c.tell_ids.ensures.fault h))
 
 pub returns-in_err-ids-clause-frame : goal.returns-in_err-ids-clause-frame
 returns-in_err-ids-clause-frame g c =

@@ -14,7 +14,8 @@ returns-in_default-clause-meant g c =
     let fits = c.ranges.id in
     let found = c.in_ok-e.ensures.found in
     let none = rw c.in_default.is at found in
-    entry_refused c.args.d.now.bytes c.args.id (λ (s : State) (e : PrEntry). Answers (answer.Entry (told_of s e))) _ (simp to_z-of_z at none) refl
+    entry_refused c.args.d.now.bytes c.args.id (λ (s : State) (e : PrEntry). Answers (answer.Entry (told_of s e))) _
+    (simp to_z-of_z at none) refl
 
 pub told_of-requires-clause-good : goal.told_of-requires-clause-good
 told_of-requires-clause-good g c =
@@ -31,5 +32,6 @@ returns-clause-meant g c =
     let fits = c.ranges.id in
     let found = c.in_ok-e.ensures.found in
     let some = rw c.in-Some.is at found in
-    entry_ends c.args.d.now.bytes c.entry_of.new.d.bytes c.args.id (seen c.in-Some.e) c.in_ok-entry.entry c.in_ok-end.end (simp to_z-of_z at some)
+    entry_ends c.args.d.now.bytes c.entry_of.new.d.bytes c.args.id (seen c.in-Some.e) c.in_ok-entry.entry c.in_ok-end.end
+    (simp to_z-of_z at some)
     c.entry_of.ensures.frame.same.bytes c.in_ok-entry.ensures.found c.in_ok-end.ensures.told

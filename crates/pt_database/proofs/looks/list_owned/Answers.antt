@@ -22,7 +22,8 @@ returns-clause-meant g c =
     let found = c.in_ok-is_no_owner.ensures.found in
     let some = rw c.if-branch.false at found in
     let list = c.in_ok-ids.ensures.found in
-    owned_ends c.tell_ids.result c.args.d.now.bytes c.is_no_owner.new.d.bytes c.args.id c.in_ok-ids.ids (simp to_z-of_z at some) c.is_no_owner.ensures.frame.same.bytes
+    owned_ends c.tell_ids.result c.args.d.now.bytes c.is_no_owner.new.d.bytes c.args.id c.in_ok-ids.ids
+    (simp to_z-of_z at some) c.is_no_owner.ensures.frame.same.bytes
     (owned_told c.is_no_owner.new.d.bytes c.args.id c.in_ok-ids.ids (simp to_z-of_z at list)) c.tell_ids.ensures.told
 
 pub returns-clause-fault : goal.returns-clause-fault
@@ -34,7 +35,8 @@ returns-clause-fault g c =
     err_many c.tell_ids.result c.args.d.now.bytes (length c.in_ok-ids.ids) c.tell_ids.ensures.fault
     (of_same c.args.d.now.bytes c.is_no_owner.new.d.bytes (λ (s : State). length c.in_ok-ids.ids ≤ 262143) first.bytes
     (owned_few c.is_no_owner.new.d.bytes c.owned.new.d.len c.args.id c.in_ok-ids.ids
-    (long_same c.is_no_owner.new.d.bytes c.owned.new.d.bytes c.owned.new.d.len same.bytes c.len.ensures.told) (omega (arith, same.len, first.len, c.requires)) (simp to_z-of_z at list)))
+    (long_same c.is_no_owner.new.d.bytes c.owned.new.d.bytes c.owned.new.d.len same.bytes c.len.ensures.told)
+    (omega (arith, same.len, first.len, c.requires)) (simp to_z-of_z at list)))
 
 pub returns-in_err-ids-clause-fault : goal.returns-in_err-ids-clause-fault
 returns-in_err-ids-clause-fault g c =
@@ -45,7 +47,8 @@ returns-in_err-ids-clause-fault g c =
 pub returns-clause-frame : goal.returns-clause-frame
 returns-clause-frame g c =
     looked_then g.I.ImageRead c.args.d.now c.is_no_owner.new.d c.owned.new.d _ _ _ c.is_no_owner.ensures.frame
-    (as_looks g.I.ImageRead c.is_no_owner.new.d c.owned.new.d _ c.owned.ensures.frame) (λ h. absurd (no_disk_fault c.tell_ids.result _ c.tell_ids.ensures.fault h))
+    (as_looks g.I.ImageRead c.is_no_owner.new.d c.owned.new.d _ c.owned.ensures.frame)
+    (λ h. absurd (no_disk_fault c.tell_ids.result _ c.tell_ids.ensures.fault h))
 
 pub returns-in_err-ids-clause-frame : goal.returns-in_err-ids-clause-frame
 returns-in_err-ids-clause-frame g c =

@@ -7,7 +7,8 @@ use Rattle.pt_database.proofs.looks.tell_ids.Goals as goal
 
 pub tell-requires : goal.tell-requires
 tell-requires c =
-    let p = ids_short c.new.result c.args.ids (c.new.ensures ∙ c.into_vec.ensures.value) (omega (arith, ap length c.as_slice.ensures.value)) in
+    let p = ids_short c.new.result c.args.ids (c.new.ensures ∙ c.into_vec.ensures.value)
+    (omega (arith, ap length c.as_slice.ensures.value)) in
     record { spelled = p.0; short = p.1 }
 
 pub returns-clause-told : goal.returns-clause-told

@@ -20,5 +20,6 @@ pub returns-clause-meant : goal.returns-clause-meant
 returns-clause-meant g c =
     let fits = c.ranges.after in
     let found = c.in_ok-entries.ensures.found in
-    page_ends c.args.d.now.bytes c.args.kinds c.args.after c.in_ok-entries.entries c.in_ok-end.end (sym c.are_kinds.ensures ∙ c.if-not-are_kinds.false)
+    page_ends c.args.d.now.bytes c.args.kinds c.args.after c.in_ok-entries.entries c.in_ok-end.end
+    (sym c.are_kinds.ensures ∙ c.if-not-are_kinds.false)
     (simp to_z-of_z at found) c.in_ok-end.ensures.told

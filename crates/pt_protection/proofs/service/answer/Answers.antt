@@ -151,7 +151,8 @@ returns-in-ListEntries-clause-meant g c =
     let meant = c.list_entries.ensures.meant in
     look_ok c.list_entries.result c.args.d.now.bytes c.list_entries.new.d.bytes
     c.args.call (call.ListEntries c.in-ListEntries.kinds c.in-ListEntries.after) c.in-ListEntries.is
-    c.list_entries.ensures.frame.same.bytes (λ s. reads_look s (call.ListEntries c.in-ListEntries.kinds c.in-ListEntries.after) refl) (simp to_z-of_z at meant)
+    c.list_entries.ensures.frame.same.bytes (λ s. reads_look s (call.ListEntries c.in-ListEntries.kinds c.in-ListEntries.after) refl)
+    (simp to_z-of_z at meant)
 
 pub returns-in-ChangeEntry-clause-meant : goal.returns-in-ChangeEntry-clause-meant
 unfolding verdict
@@ -162,7 +163,8 @@ returns-in-ChangeEntry-clause-meant g c =
     let meant = c.change_entry.ensures.meant in
     let named = rw c.as_slice-in-ChangeEntry.ensures at meant in
     turned_ok c.change_entry.result c.args.d.now.bytes c.change_entry.new.d.bytes
-    c.args.call (call.ChangeEntry c.in-ChangeEntry.id c.in-ChangeEntry.name c.in-ChangeEntry.owner c.in-ChangeEntry.new_id) c.in-ChangeEntry.is
+    c.args.call (call.ChangeEntry c.in-ChangeEntry.id c.in-ChangeEntry.name c.in-ChangeEntry.owner c.in-ChangeEntry.new_id)
+    c.in-ChangeEntry.is
     (λ s. turn_turned s c.in-ChangeEntry.id c.in-ChangeEntry.name c.in-ChangeEntry.owner c.in-ChangeEntry.new_id) (simp to_z-of_z at named)
 
 pub returns-in-SetFields-clause-meant : goal.returns-in-SetFields-clause-meant
@@ -197,7 +199,8 @@ returns-in-IsMemberOf-clause-meant g c =
     let meant = c.is_member_of.ensures.meant in
     look_ok c.is_member_of.result c.args.d.now.bytes c.is_member_of.new.d.bytes
     c.args.call (call.IsMemberOf c.in-IsMemberOf.member c.in-IsMemberOf.group) c.in-IsMemberOf.is
-    c.is_member_of.ensures.frame.same.bytes (λ s. reads_look s (call.IsMemberOf c.in-IsMemberOf.member c.in-IsMemberOf.group) refl) (simp to_z-of_z at meant)
+    c.is_member_of.ensures.frame.same.bytes (λ s. reads_look s (call.IsMemberOf c.in-IsMemberOf.member c.in-IsMemberOf.group) refl)
+    (simp to_z-of_z at meant)
 
 pub returns-in-ListOwned-clause-meant : goal.returns-in-ListOwned-clause-meant
 unfolding verdict

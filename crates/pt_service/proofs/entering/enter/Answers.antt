@@ -19,4 +19,5 @@ returns-clause-bytes g c =
 
 pub returns-clause-fault : goal.returns-clause-fault
 returns-clause-fault g c =
-    cause_then_err c.set_maxima.result c.args.d.now.bytes c.insert.new.d.bytes (seen c.args.e.now) c.in_ok-insert.ensures.holds c.set_maxima.ensures.fault
+    cause_then_err c.set_maxima.result c.args.d.now.bytes c.insert.new.d.bytes
+    (seen c.args.e.now) c.in_ok-insert.ensures.holds c.set_maxima.ensures.fault

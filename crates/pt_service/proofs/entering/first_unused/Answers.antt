@@ -17,7 +17,8 @@ loop-n-preserved g c =
     let fits : FitsSigned w32 c.id_behind-id.result = search rules in
     let found = c.in_ok-is_unused.ensures.found in
     let used = rw c.if-branch.false at found in
-    passed_more g.I.ImageRead c.args.d.now c.loop-n.d c.is_unused.new.d c.args.group c.args.passed c.loop-n.n c.id_behind-id.result _ c.loop-n-test.true c.loop-n.invariant
+    passed_more g.I.ImageRead c.args.d.now c.loop-n.d c.is_unused.new.d c.args.group c.args.passed c.loop-n.n c.id_behind-id.result _
+    c.loop-n-test.true c.loop-n.invariant
     c.in_ok-is_unused.ensures.frame c.id_behind-id.ensures (simp to_z-of_z at used)
 
 pub returns-then-branch-clause-found : goal.returns-then-branch-clause-found
@@ -25,15 +26,18 @@ returns-then-branch-clause-found g c =
     let fits : FitsSigned w32 c.id_behind-id.result = search rules in
     let found = c.in_ok-is_unused.ensures.found in
     let free = rw c.if-branch.true at found in
-    let told = passed_free g.I.ImageRead c.args.d.now c.loop-n.d c.args.group c.args.passed c.loop-n.n c.id_behind-id.result c.loop-n-test.true c.loop-n.invariant
+    let told = passed_free g.I.ImageRead c.args.d.now c.loop-n.d c.args.group c.args.passed c.loop-n.n c.id_behind-id.result
+    c.loop-n-test.true c.loop-n.invariant
     c.id_behind-id.ensures (simp to_z-of_z at free) in
     rw to_z-of_z told
 
 pub returns-then-branch-clause-id : goal.returns-then-branch-clause-id
 returns-then-branch-clause-id g c =
     let fits : FitsSigned w32 c.id_behind-id.result = search rules in
-    let is = subst (λ (z : ℤ). is_id c.args.group z ≡ true) (sym c.id_behind-id.ensures) (behind_is c.args.group c.loop-n.n c.loop-n-test.true) in
+    let is = subst (λ (z : ℤ). is_id c.args.group z ≡ true) (sym c.id_behind-id.ensures)
+    (behind_is c.args.group c.loop-n.n c.loop-n-test.true) in
     rw to_z-of_z is
 
 pub returns-clause-found : goal.returns-clause-found
-returns-clause-found g c = passed_end g.I.ImageRead c.args.d.now c.loop-n.d c.args.group c.args.passed c.loop-n.n c.loop-n-test.false c.loop-n.invariant
+returns-clause-found g c =
+    passed_end g.I.ImageRead c.args.d.now c.loop-n.d c.args.group c.args.passed c.loop-n.n c.loop-n-test.false c.loop-n.invariant

@@ -25,10 +25,14 @@ returns-in_default-2-clause-meant g c =
     let most : FitsSigned w32 c.maximum_of-maximum.result = search rules in
     let is = c.maximum_of-maximum.ensures in
     let so_many = simp to_z-of_z at is in
-    let number = c.unsigned_abs.ensures.value ∙ ap unsigned_abs (to_z-of_z w32 c.maximum_of-maximum.result most) ∙ ap unsigned_abs so_many in
-    new_no_id c.args.d.now.bytes c.owner_for.new.d.bytes c.maxima.new.d.bytes c.first_unused.new.d.bytes c.as_slice.result.now (lowered c.args.name.now) c.args.kind
-    c.unsigned_abs.result c.args.owner c.in-Ok.owner c.in_ok-max_user.max_user c.in_ok-max_user.max_group c.in-Some.group _ (sym c.kind_of.ensures ∙ c.in-Some.is) (search rules)
-    (simp to_z-of_z at good) c.owner_for.ensures.frame.same.bytes c.in_ok-max_user.ensures.found (c.maxima.ensures.frame.same.bytes ∙ c.owner_for.ensures.frame.same.bytes)
+    let number = c.unsigned_abs.ensures.value ∙ ap unsigned_abs (to_z-of_z w32 c.maximum_of-maximum.result most)
+    ∙ ap unsigned_abs so_many in
+    new_no_id c.args.d.now.bytes c.owner_for.new.d.bytes c.maxima.new.d.bytes c.first_unused.new.d.bytes c.as_slice.result.now
+    (lowered c.args.name.now) c.args.kind
+    c.unsigned_abs.result c.args.owner c.in-Ok.owner c.in_ok-max_user.max_user c.in_ok-max_user.max_group c.in-Some.group _
+    (sym c.kind_of.ensures ∙ c.in-Some.is) (search rules)
+    (simp to_z-of_z at good) c.owner_for.ensures.frame.same.bytes c.in_ok-max_user.ensures.found
+    (c.maxima.ensures.frame.same.bytes ∙ c.owner_for.ensures.frame.same.bytes)
     number none refl
     (c.first_unused.ensures.frame.same.bytes ∙ c.maxima.ensures.frame.same.bytes ∙ c.owner_for.ensures.frame.same.bytes)
 
@@ -40,7 +44,8 @@ returns-in_default-2-clause-frame g c =
 pub returns-in_err-id-clause-frame : goal.returns-in_err-id-clause-frame
 returns-in_err-id-clause-frame g c =
     let p = err_from_is_err_and c.from_residual-in_err-id.result c.from_residual-in_err-id.ensures.1 in
-    rw (p.1, p.2) (looked_thrice g.I.ImageRead c.args.d.now c.owner_for.new.d c.maxima.new.d c.first_unused.new.d _ _ _ _ c.in_ok-owner.ensures.frame
+    rw (p.1, p.2) (looked_thrice g.I.ImageRead c.args.d.now c.owner_for.new.d c.maxima.new.d c.first_unused.new.d _ _ _ _
+    c.in_ok-owner.ensures.frame
     c.in_ok-max_user.ensures.frame c.in_err-id.ensures.frame (λ h. cc))
 
 pub returns-in_err-end-clause-frame : goal.returns-in_err-end-clause-frame
@@ -58,7 +63,8 @@ enter-requires-clause-entry g c =
     let form = rw c.in-Ok.is at formed in
     let is = c.in_ok-id.ensures.id in
     let name : c.as_slice.result.now ≡ c.new-name.result = search rules in
-    made_record (seen c.made-e.result) c.in-Some.group c.new-name.result c.in-Some-2.id c.in-Ok.owner (simp to_z-of_z at so) id own (rw c.in-Some-2.is at is)
+    made_record (seen c.made-e.result) c.in-Some.group c.new-name.result c.in-Some-2.id c.in-Ok.owner (simp to_z-of_z at so) id own
+    (rw c.in-Some-2.is at is)
     (rw name at form)
 
 pub enter-requires-clause-maxima : goal.enter-requires-clause-maxima
@@ -89,15 +95,18 @@ returns-in_err-enter-clause-fault g c =
     let so = c.made-e.ensures in
     let name : c.new-name.result ≡ lowered c.args.name.now = search rules in
     let named = rw name at so in
-    rw (p.1, p.2) (new_cause c.args.d.now.bytes c.maxima.new.d.bytes c.first_unused.new.d.bytes c.as_slice.result.now (lowered c.args.name.now) c.unsigned_abs.result
+    rw (p.1, p.2) (new_cause c.args.d.now.bytes c.maxima.new.d.bytes c.first_unused.new.d.bytes c.as_slice.result.now
+    (lowered c.args.name.now) c.unsigned_abs.result
     c.args.owner c.in-Ok.owner c.in-Some-2.id c.in-Some.group (seen c.made-e.result) _ (search rules) (simp to_z-of_z at good)
     (c.maxima.ensures.frame.same.bytes ∙ c.owner_for.ensures.frame.same.bytes) some (simp to_z-of_z at named)
-    (c.first_unused.ensures.frame.same.bytes ∙ c.maxima.ensures.frame.same.bytes ∙ c.owner_for.ensures.frame.same.bytes) c.in_err-enter.ensures.fault)
+    (c.first_unused.ensures.frame.same.bytes ∙ c.maxima.ensures.frame.same.bytes
+    ∙ c.owner_for.ensures.frame.same.bytes) c.in_err-enter.ensures.fault)
 
 pub returns-in_err-enter-clause-frame : goal.returns-in_err-enter-clause-frame
 returns-in_err-enter-clause-frame g c =
     let p = err_from_is_err_and c.from_residual-in_err-enter.result c.from_residual-in_err-enter.ensures.1 in
-    rw (p.1, p.2) (drafted_thrice g.I.ImageRead c.args.d.now c.owner_for.new.d c.maxima.new.d c.first_unused.new.d c.enter.new.d _ _ _ _ _ c.in_ok-owner.ensures.frame
+    rw (p.1, p.2) (drafted_thrice g.I.ImageRead c.args.d.now c.owner_for.new.d c.maxima.new.d c.first_unused.new.d c.enter.new.d _ _ _ _
+    _ c.in_ok-owner.ensures.frame
     c.in_ok-max_user.ensures.frame c.in_ok-id.ensures.frame c.in_err-enter.ensures.frame (λ h. cc))
 
 pub returns-clause-meant : goal.returns-clause-meant
@@ -116,20 +125,27 @@ returns-clause-meant g c =
     let most : FitsSigned w32 c.maximum_of-maximum.result = search rules in
     let is = c.maximum_of-maximum.ensures in
     let so_many = simp to_z-of_z at is in
-    let number = c.unsigned_abs.ensures.value ∙ ap unsigned_abs (to_z-of_z w32 c.maximum_of-maximum.result most) ∙ ap unsigned_abs so_many in
+    let number = c.unsigned_abs.ensures.value ∙ ap unsigned_abs (to_z-of_z w32 c.maximum_of-maximum.result most)
+    ∙ ap unsigned_abs so_many in
     let so = c.made-e.ensures in
     let name : c.new-name.result ≡ lowered c.args.name.now = search rules in
     let named = rw name at so in
     let raises = c.raised.ensures in
     let told = c.in_ok-end.ensures.told in
-    new_made c.args.d.now.bytes c.owner_for.new.d.bytes c.maxima.new.d.bytes c.first_unused.new.d.bytes c.enter.new.d.bytes c.as_slice.result.now
-    (lowered c.args.name.now) c.args.kind c.unsigned_abs.result c.args.owner c.in-Ok.owner c.in_ok-max_user.max_user c.in_ok-max_user.max_group c.in-Some-2.id
-    c.in-Some.group (seen c.made-e.result) c.raised.result c.in_ok-end.end (sym c.kind_of.ensures ∙ c.in-Some.is) (search rules) (simp to_z-of_z at good)
-    c.owner_for.ensures.frame.same.bytes c.in_ok-max_user.ensures.found (c.maxima.ensures.frame.same.bytes ∙ c.owner_for.ensures.frame.same.bytes)
+    new_made c.args.d.now.bytes c.owner_for.new.d.bytes c.maxima.new.d.bytes c.first_unused.new.d.bytes c.enter.new.d.bytes
+    c.as_slice.result.now
+    (lowered c.args.name.now) c.args.kind c.unsigned_abs.result c.args.owner c.in-Ok.owner c.in_ok-max_user.max_user
+    c.in_ok-max_user.max_group c.in-Some-2.id
+    c.in-Some.group (seen c.made-e.result) c.raised.result c.in_ok-end.end (sym c.kind_of.ensures ∙ c.in-Some.is) (search rules)
+    (simp to_z-of_z at good)
+    c.owner_for.ensures.frame.same.bytes c.in_ok-max_user.ensures.found
+    (c.maxima.ensures.frame.same.bytes ∙ c.owner_for.ensures.frame.same.bytes)
     number some (simp to_z-of_z at named) (simp to_z-of_z at raises) (simp to_z-of_z at told)
-    (c.first_unused.ensures.frame.same.bytes ∙ c.maxima.ensures.frame.same.bytes ∙ c.owner_for.ensures.frame.same.bytes) c.in_ok-enter.ensures.bytes
+    (c.first_unused.ensures.frame.same.bytes ∙ c.maxima.ensures.frame.same.bytes
+    ∙ c.owner_for.ensures.frame.same.bytes) c.in_ok-enter.ensures.bytes
 
 pub returns-clause-frame : goal.returns-clause-frame
 returns-clause-frame g c =
-    drafted_thrice g.I.ImageRead c.args.d.now c.owner_for.new.d c.maxima.new.d c.first_unused.new.d c.enter.new.d _ _ _ _ _ c.in_ok-owner.ensures.frame
+    drafted_thrice g.I.ImageRead c.args.d.now c.owner_for.new.d c.maxima.new.d c.first_unused.new.d c.enter.new.d _ _ _ _ _
+    c.in_ok-owner.ensures.frame
     c.in_ok-max_user.ensures.frame c.in_ok-id.ensures.frame c.in_ok-enter.ensures.frame (λ h. absurd cc)

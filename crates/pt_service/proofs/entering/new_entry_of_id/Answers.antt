@@ -24,14 +24,17 @@ returns-then-not-branch-clause-meant g c =
     let good = rw c.in-Ok.is at found in
     let there = c.in_ok-is_unused.ensures.found in
     let used = rw c.if-not-branch.true at there in
-    given_there c.args.d.now.bytes c.owner_for.new.d.bytes c.is_unused.new.d.bytes c.as_slice.result.now (lowered c.args.name.now) c.args.id c.args.owner c.in-Ok.owner
+    given_there c.args.d.now.bytes c.owner_for.new.d.bytes c.is_unused.new.d.bytes c.as_slice.result.now
+    (lowered c.args.name.now) c.args.id c.args.owner c.in-Ok.owner
     c.is_group-group.result _ (subst (λ (b : Bool). is_id b c.args.id ≡ true) own test) own (search rules) (simp to_z-of_z at good)
-    c.owner_for.ensures.frame.same.bytes (simp to_z-of_z at used) refl (c.is_unused.ensures.frame.same.bytes ∙ c.owner_for.ensures.frame.same.bytes)
+    c.owner_for.ensures.frame.same.bytes (simp to_z-of_z at used) refl
+    (c.is_unused.ensures.frame.same.bytes ∙ c.owner_for.ensures.frame.same.bytes)
 
 pub returns-in_err-max_user-clause-frame : goal.returns-in_err-max_user-clause-frame
 returns-in_err-max_user-clause-frame g c =
     let p = err_from_is_err_and c.from_residual-in_err-max_user.result c.from_residual-in_err-max_user.ensures.1 in
-    rw (p.1, p.2) (looked_thrice g.I.ImageRead c.args.d.now c.owner_for.new.d c.is_unused.new.d c.maxima.new.d _ _ _ _ c.in_ok-owner.ensures.frame
+    rw (p.1, p.2) (looked_thrice g.I.ImageRead c.args.d.now c.owner_for.new.d c.is_unused.new.d c.maxima.new.d _ _ _ _
+    c.in_ok-owner.ensures.frame
     c.in_ok-is_unused.ensures.frame c.in_err-max_user.ensures.frame (λ h. cc))
 
 pub returns-in_err-end-clause-frame : goal.returns-in_err-end-clause-frame
@@ -49,7 +52,8 @@ enter-requires-clause-entry g c =
     let form = rw c.in-Ok.is at formed in
     let tested = sym c.is_id.ensures ∙ c.if-not-is_id.false in
     let name : c.as_slice.result.now ≡ c.new-name.result = search rules in
-    made_record (seen c.made-e.result) c.is_group-group.result c.new-name.result c.args.id c.in-Ok.owner (simp to_z-of_z at so) id own (simp to_z-of_z at tested)
+    made_record (seen c.made-e.result) c.is_group-group.result c.new-name.result c.args.id c.in-Ok.owner (simp to_z-of_z at so) id own
+    (simp to_z-of_z at tested)
     (rw name at form)
 
 pub enter-requires-clause-maxima : goal.enter-requires-clause-maxima
@@ -82,14 +86,19 @@ returns-in_err-enter-clause-fault g c =
     let so = c.made-e.ensures in
     let name : c.new-name.result ≡ lowered c.args.name.now = search rules in
     let named = rw name at so in
-    rw (p.1, p.2) (given_cause c.args.d.now.bytes c.owner_for.new.d.bytes c.maxima.new.d.bytes c.as_slice.result.now (lowered c.args.name.now) c.args.id c.args.owner
-    c.in-Ok.owner c.is_group-group.result (seen c.made-e.result) _ (search rules) (simp to_z-of_z at good) c.owner_for.ensures.frame.same.bytes (simp to_z-of_z at free)
-    (simp to_z-of_z at named) (c.maxima.ensures.frame.same.bytes ∙ c.is_unused.ensures.frame.same.bytes ∙ c.owner_for.ensures.frame.same.bytes) c.in_err-enter.ensures.fault)
+    rw (p.1, p.2) (given_cause c.args.d.now.bytes c.owner_for.new.d.bytes c.maxima.new.d.bytes c.as_slice.result.now
+    (lowered c.args.name.now) c.args.id c.args.owner
+    c.in-Ok.owner c.is_group-group.result (seen c.made-e.result) _ (search rules)
+    (simp to_z-of_z at good) c.owner_for.ensures.frame.same.bytes (simp to_z-of_z at free)
+    (simp to_z-of_z at named)
+    (c.maxima.ensures.frame.same.bytes ∙ c.is_unused.ensures.frame.same.bytes
+    ∙ c.owner_for.ensures.frame.same.bytes) c.in_err-enter.ensures.fault)
 
 pub returns-in_err-enter-clause-frame : goal.returns-in_err-enter-clause-frame
 returns-in_err-enter-clause-frame g c =
     let p = err_from_is_err_and c.from_residual-in_err-enter.result c.from_residual-in_err-enter.ensures.1 in
-    rw (p.1, p.2) (drafted_thrice g.I.ImageRead c.args.d.now c.owner_for.new.d c.is_unused.new.d c.maxima.new.d c.enter.new.d _ _ _ _ _ c.in_ok-owner.ensures.frame
+    rw (p.1, p.2) (drafted_thrice g.I.ImageRead c.args.d.now c.owner_for.new.d c.is_unused.new.d c.maxima.new.d c.enter.new.d _ _ _ _ _
+    c.in_ok-owner.ensures.frame
     c.in_ok-is_unused.ensures.frame c.in_ok-max_user.ensures.frame c.in_err-enter.ensures.frame (λ h. cc))
 
 pub returns-clause-meant : goal.returns-clause-meant
@@ -113,14 +122,20 @@ returns-clause-meant g c =
     let name : c.new-name.result ≡ lowered c.args.name.now = search rules in
     let named = rw name at so in
     let raises = c.raised.ensures in
-    given_comes c.args.d.now.bytes c.owner_for.new.d.bytes c.is_unused.new.d.bytes c.maxima.new.d.bytes c.enter.new.d.bytes c.as_slice.result.now
-    (lowered c.args.name.now) c.args.id c.args.owner c.in-Ok.owner c.in_ok-max_user.max_user c.in_ok-max_user.max_group c.is_group-group.result (seen c.made-e.result)
-    c.raised.result c.in_ok-end.end (subst (λ (b : Bool). is_id b c.args.id ≡ true) group test) group (search rules) (simp to_z-of_z at good)
-    c.owner_for.ensures.frame.same.bytes (simp to_z-of_z at free) (c.is_unused.ensures.frame.same.bytes ∙ c.owner_for.ensures.frame.same.bytes) c.in_ok-max_user.ensures.found
+    given_comes c.args.d.now.bytes c.owner_for.new.d.bytes c.is_unused.new.d.bytes c.maxima.new.d.bytes c.enter.new.d.bytes
+    c.as_slice.result.now
+    (lowered c.args.name.now) c.args.id c.args.owner c.in-Ok.owner c.in_ok-max_user.max_user c.in_ok-max_user.max_group
+    c.is_group-group.result (seen c.made-e.result)
+    c.raised.result c.in_ok-end.end (subst (λ (b : Bool). is_id b c.args.id ≡ true) group test) group (search rules)
+    (simp to_z-of_z at good)
+    c.owner_for.ensures.frame.same.bytes (simp to_z-of_z at free)
+    (c.is_unused.ensures.frame.same.bytes ∙ c.owner_for.ensures.frame.same.bytes) c.in_ok-max_user.ensures.found
     (simp to_z-of_z at named) (simp to_z-of_z at raises) c.in_ok-end.ensures.told
-    (c.maxima.ensures.frame.same.bytes ∙ c.is_unused.ensures.frame.same.bytes ∙ c.owner_for.ensures.frame.same.bytes) c.in_ok-enter.ensures.bytes
+    (c.maxima.ensures.frame.same.bytes ∙ c.is_unused.ensures.frame.same.bytes
+    ∙ c.owner_for.ensures.frame.same.bytes) c.in_ok-enter.ensures.bytes
 
 pub returns-clause-frame : goal.returns-clause-frame
 returns-clause-frame g c =
-    drafted_thrice g.I.ImageRead c.args.d.now c.owner_for.new.d c.is_unused.new.d c.maxima.new.d c.enter.new.d _ _ _ _ _ c.in_ok-owner.ensures.frame
+    drafted_thrice g.I.ImageRead c.args.d.now c.owner_for.new.d c.is_unused.new.d c.maxima.new.d c.enter.new.d _ _ _ _ _
+    c.in_ok-owner.ensures.frame
     c.in_ok-is_unused.ensures.frame c.in_ok-max_user.ensures.frame c.in_ok-enter.ensures.frame (λ h. absurd cc)

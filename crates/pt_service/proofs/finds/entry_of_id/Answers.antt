@@ -8,5 +8,6 @@ returns-in_err-e-clause-fault g c =
     let fits = c.ranges.id in
     let found = c.in_ok-found.ensures.found in
     let p = err_from_is_err_and c.from_residual-in_err-e.result c.from_residual-in_err-e.ensures.1 in
-    rw (p.1, p.2) (unfit_id c.args.d.now.bytes c.in_ok-found.found c.args.id c.len.result c.in_err-e.field-0.0 c.in_err-e.ensures.fault c.in_err-e.ensures.unfit
+    rw (p.1, p.2) (unfit_id c.args.d.now.bytes c.in_ok-found.found c.args.id c.len.result c.in_err-e.field-0.0 c.in_err-e.ensures.fault
+    c.in_err-e.ensures.unfit
     (simp to_z-of_z at found))

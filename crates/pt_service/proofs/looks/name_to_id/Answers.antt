@@ -4,4 +4,8 @@ use Rattle.pt_service.proofs.looks.name_to_id.Goals as goal
 
 pub tell-requires : goal.tell-requires
 tell-requires g c =
-    record { spelled = omega (arith, c.in_ok-ids.ensures.count, c.requires.count); short = omega (arith, ids_len c.in_ok-ids.ids, c.in_ok-ids.ensures.count, c.requires.count) }
+    record {
+      spelled = omega (arith, c.in_ok-ids.ensures.count, c.requires.count);
+      short = omega
+          (arith, ids_len c.in_ok-ids.ids, c.in_ok-ids.ensures.count, c.requires.count);
+    }

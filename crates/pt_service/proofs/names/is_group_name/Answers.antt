@@ -12,7 +12,8 @@ returns-then-is_text c =
     let at = c.in-Some.at in
     let form = with_colon c.args.name.now c.in-Some.at (sym c.colon.ensures ∙ c.in-Some.is) (omega arith) in
     let first : is_text (take c.in-Some.at c.args.name.now) ≡ true = grind (arith, c.is_text.ensures, c.if-is_text.true) in
-    let len : length (drop (c.in-Some.at + 1) c.args.name.now) ≤ length c.args.name.now - (c.in-Some.at + 1) = omega (arith, length-drop (c.in-Some.at + 1) c.args.name.now) in
+    let len : length (drop (c.in-Some.at + 1) c.args.name.now) ≤ length c.args.name.now - (c.in-Some.at + 1) = omega
+    (arith, length-drop (c.in-Some.at + 1) c.args.name.now) in
     c.is_text-then-is_text.ensures ∙ ap (λ (t : List ℕ). is_text t) (take_all (length name - (at + 1)) (drop (at + 1) name) len)
     ∙ sym (form ∙ ap (λ (b : Bool). b && is_text (drop (at + 1) name)) first)
 

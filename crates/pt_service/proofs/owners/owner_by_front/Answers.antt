@@ -12,7 +12,8 @@ pub returns-in-Some-clause-found : goal.returns-in-Some-clause-found
 returns-in-Some-clause-found g c =
     let fits : FitsSigned w32 c.in-Some.e.id = search rules in
     let found = c.in_ok-e.ensures.found in
-    front_found c.args.d.now.bytes c.args.front.now (Some c.in-Some.e) _ (sym c.is_system.ensures ∙ c.if-is_system.false) (rw c.in-Some.is at found)
+    front_found c.args.d.now.bytes c.args.front.now (Some c.in-Some.e) _ (sym c.is_system.ensures ∙ c.if-is_system.false)
+    (rw c.in-Some.is at found)
     (ap (λ z. Ok z) (to_z-of_z w32 c.in-Some.e.id fits))
 
 pub returns-in-None-clause-found : goal.returns-in-None-clause-found

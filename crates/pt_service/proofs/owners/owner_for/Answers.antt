@@ -14,7 +14,8 @@ returns-in-Err-clause-found g c =
     let fits = c.ranges.given in
     let found = c.in_ok-owner.ensures.found in
     let barred = rw c.in-Err.is at found in
-    for_barred c.args.d.now.bytes c.args.group c.args.name.now c.args.given c.in-Err.rule (sym c.is_name_of.ensures ∙ c.if-not-is_name_of.false) (simp to_z-of_z at barred)
+    for_barred c.args.d.now.bytes c.args.group c.args.name.now c.args.given c.in-Err.rule
+    (sym c.is_name_of.ensures ∙ c.if-not-is_name_of.false) (simp to_z-of_z at barred)
 
 pub returns-then-branch-clause-found : goal.returns-then-branch-clause-found
 returns-then-branch-clause-found g c =
@@ -22,7 +23,8 @@ returns-then-branch-clause-found g c =
     let found = c.in_ok-owner.ensures.found in
     let good = rw c.in-Ok.is at found in
     let taken = c.in_ok-is_taken.ensures.found in
-    for_taken c.args.d.now.bytes c.owner_of.new.d.bytes c.args.group c.args.name.now c.args.given c.in-Ok.owner (sym c.is_name_of.ensures ∙ c.if-not-is_name_of.false)
+    for_taken c.args.d.now.bytes c.owner_of.new.d.bytes c.args.group c.args.name.now c.args.given c.in-Ok.owner
+    (sym c.is_name_of.ensures ∙ c.if-not-is_name_of.false)
     c.owner_of.ensures.frame.same.bytes (simp to_z-of_z at good) (rw c.if-branch.true at taken)
 
 pub returns-clause-found : goal.returns-clause-found
@@ -33,4 +35,5 @@ returns-clause-found g c =
     let good = rw c.in-Ok.is at found in
     let taken = c.in_ok-is_taken.ensures.found in
     simp to_z-of_z (for_owned c.args.d.now.bytes c.owner_of.new.d.bytes c.args.group c.args.name.now c.args.given c.in-Ok.owner
-    (sym c.is_name_of.ensures ∙ c.if-not-is_name_of.false) c.owner_of.ensures.frame.same.bytes (simp to_z-of_z at good) (rw c.if-branch.false at taken))
+    (sym c.is_name_of.ensures ∙ c.if-not-is_name_of.false) c.owner_of.ensures.frame.same.bytes (simp to_z-of_z at good)
+    (rw c.if-branch.false at taken))

@@ -13,5 +13,7 @@ returns-then-given-ne0-clause-found g c =
     let found = c.in_ok-found.ensures.found in
     let so = c.given_owner.ensures in
     let some : int_eq c.args.given (pos 0) ≡ false =
-    false_from_ne_true (int_eq c.args.given (pos 0)) (λ is. c.if-given-ne0.true (ap (cast_unsigned w32) ((Decides-int_eq c.args.given (pos 0)).0 is))) in
-    owner_given c.args.d.now.bytes c.args.name.now c.args.given c.in_ok-found.found c.given_owner.result some (simp to_z-of_z at found) (simp to_z-of_z at so)
+    false_from_ne_true (int_eq c.args.given (pos 0))
+    (λ is. c.if-given-ne0.true (ap (cast_unsigned w32) ((Decides-int_eq c.args.given (pos 0)).0 is))) in
+    owner_given c.args.d.now.bytes c.args.name.now c.args.given c.in_ok-found.found c.given_owner.result some (simp to_z-of_z at found)
+    (simp to_z-of_z at so)

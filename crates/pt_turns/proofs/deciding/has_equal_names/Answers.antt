@@ -29,11 +29,13 @@ returns-clause-found g c =
     let are = c.in_ok-groups.ensures.found in
     let under = rw text at are in
     let told = c.shares_any.ensures.found in
-    any_ok c.shares_any.result c.args.d.now.bytes c.is_shared.new.d.bytes c.under.new.d.bytes (seen c.args.renaming.entry.now) c.args.renaming.name.now
+    any_ok c.shares_any.result c.args.d.now.bytes c.is_shared.new.d.bytes c.under.new.d.bytes
+    (seen c.args.renaming.entry.now) c.args.renaming.name.now
     c.in_ok-groups.groups.items (simp to_z-of_z at own) c.is_shared.ensures.frame.same.bytes under
     (c.under.ensures.frame.same.bytes ∙ c.is_shared.ensures.frame.same.bytes) (rw value at told)
 
 pub returns-clause-frame : goal.returns-clause-frame
 returns-clause-frame g c =
     looked_then g.I.ImageRead c.args.d.now c.under.new.d c.shares_any.new.d _ _ _
-    (looks_then g.I.ImageRead c.args.d.now c.is_shared.new.d c.under.new.d _ _ c.is_shared.ensures.frame c.under.ensures.frame) c.shares_any.ensures.frame (λ h. h)
+    (looks_then g.I.ImageRead c.args.d.now c.is_shared.new.d c.under.new.d _ _ c.is_shared.ensures.frame c.under.ensures.frame)
+    c.shares_any.ensures.frame (λ h. h)

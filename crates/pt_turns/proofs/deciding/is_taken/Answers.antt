@@ -19,7 +19,9 @@ returns-clause-found g c =
     let one = c.ranges.id in
     let two = c.ranges.old in
     let other : int_eq c.args.id c.args.old ≡ false =
-    false_from_ne_true (int_eq c.args.id c.args.old) (λ is. let same : c.args.id ≡ c.args.old = (Decides-int_eq c.args.id c.args.old).0 is in omega (arith, ints)) in
+    false_from_ne_true (int_eq c.args.id c.args.old)
+    (λ is. let same : c.args.id ≡ c.args.old = (Decides-int_eq c.args.id c.args.old).0 is in omega (arith, ints)) in
     let found = c.in_ok-entry_of.ensures.found in
-    taken_told c.args.d.now.bytes c.args.old c.args.id (option_map seen c.in_ok-entry_of.field-0) c.is_some.result other (simp to_z-of_z at found)
+    taken_told c.args.d.now.bytes c.args.old c.args.id (option_map seen c.in_ok-entry_of.field-0) c.is_some.result other
+    (simp to_z-of_z at found)
     (some_seen c.in_ok-entry_of.field-0 c.is_some.result c.is_some.ensures)

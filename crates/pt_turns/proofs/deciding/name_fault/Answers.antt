@@ -15,7 +15,8 @@ pub returns-then-long-clause-found : goal.returns-then-long-clause-found
 returns-then-long-clause-found g c =
     let first = c.in_ok-turns.ensures.found in
     let second = c.in_ok-long.ensures.found in
-    rule_long c.args.d.now.bytes c.turns_its_groups.new.d.bytes (seen c.args.renaming.entry.now) c.args.renaming.name.now (rw c.if-turns.false at first)
+    rule_long c.args.d.now.bytes c.turns_its_groups.new.d.bytes (seen c.args.renaming.entry.now) c.args.renaming.name.now
+    (rw c.if-turns.false at first)
     c.turns_its_groups.ensures.frame.same.bytes (rw c.if-long.true at second)
 
 pub returns-then-equal-clause-found : goal.returns-then-equal-clause-found
@@ -23,7 +24,8 @@ returns-then-equal-clause-found g c =
     let first = c.in_ok-turns.ensures.found in
     let second = c.in_ok-long.ensures.found in
     let third = c.in_ok-equal.ensures.found in
-    rule_equal c.args.d.now.bytes c.turns_its_groups.new.d.bytes c.has_long_name.new.d.bytes (seen c.args.renaming.entry.now) c.args.renaming.name.now
+    rule_equal c.args.d.now.bytes c.turns_its_groups.new.d.bytes c.has_long_name.new.d.bytes
+    (seen c.args.renaming.entry.now) c.args.renaming.name.now
     (rw c.if-turns.false at first) c.turns_its_groups.ensures.frame.same.bytes (rw c.if-long.false at second)
     (c.has_long_name.ensures.frame.same.bytes ∙ c.turns_its_groups.ensures.frame.same.bytes) (rw c.if-equal.true at third)
 
@@ -32,7 +34,8 @@ returns-clause-found g c =
     let first = c.in_ok-turns.ensures.found in
     let second = c.in_ok-long.ensures.found in
     let third = c.in_ok-equal.ensures.found in
-    rule_none c.args.d.now.bytes c.turns_its_groups.new.d.bytes c.has_long_name.new.d.bytes (seen c.args.renaming.entry.now) c.args.renaming.name.now
+    rule_none c.args.d.now.bytes c.turns_its_groups.new.d.bytes c.has_long_name.new.d.bytes
+    (seen c.args.renaming.entry.now) c.args.renaming.name.now
     (rw c.if-turns.false at first) c.turns_its_groups.ensures.frame.same.bytes (rw c.if-long.false at second)
     (c.has_long_name.ensures.frame.same.bytes ∙ c.turns_its_groups.ensures.frame.same.bytes) (rw c.if-equal.false at third)
 
@@ -40,17 +43,20 @@ pub returns-in_err-equal-clause-frame : goal.returns-in_err-equal-clause-frame
 returns-in_err-equal-clause-frame g c =
     let p = err_from_is_err_and c.from_residual-in_err-equal.result c.from_residual-in_err-equal.ensures.1 in
     rw (p.1, p.2) (looked_then g.I.ImageRead c.args.d.now c.has_long_name.new.d c.has_equal_names.new.d _ _ _
-    (looks_then g.I.ImageRead c.args.d.now c.turns_its_groups.new.d c.has_long_name.new.d _ _ c.turns_its_groups.ensures.frame c.has_long_name.ensures.frame)
+    (looks_then g.I.ImageRead c.args.d.now c.turns_its_groups.new.d c.has_long_name.new.d _ _ c.turns_its_groups.ensures.frame
+    c.has_long_name.ensures.frame)
     c.in_err-equal.ensures.frame (λ h. cc))
 
 pub returns-then-equal-clause-frame : goal.returns-then-equal-clause-frame
 returns-then-equal-clause-frame g c =
     looked_then g.I.ImageRead c.args.d.now c.has_long_name.new.d c.has_equal_names.new.d _ _ _
-    (looks_then g.I.ImageRead c.args.d.now c.turns_its_groups.new.d c.has_long_name.new.d _ _ c.turns_its_groups.ensures.frame c.has_long_name.ensures.frame)
+    (looks_then g.I.ImageRead c.args.d.now c.turns_its_groups.new.d c.has_long_name.new.d _ _ c.turns_its_groups.ensures.frame
+    c.has_long_name.ensures.frame)
     c.in_ok-equal.ensures.frame (λ h. absurd cc)
 
 pub returns-clause-frame : goal.returns-clause-frame
 returns-clause-frame g c =
     looked_then g.I.ImageRead c.args.d.now c.has_long_name.new.d c.has_equal_names.new.d _ _ _
-    (looks_then g.I.ImageRead c.args.d.now c.turns_its_groups.new.d c.has_long_name.new.d _ _ c.turns_its_groups.ensures.frame c.has_long_name.ensures.frame)
+    (looks_then g.I.ImageRead c.args.d.now c.turns_its_groups.new.d c.has_long_name.new.d _ _ c.turns_its_groups.ensures.frame
+    c.has_long_name.ensures.frame)
     c.in_ok-equal.ensures.frame (λ h. absurd cc)

@@ -13,17 +13,21 @@ shares_one-requires g c = omega (arith, c.loop-id.invariant.frame.same.len, c.re
 
 pub loop-id-preserved : goal.loop-id-preserved
 loop-id-preserved g c =
-    sharing_more g.I.ImageRead c.args.d.now c.loop-id.d c.shares_one.new.d _ (seen c.args.renaming.entry.now) c.args.renaming.name.now c.args.ids.now c.loop-id.id-index _
+    sharing_more g.I.ImageRead c.args.d.now c.loop-id.d c.shares_one.new.d _
+    (seen c.args.renaming.entry.now) c.args.renaming.name.now c.args.ids.now c.loop-id.id-index _
     c.in_ok-shares.shares c.in_ok-shares.ensures.frame (λ h. absurd h) c.in_ok-shares.ensures.found c.if-shares.false
     (first_of (search (rules, passed_id), grind (arith, to_z-of_z, passed_id))) c.loop-id-test.true c.loop-id.invariant
 
 pub returns-then-shares-clause-found : goal.returns-then-shares-clause-found
 returns-then-shares-clause-found g c =
-    sharing_one g.I.ImageRead c.args.d.now c.loop-id.d (seen c.args.renaming.entry.now) c.args.renaming.name.now c.args.ids.now c.loop-id.id-index _
-    c.in_ok-shares.shares c.in_ok-shares.ensures.found c.if-shares.true (first_of (search (rules, passed_id), grind (arith, to_z-of_z, passed_id)))
+    sharing_one g.I.ImageRead c.args.d.now c.loop-id.d
+    (seen c.args.renaming.entry.now) c.args.renaming.name.now c.args.ids.now c.loop-id.id-index _
+    c.in_ok-shares.shares c.in_ok-shares.ensures.found c.if-shares.true
+    (first_of (search (rules, passed_id), grind (arith, to_z-of_z, passed_id)))
     c.loop-id-test.true c.loop-id.invariant
 
 pub returns-clause-found : goal.returns-clause-found
 returns-clause-found g c =
-    sharing_all g.I.ImageRead c.args.d.now c.loop-id.d (seen c.args.renaming.entry.now) c.args.renaming.name.now c.args.ids.now c.loop-id.id-index c.loop-id-test.false
+    sharing_all g.I.ImageRead c.args.d.now c.loop-id.d
+    (seen c.args.renaming.entry.now) c.args.renaming.name.now c.args.ids.now c.loop-id.id-index c.loop-id-test.false
     c.loop-id.invariant

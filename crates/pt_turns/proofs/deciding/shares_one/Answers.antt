@@ -24,5 +24,6 @@ returns-clause-found g c =
     let named = c.in_ok-after.ensures in
     let so = rw text at named in
     let told = c.is_shared.ensures.found in
-    shares_some c.is_shared.result c.args.d.now.bytes c.entry_of.new.d.bytes (seen c.args.renaming.entry.now) c.args.renaming.name.now c.args.id (seen c.in-Some.e)
+    shares_some c.is_shared.result c.args.d.now.bytes c.entry_of.new.d.bytes
+    (seen c.args.renaming.entry.now) c.args.renaming.name.now c.args.id (seen c.in-Some.e)
     c.deref.result.now (simp to_z-of_z at some) c.entry_of.ensures.frame.same.bytes (value ∙ simp to_z-of_z at so) (simp to_z-of_z at told)

@@ -14,7 +14,8 @@ use Rattle.pt_turns.specs.Under.{is_under}
 use Rattle.pt_turns.proofs.Fronts.{front_free, parts_tell}
 use Rattle.pt_turns.proofs.names.is_after.Goals as goal
 
-then_under : (e : PrEntry) (new : List ℕ) (id : ℤ) (name : List ℕ) → int_eq id e.id ≡ false → is_under e.name name ≡ true → name_then e new id name ≡ with_front (front_of new) name
+then_under : (e : PrEntry) (new : List ℕ) (id : ℤ) (name : List ℕ) → int_eq id e.id ≡ false → is_under e.name name ≡ true
+    → name_then e new id name ≡ with_front (front_of new) name
 then_under e new id name other under =
     ap (λ (b : Bool). cond b new (cond (is_under e.name name) (with_front (front_of new) name) name)) other
     ∙ ap (λ (b : Bool). cond b (with_front (front_of new) name) name) under
@@ -27,7 +28,9 @@ returns-then-is_under c =
     let name = c.args.name.now in
     let own : FitsSigned w32 c.args.renaming.entry.now.id = search rules in
     let other : int_eq c.args.id c.args.renaming.entry.now.id ≡ false =
-    false_from_ne_true (int_eq c.args.id c.args.renaming.entry.now.id) (λ is. let same : c.args.id ≡ c.args.renaming.entry.now.id = (Decides-int_eq c.args.id c.args.renaming.entry.now.id).0 is in omega (arith, ints)) in
+    false_from_ne_true (int_eq c.args.id c.args.renaming.entry.now.id)
+    (λ is. let same : c.args.id ≡ c.args.renaming.entry.now.id = (Decides-int_eq c.args.id c.args.renaming.entry.now.id).0 is in omega
+    (arith, ints)) in
     let text = c.as_slice.ensures in
     let under = c.is_under.ensures in
     let front = c.front_of.ensures in

@@ -18,7 +18,8 @@ returns-in_default-clause-meant g c =
     let new = c.ranges.new_id in
     let found = c.in_ok-e.ensures.found in
     let none = rw c.in_default.is at found in
-    turn_unknown c.args.d.now.bytes c.entry_of.new.d.bytes (lowered c.args.name.now) c.args.id c.args.owner c.args.new_id _ (simp to_z-of_z at none) refl
+    turn_unknown c.args.d.now.bytes c.entry_of.new.d.bytes (lowered c.args.name.now) c.args.id c.args.owner c.args.new_id _
+    (simp to_z-of_z at none) refl
     c.entry_of.ensures.frame.same.bytes
 
 pub returns-in-Err-clause-meant : goal.returns-in-Err-clause-meant
@@ -33,9 +34,11 @@ returns-in-Err-clause-meant g c =
     let told = c.in_ok-decided.ensures.decided in
     let decided = rw c.in-Err.is at told in
     let ends = simp to_z-of_z at decided in
-    turn_refused c.args.d.now.bytes c.entry_of.new.d.bytes c.decide.new.d.bytes (lowered c.args.name.now) c.args.id c.args.owner c.args.new_id (seen c.in-Some.e)
+    turn_refused c.args.d.now.bytes c.entry_of.new.d.bytes c.decide.new.d.bytes
+    (lowered c.args.name.now) c.args.id c.args.owner c.args.new_id (seen c.in-Some.e)
     c.in-Err.rule _ (simp to_z-of_z at some) c.entry_of.ensures.frame.same.bytes
-    (subst (λ (n : List ℕ). Decides c.entry_of.new.d.bytes (seen c.in-Some.e) n c.args.owner c.args.new_id (Err c.in-Err.rule)) low ends) refl
+    (subst (λ (n : List ℕ). Decides c.entry_of.new.d.bytes (seen c.in-Some.e) n c.args.owner c.args.new_id (Err c.in-Err.rule)) low ends)
+    refl
     (c.decide.ensures.frame.same.bytes ∙ c.entry_of.ensures.frame.same.bytes)
 
 pub turn-requires-clause-good : goal.turn-requires-clause-good
@@ -58,7 +61,8 @@ set_maxima-requires-clause-maxima g c =
     let fits = c.in_ok-decided.ensures.id in
     let is = rw c.in-Ok.is at fits in
     let raises = c.raised-user.ensures in
-    simp to_z-of_z (raised_good c.in_ok-user.user c.in_ok-user.group c.args.new_id c.in-Some.e.id c.raised-user.result c.in_ok-user.ensures.range new (simp to_z-of_z at is)
+    simp to_z-of_z (raised_good c.in_ok-user.user c.in_ok-user.group c.args.new_id c.in-Some.e.id c.raised-user.result
+    c.in_ok-user.ensures.range new (simp to_z-of_z at is)
     (simp to_z-of_z at raises))
 
 pub returns-in_err-turn-clause-fault : goal.returns-in_err-turn-clause-fault
@@ -74,10 +78,13 @@ returns-in_err-turn-clause-fault g c =
     let told = c.in_ok-decided.ensures.decided in
     let decided = rw c.in-Ok.is at told in
     let ends = simp to_z-of_z at decided in
-    rw (p.1, p.2) (turn_fault_cause c.args.d.now.bytes c.entry_of.new.d.bytes c.maxima.new.d.bytes (lowered c.args.name.now) c.args.id c.args.owner c.args.new_id
+    rw (p.1, p.2) (turn_fault_cause c.args.d.now.bytes c.entry_of.new.d.bytes c.maxima.new.d.bytes
+    (lowered c.args.name.now) c.args.id c.args.owner c.args.new_id
     (seen c.in-Some.e) c.in-Ok.decided c.in_err-turn.field-0.0 (simp to_z-of_z at some) c.entry_of.ensures.frame.same.bytes
-    (subst (λ (n : List ℕ). Decides c.entry_of.new.d.bytes (seen c.in-Some.e) n c.args.owner c.args.new_id (Ok c.in-Ok.decided)) low ends) new own
-    (c.maxima.ensures.frame.same.bytes ∙ c.decide.ensures.frame.same.bytes ∙ c.entry_of.ensures.frame.same.bytes) c.in_err-turn.ensures.fault)
+    (subst (λ (n : List ℕ). Decides c.entry_of.new.d.bytes (seen c.in-Some.e) n c.args.owner c.args.new_id (Ok c.in-Ok.decided)) low
+    ends) new own
+    (c.maxima.ensures.frame.same.bytes ∙ c.decide.ensures.frame.same.bytes
+    ∙ c.entry_of.ensures.frame.same.bytes) c.in_err-turn.ensures.fault)
 
 pub returns-in_err-set_maxima-clause-fault : goal.returns-in_err-set_maxima-clause-fault
 returns-in_err-set_maxima-clause-fault g c =
@@ -92,9 +99,12 @@ returns-in_err-set_maxima-clause-fault g c =
     let told = c.in_ok-decided.ensures.decided in
     let decided = rw c.in-Ok.is at told in
     let ends = simp to_z-of_z at decided in
-    rw (p.1, p.2) (maxima_cause gives_keep move_keeps c.args.d.now.bytes c.entry_of.new.d.bytes c.maxima.new.d.bytes c.turn.new.d.bytes (lowered c.args.name.now) c.args.id
-    c.args.owner c.args.new_id (seen c.in-Some.e) c.in-Ok.decided c.in_err-set_maxima.field-0.0 (simp to_z-of_z at some) c.entry_of.ensures.frame.same.bytes
-    (subst (λ (n : List ℕ). Decides c.entry_of.new.d.bytes (seen c.in-Some.e) n c.args.owner c.args.new_id (Ok c.in-Ok.decided)) low ends) new own
+    rw (p.1, p.2) (maxima_cause gives_keep move_keeps c.args.d.now.bytes c.entry_of.new.d.bytes c.maxima.new.d.bytes c.turn.new.d.bytes
+    (lowered c.args.name.now) c.args.id
+    c.args.owner c.args.new_id (seen c.in-Some.e) c.in-Ok.decided c.in_err-set_maxima.field-0.0
+    (simp to_z-of_z at some) c.entry_of.ensures.frame.same.bytes
+    (subst (λ (n : List ℕ). Decides c.entry_of.new.d.bytes (seen c.in-Some.e) n c.args.owner c.args.new_id (Ok c.in-Ok.decided)) low
+    ends) new own
     (c.maxima.ensures.frame.same.bytes ∙ c.decide.ensures.frame.same.bytes ∙ c.entry_of.ensures.frame.same.bytes) c.in_ok-turn.ensures.bytes
     c.in_err-set_maxima.ensures.fault)
 
@@ -116,12 +126,16 @@ returns-clause-meant g c =
     let ends = simp to_z-of_z at decided in
     let raises = c.raised-user.ensures in
     let set = c.in_ok-set_maxima.ensures.bytes in
-    turn_made c.args.d.now.bytes c.entry_of.new.d.bytes c.decide.new.d.bytes c.maxima.new.d.bytes c.turn.new.d.bytes c.set_maxima.new.d.bytes (lowered c.args.name.now)
-    c.args.id c.args.owner c.args.new_id (seen c.in-Some.e) c.in-Ok.decided c.in_ok-user.user c.in_ok-user.group c.raised-user.result c.in_ok-end.end (simp to_z-of_z at some)
+    turn_made c.args.d.now.bytes c.entry_of.new.d.bytes c.decide.new.d.bytes c.maxima.new.d.bytes c.turn.new.d.bytes
+    c.set_maxima.new.d.bytes (lowered c.args.name.now)
+    c.args.id c.args.owner c.args.new_id
+    (seen c.in-Some.e) c.in-Ok.decided c.in_ok-user.user c.in_ok-user.group c.raised-user.result c.in_ok-end.end (simp to_z-of_z at some)
     c.entry_of.ensures.frame.same.bytes
-    (subst (λ (n : List ℕ). Decides c.entry_of.new.d.bytes (seen c.in-Some.e) n c.args.owner c.args.new_id (Ok c.in-Ok.decided)) low ends) new own
+    (subst (λ (n : List ℕ). Decides c.entry_of.new.d.bytes (seen c.in-Some.e) n c.args.owner c.args.new_id (Ok c.in-Ok.decided)) low
+    ends) new own
     (c.decide.ensures.frame.same.bytes ∙ c.entry_of.ensures.frame.same.bytes) c.in_ok-user.ensures.found (simp to_z-of_z at raises)
-    (c.maxima.ensures.frame.same.bytes ∙ c.decide.ensures.frame.same.bytes ∙ c.entry_of.ensures.frame.same.bytes) c.in_ok-turn.ensures.bytes (simp to_z-of_z at set)
+    (c.maxima.ensures.frame.same.bytes ∙ c.decide.ensures.frame.same.bytes
+    ∙ c.entry_of.ensures.frame.same.bytes) c.in_ok-turn.ensures.bytes (simp to_z-of_z at set)
     c.in_ok-end.ensures.told
 
 pub returns-in_err-user-clause-frame : goal.returns-in_err-user-clause-frame
@@ -134,7 +148,8 @@ pub returns-in_err-end-clause-frame : goal.returns-in_err-end-clause-frame
 returns-in_err-end-clause-frame g c =
     let p = err_from_is_err_and c.from_residual-in_err-end.result c.from_residual-in_err-end.ensures.1 in
     looked_thrice g.I.ImageRead c.args.d.now c.entry_of.new.d c.decide.new.d c.maxima.new.d _ _ _ _
-    c.entry_of.ensures.frame c.decide.ensures.frame c.maxima.ensures.frame (λ h. absurd (no_disk c.from_residual-in_err-end.result p.0 p.1 p.2 h))
+    c.entry_of.ensures.frame c.decide.ensures.frame c.maxima.ensures.frame
+    (λ h. absurd (no_disk c.from_residual-in_err-end.result p.0 p.1 p.2 h))
 
 pub returns-in_err-turn-clause-frame : goal.returns-in_err-turn-clause-frame
 returns-in_err-turn-clause-frame g c =
@@ -147,10 +162,12 @@ returns-in_err-set_maxima-clause-frame g c =
     let p = err_from_is_err_and c.from_residual-in_err-set_maxima.result c.from_residual-in_err-set_maxima.ensures.1 in
     rw (p.1, p.2) (changed_then g.I.ImageRead c.args.d.now c.turn.new.d c.set_maxima.new.d _ _ _
     (drafted_thrice g.I.ImageRead c.args.d.now c.entry_of.new.d c.decide.new.d c.maxima.new.d c.turn.new.d _ _ _ _ _
-    c.entry_of.ensures.frame c.decide.ensures.frame c.maxima.ensures.frame c.turn.ensures.frame (λ h. h)) c.in_err-set_maxima.ensures.frame (λ h. cc))
+    c.entry_of.ensures.frame c.decide.ensures.frame c.maxima.ensures.frame c.turn.ensures.frame (λ h. h))
+    c.in_err-set_maxima.ensures.frame (λ h. cc))
 
 pub returns-clause-frame : goal.returns-clause-frame
 returns-clause-frame g c =
     changed_then g.I.ImageRead c.args.d.now c.turn.new.d c.set_maxima.new.d _ _ _
     (drafted_thrice g.I.ImageRead c.args.d.now c.entry_of.new.d c.decide.new.d c.maxima.new.d c.turn.new.d _ _ _ _ _
-    c.entry_of.ensures.frame c.decide.ensures.frame c.maxima.ensures.frame c.turn.ensures.frame (λ h. h)) c.in_ok-set_maxima.ensures.frame (λ h. absurd cc)
+    c.entry_of.ensures.frame c.decide.ensures.frame c.maxima.ensures.frame c.turn.ensures.frame (λ h. h))
+    c.in_ok-set_maxima.ensures.frame (λ h. absurd cc)

@@ -13,7 +13,8 @@ use Rattle.pt_turns.proofs.turning.rename.Goals as goal
 pub returns-in_err-groups-clause-fault : goal.returns-in_err-groups-clause-fault
 returns-in_err-groups-clause-fault g c =
     let p = err_from_is_err_and c.from_residual.result c.from_residual.ensures.1 in
-    rw (p.1, p.2) (find_cause c.args.d.now.bytes (λ (s : State). MayRename (seen c.args.e.now) c.args.name.items _ s.registry) c.in_err-groups.field-0.0
+    rw (p.1, p.2) (find_cause c.args.d.now.bytes
+    (λ (s : State). MayRename (seen c.args.e.now) c.args.name.items _ s.registry) c.in_err-groups.field-0.0
     c.in_err-groups.ensures.fault)
 
 pub returns-in_err-turn_fronts-clause-fault : goal.returns-in_err-turn_fronts-clause-fault
@@ -26,7 +27,8 @@ returns-in_err-turn_fronts-clause-fault g c =
     let told = c.in_ok-groups.ensures.found in
     let are = rw text at told in
     let cause = c.in_err-turn_fronts.ensures.fault in
-    rw (p.1, p.2) (fronts_cause c.args.d.now.bytes c.under.new.d.bytes (seen c.args.e.now) c.args.name.items c.args.owner c.front_of.result.now c.in_ok-groups.groups.items
+    rw (p.1, p.2) (fronts_cause c.args.d.now.bytes c.under.new.d.bytes
+    (seen c.args.e.now) c.args.name.items c.args.owner c.front_of.result.now c.in_ok-groups.groups.items
     c.in_err-turn_fronts.field-0.0 are c.under.ensures.frame.same.bytes front (rw ids at cause))
 
 pub put-requires-clause-id : goal.put-requires-clause-id
@@ -48,8 +50,10 @@ returns-clause-bytes g c =
     let so = c.named-after.ensures in
     let is = simp to_z-of_z at so in
     let after = rw value at is in
-    rename_ok c.put.result c.args.d.now.bytes c.under.new.d.bytes c.turn_fronts.new.d.bytes c.put.new.d.bytes (seen c.args.e.now) (seen c.named-after.result)
-    c.args.name.items c.args.owner c.front_of.result.now c.in_ok-groups.groups.items are c.under.ensures.frame.same.bytes front (rw ids at turned) after c.put.ensures.bytes
+    rename_ok c.put.result c.args.d.now.bytes c.under.new.d.bytes c.turn_fronts.new.d.bytes c.put.new.d.bytes (seen c.args.e.now)
+    (seen c.named-after.result)
+    c.args.name.items c.args.owner c.front_of.result.now c.in_ok-groups.groups.items are c.under.ensures.frame.same.bytes front
+    (rw ids at turned) after c.put.ensures.bytes
 
 pub returns-clause-fault : goal.returns-clause-fault
 returns-clause-fault g c =
@@ -65,14 +69,17 @@ returns-clause-fault g c =
     let is = simp to_z-of_z at so in
     let after = rw value at is in
     put_err c.put.result c.args.d.now.bytes c.under.new.d.bytes c.turn_fronts.new.d.bytes (seen c.args.e.now) (seen c.named-after.result)
-    c.args.name.items c.args.owner c.front_of.result.now c.in_ok-groups.groups.items are c.under.ensures.frame.same.bytes front (rw ids at turned) after c.put.ensures.fault
+    c.args.name.items c.args.owner c.front_of.result.now c.in_ok-groups.groups.items are c.under.ensures.frame.same.bytes front
+    (rw ids at turned) after c.put.ensures.fault
 
 pub returns-in_err-turn_fronts-clause-frame : goal.returns-in_err-turn_fronts-clause-frame
 returns-in_err-turn_fronts-clause-frame g c =
     let p = err_from_is_err_and c.from_residual-in_err-turn_fronts.result c.from_residual-in_err-turn_fronts.ensures.1 in
-    rw (p.1, p.2) (drafted g.I.ImageRead c.args.d.now c.under.new.d c.turn_fronts.new.d _ _ _ c.under.ensures.frame c.in_err-turn_fronts.ensures.frame (λ h. cc))
+    rw (p.1, p.2) (drafted g.I.ImageRead c.args.d.now c.under.new.d c.turn_fronts.new.d _ _ _ c.under.ensures.frame
+    c.in_err-turn_fronts.ensures.frame (λ h. cc))
 
 pub returns-clause-frame : goal.returns-clause-frame
 returns-clause-frame g c =
     changed_then g.I.ImageRead c.args.d.now c.turn_fronts.new.d c.put.new.d _ _ _
-    (drafted g.I.ImageRead c.args.d.now c.under.new.d c.turn_fronts.new.d _ _ _ c.under.ensures.frame c.turn_fronts.ensures.frame (λ h. h)) c.put.ensures.frame (λ h. h)
+    (drafted g.I.ImageRead c.args.d.now c.under.new.d c.turn_fronts.new.d _ _ _ c.under.ensures.frame c.turn_fronts.ensures.frame
+    (λ h. h)) c.put.ensures.frame (λ h. h)

@@ -11,7 +11,8 @@ use Rattle.pt_turns.proofs.turning.renumber.Goals as goal
 pub returns-in_err-its-clause-fault : goal.returns-in_err-its-clause-fault
 returns-in_err-its-clause-fault g c =
     let p = err_from_is_err_and c.from_residual.result c.from_residual.ensures.1 in
-    rw (p.1, p.2) (find_cause c.args.d.now.bytes (λ (s : State). MayRenumber _ _ s.registry) c.in_err-its.field-0.0 c.in_err-its.ensures.fault)
+    rw (p.1, p.2) (find_cause c.args.d.now.bytes
+    (λ (s : State). MayRenumber _ _ s.registry) c.in_err-its.field-0.0 c.in_err-its.ensures.fault)
 
 pub returns-in_err-give-clause-fault : goal.returns-in_err-give-clause-fault
 returns-in_err-give-clause-fault g c =
@@ -22,7 +23,8 @@ returns-in_err-give-clause-fault g c =
     let told = c.in_ok-its.ensures.found in
     let are = simp to_z-of_z at told in
     let cause = c.in_err-give.ensures.fault in
-    rw (p.1, p.2) (first_cause c.args.d.now.bytes c.property.new.d.bytes c.args.old c.args.id c.in_ok-its.its.items c.in_err-give.field-0.0 are
+    rw (p.1, p.2) (first_cause c.args.d.now.bytes c.property.new.d.bytes c.args.old c.args.id c.in_ok-its.its.items
+    c.in_err-give.field-0.0 are
     c.property.ensures.frame.same.bytes (rw ids at cause))
 
 pub returns-in_err-move_id-clause-fault : goal.returns-in_err-move_id-clause-fault
@@ -35,7 +37,8 @@ returns-in_err-move_id-clause-fault g c =
     let are = simp to_z-of_z at told in
     let gave = c.in_ok-give.ensures.bytes in
     let cause = c.in_err-move_id.ensures.fault in
-    rw (p.1, p.2) (move_cause gives_keep c.args.d.now.bytes c.property.new.d.bytes c.give.new.d.bytes c.args.old c.args.id c.in_ok-its.its.items c.in_err-move_id.field-0.0
+    rw (p.1, p.2) (move_cause gives_keep c.args.d.now.bytes c.property.new.d.bytes c.give.new.d.bytes c.args.old c.args.id
+    c.in_ok-its.its.items c.in_err-move_id.field-0.0
     are c.property.ensures.frame.same.bytes (rw ids at gave) (simp to_z-of_z at cause))
 
 pub returns-clause-bytes : goal.returns-clause-bytes
@@ -53,8 +56,10 @@ returns-clause-bytes g c =
     let there = rw again at called in
     let given = c.give-2.ensures.bytes in
     let end = simp to_z-of_z at given in
-    renumber_ok gives_keep move_keeps c.give-2.result c.args.d.now.bytes c.property.new.d.bytes c.give.new.d.bytes c.move_id.new.d.bytes c.give-2.new.d.bytes c.args.old
-    c.args.id c.in_ok-its.its.items c.in_ok-there.there.items are c.property.ensures.frame.same.bytes (rw ids at gave) (simp to_z-of_z at moves)
+    renumber_ok gives_keep move_keeps c.give-2.result c.args.d.now.bytes c.property.new.d.bytes c.give.new.d.bytes c.move_id.new.d.bytes
+    c.give-2.new.d.bytes c.args.old
+    c.args.id c.in_ok-its.its.items c.in_ok-there.there.items are c.property.ensures.frame.same.bytes (rw ids at gave)
+    (simp to_z-of_z at moves)
     (simp to_z-of_z at there) (rw last at end)
 
 pub returns-clause-fault : goal.returns-clause-fault
@@ -72,14 +77,17 @@ returns-clause-fault g c =
     let there = rw again at called in
     let cause = c.give-2.ensures.fault in
     let end = simp to_z-of_z at cause in
-    last_err gives_keep move_keeps c.give-2.result c.args.d.now.bytes c.property.new.d.bytes c.give.new.d.bytes c.move_id.new.d.bytes c.args.old
-    c.args.id c.in_ok-its.its.items c.in_ok-there.there.items are c.property.ensures.frame.same.bytes (rw ids at gave) (simp to_z-of_z at moves)
+    last_err gives_keep move_keeps c.give-2.result c.args.d.now.bytes c.property.new.d.bytes c.give.new.d.bytes c.move_id.new.d.bytes
+    c.args.old
+    c.args.id c.in_ok-its.its.items c.in_ok-there.there.items are c.property.ensures.frame.same.bytes (rw ids at gave)
+    (simp to_z-of_z at moves)
     (simp to_z-of_z at there) (rw last at end)
 
 pub returns-in_err-give-clause-frame : goal.returns-in_err-give-clause-frame
 returns-in_err-give-clause-frame g c =
     let p = err_from_is_err_and c.from_residual-in_err-give.result c.from_residual-in_err-give.ensures.1 in
-    rw (p.1, p.2) (drafted g.I.ImageRead c.args.d.now c.property.new.d c.give.new.d _ _ _ c.property.ensures.frame c.in_err-give.ensures.frame (λ h. cc))
+    rw (p.1, p.2) (drafted g.I.ImageRead c.args.d.now c.property.new.d c.give.new.d _ _ _ c.property.ensures.frame
+    c.in_err-give.ensures.frame (λ h. cc))
 
 pub returns-in_err-move_id-clause-frame : goal.returns-in_err-move_id-clause-frame
 returns-in_err-move_id-clause-frame g c =
@@ -100,4 +108,5 @@ returns-in_err-there-clause-frame g c =
     let p = err_from_is_err_and c.from_residual-in_err-there.result c.from_residual-in_err-there.ensures.1 in
     changed_then g.I.ImageRead c.args.d.now c.give.new.d c.move_id.new.d _ _ _
     (drafted g.I.ImageRead c.args.d.now c.property.new.d c.give.new.d _ _ _ c.property.ensures.frame c.give.ensures.frame (λ h. h))
-    (as_drafts g.I.ImageRead c.give.new.d c.move_id.new.d _ c.move_id.ensures.frame) (λ h. absurd (no_disk c.from_residual-in_err-there.result p.0 p.1 p.2 h))
+    (as_drafts g.I.ImageRead c.give.new.d c.move_id.new.d _ c.move_id.ensures.frame)
+    (λ h. absurd (no_disk c.from_residual-in_err-there.result p.0 p.1 p.2 h))

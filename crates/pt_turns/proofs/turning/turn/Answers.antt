@@ -16,7 +16,8 @@ returns-in_err-rename-clause-fault g c =
     let owner : FitsSigned w32 c.args.turn.owner = search rules in
     let p = err_from_is_err_and c.from_residual.result c.from_residual.ensures.1 in
     let cause = c.in_err-rename.ensures.fault in
-    rw (p.1, p.2) (rename_cause c.args.d.now.bytes (seen c.args.e.now) c.args.turn.name.items c.args.turn.owner c.args.turn.id c.in_err-rename.field-0.0
+    rw (p.1, p.2) (rename_cause c.args.d.now.bytes
+    (seen c.args.e.now) c.args.turn.name.items c.args.turn.owner c.args.turn.id c.in_err-rename.field-0.0
     (simp to_z-of_z at cause))
 
 pub returns-then-id-e-clause-bytes : goal.returns-then-id-e-clause-bytes
@@ -25,7 +26,8 @@ returns-then-id-e-clause-bytes g c =
     let id : FitsSigned w32 c.args.turn.id = search rules in
     let own : FitsSigned w32 c.args.e.now.id = search rules in
     let renames = c.in_ok-rename.ensures.bytes in
-    same_bytes c.args.d.now.bytes c.rename.new.d.bytes (seen c.args.e.now) c.args.turn.name.items c.args.turn.owner c.args.turn.id (simp to_z-of_z at renames)
+    same_bytes c.args.d.now.bytes c.rename.new.d.bytes (seen c.args.e.now) c.args.turn.name.items c.args.turn.owner c.args.turn.id
+    (simp to_z-of_z at renames)
     (omega (arith, ints))
 
 pub returns-clause-bytes : goal.returns-clause-bytes
@@ -34,10 +36,12 @@ returns-clause-bytes g c =
     let id : FitsSigned w32 c.args.turn.id = search rules in
     let own : FitsSigned w32 c.args.e.now.id = search rules in
     let other : int_eq c.args.turn.id c.args.e.now.id ≡ false =
-    false_from_ne_true (int_eq c.args.turn.id c.args.e.now.id) (λ is. let same : c.args.turn.id ≡ c.args.e.now.id = (Decides-int_eq c.args.turn.id c.args.e.now.id).0 is in omega (arith, ints)) in
+    false_from_ne_true (int_eq c.args.turn.id c.args.e.now.id)
+    (λ is. let same : c.args.turn.id ≡ c.args.e.now.id = (Decides-int_eq c.args.turn.id c.args.e.now.id).0 is in omega (arith, ints)) in
     let renames = c.in_ok-rename.ensures.bytes in
     let moves = c.renumber.ensures.bytes in
-    turn_ok c.renumber.result c.args.d.now.bytes c.rename.new.d.bytes c.renumber.new.d.bytes (seen c.args.e.now) c.args.turn.name.items c.args.turn.owner c.args.turn.id
+    turn_ok c.renumber.result c.args.d.now.bytes c.rename.new.d.bytes c.renumber.new.d.bytes
+    (seen c.args.e.now) c.args.turn.name.items c.args.turn.owner c.args.turn.id
     (simp to_z-of_z at renames) other (simp to_z-of_z at moves)
 
 pub returns-clause-fault : goal.returns-clause-fault
@@ -46,10 +50,12 @@ returns-clause-fault g c =
     let id : FitsSigned w32 c.args.turn.id = search rules in
     let own : FitsSigned w32 c.args.e.now.id = search rules in
     let other : int_eq c.args.turn.id c.args.e.now.id ≡ false =
-    false_from_ne_true (int_eq c.args.turn.id c.args.e.now.id) (λ is. let same : c.args.turn.id ≡ c.args.e.now.id = (Decides-int_eq c.args.turn.id c.args.e.now.id).0 is in omega (arith, ints)) in
+    false_from_ne_true (int_eq c.args.turn.id c.args.e.now.id)
+    (λ is. let same : c.args.turn.id ≡ c.args.e.now.id = (Decides-int_eq c.args.turn.id c.args.e.now.id).0 is in omega (arith, ints)) in
     let renames = c.in_ok-rename.ensures.bytes in
     let cause = c.renumber.ensures.fault in
-    turn_err c.renumber.result c.args.d.now.bytes c.rename.new.d.bytes (seen c.args.e.now) c.args.turn.name.items c.args.turn.owner c.args.turn.id
+    turn_err c.renumber.result c.args.d.now.bytes c.rename.new.d.bytes
+    (seen c.args.e.now) c.args.turn.name.items c.args.turn.owner c.args.turn.id
     (simp to_z-of_z at renames) other (simp to_z-of_z at cause)
 
 pub returns-clause-frame : goal.returns-clause-frame

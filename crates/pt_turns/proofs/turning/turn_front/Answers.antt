@@ -40,8 +40,10 @@ returns-clause-bytes g c =
     let so = c.named-after.ensures in
     let is = simp to_z-of_z at so in
     let made = c.put.ensures.bytes in
-    one_bytes_ok c.put.result c.args.d.now.bytes c.entry_of.new.d.bytes c.put.new.d.bytes c.args.front.now c.args.id (seen c.in-Some.e) (seen c.named-after.result)
-    (simp to_z-of_z at some) c.entry_of.ensures.frame.same.bytes (is ∙ ap (λ (n : List ℕ). named n c.in-Some.e.owner (seen c.in-Some.e)) (value ∙ front)) made
+    one_bytes_ok c.put.result c.args.d.now.bytes c.entry_of.new.d.bytes c.put.new.d.bytes c.args.front.now c.args.id (seen c.in-Some.e)
+    (seen c.named-after.result)
+    (simp to_z-of_z at some) c.entry_of.ensures.frame.same.bytes
+    (is ∙ ap (λ (n : List ℕ). named n c.in-Some.e.owner (seen c.in-Some.e)) (value ∙ front)) made
 
 pub returns-clause-fault : goal.returns-clause-fault
 returns-clause-fault g c =
@@ -56,4 +58,5 @@ returns-clause-fault g c =
     let so = c.named-after.ensures in
     let is = simp to_z-of_z at so in
     put_err c.put.result c.args.d.now.bytes c.entry_of.new.d.bytes c.args.front.now c.args.id (seen c.in-Some.e) (seen c.named-after.result)
-    (simp to_z-of_z at some) c.entry_of.ensures.frame.same.bytes (is ∙ ap (λ (n : List ℕ). named n c.in-Some.e.owner (seen c.in-Some.e)) (value ∙ front)) c.put.ensures.fault
+    (simp to_z-of_z at some) c.entry_of.ensures.frame.same.bytes
+    (is ∙ ap (λ (n : List ℕ). named n c.in-Some.e.owner (seen c.in-Some.e)) (value ∙ front)) c.put.ensures.fault

@@ -38,7 +38,8 @@ returns-in-Ok-answer-clause-short g c = decided_short c.in-Ok-answer.end c.in-Ok
 
 pub returns-in-Ok-answer-clause-reads : goal.returns-in-Ok-answer-clause-reads
 returns-in-Ok-answer-clause-reads g c =
-    decided_reads g.I.ImageRead c.args.image.now.image c.answer.new.d.image _ c.in-Ok-answer.end c.in-Ok-answer.ensures.short c.answer.ensures.frame.reads
+    decided_reads g.I.ImageRead c.args.image.now.image c.answer.new.d.image _ c.in-Ok-answer.end c.in-Ok-answer.ensures.short
+    c.answer.ensures.frame.reads
 
 pub returns-in-Err-clause-grammar : goal.returns-in-Err-clause-grammar
 returns-in-Err-clause-grammar g c =
