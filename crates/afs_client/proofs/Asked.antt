@@ -33,11 +33,13 @@ Follows q read heard (Err OutcomeUnknown) = is_unknown q heard ≡ true
 Follows q read heard (Err WriteFault) = ⊥
 Follows q read heard (Err NoMemory) = ⊥
 
-follows_silence : {A : Type 0} (q : Question) (writes : Bool) (read : List ℕ → Option A) → q.writes ≡ writes → Follows q read Silence (after_silence {A = A} writes)
+follows_silence : {A : Type 0} (q : Question) (writes : Bool) (read : List ℕ → Option A) → q.writes ≡ writes
+    → Follows q read Silence (after_silence {A = A} writes)
 follows_silence q true read is = is
 follows_silence q false read is = ap not is
 
-follows_taken : {A : Type 0} (q : Question) (writes : Bool) (read : List ℕ → Option A) (bytes : List ℕ) (found : Option A) → q.writes ≡ writes
+follows_taken : {A : Type 0} (q : Question) (writes : Bool) (read : List ℕ → Option A) (bytes : List ℕ) (found : Option A)
+    → q.writes ≡ writes
     → q.is_answer bytes ≡ is_some found → read bytes ≡ found → Follows q read (Answer bytes) (taken writes found)
 follows_taken q writes read bytes (Some x) is answers same = record { bytes = bytes; heard_is = refl; read_is = same }
 follows_taken q true read bytes None is answers same = grind arith
@@ -111,7 +113,8 @@ pub record HostsWent {A : Type 0} (has_bits : List ℕ → Bool) (q : Question) 
   pub post : HaveBits has_bits made → IfOk w.result (Taken has_bits read)
 
 -- a host that passes a call on stands before those behind it
-cause_on : {A : Type 0} (q : Question) (number : ℕ) (host : Host) (hosts : List Host) (e : Exchange) (made : List Exchange) (r : Result A Stop)
+cause_on : {A : Type 0} (q : Question) (number : ℕ) (host : Host) (hosts : List Host) (e : Exchange) (made : List Exchange)
+    (r : Result A Stop)
     → e.host ≡ host → PassesOn q number e → HostsCause q number hosts made r → HostsCause q number (host ∷ hosts) (e ∷ made) r
 cause_on q number host hosts e made (Ok x) at passes c = tt
 cause_on q number host hosts e made (Err (Refused why)) at passes c = record {
@@ -153,10 +156,13 @@ not_refused q Elsewhere why answers is = answers
 not_refused q Silence why answers is = answers
 
 -- what follows where a host was asked
-abbrev pub next_walk : {A : Type 0} → Bool → (List ℕ → Option A) → List ℕ → List Host → Asker → List Exchange → Result (Option A) Stop → Walk A
-next_walk writes read frame hosts asker es v = after_result (still v asker es) (λ found. or_next found (asks_hosts writes read frame hosts)) v
+abbrev pub next_walk : {A : Type 0} → Bool → (List ℕ → Option A) → List ℕ → List Host → Asker → List Exchange → Result (Option A) Stop
+    → Walk A
+next_walk writes read frame hosts asker es v =
+    after_result (still v asker es) (λ found. or_next found (asks_hosts writes read frame hosts)) v
 
-stop_cause : {A : Type 0} (q : Question) (read : List ℕ → Option A) (number : ℕ) (hosts : List Host) (e : Exchange) (why : Stop) → Carries q number e
+stop_cause : {A : Type 0} (q : Question) (read : List ℕ → Option A) (number : ℕ) (hosts : List Host) (e : Exchange) (why : Stop)
+    → Carries q number e
     → Follows q read (heard_in number e) (Err why) → HostsCause {A = A} q number hosts (e ∷ []) (Err why)
 stop_cause q read number hosts e (Refused why) carries is =
     record { earlier = []; asked = e; made_is = refl; carries = carries; refused = is }
@@ -166,7 +172,8 @@ stop_cause q read number hosts e OutcomeUnknown carries is =
 stop_cause q read number hosts e WriteFault carries is = tt
 stop_cause q read number hosts e NoMemory carries is = tt
 
-stop_well : {A : Type 0} (q : Question) (read : List ℕ → Option A) (heard : Heard) (why : Stop) → IsAnswer q heard → Follows q read heard (Err why)
+stop_well : {A : Type 0} (q : Question) (read : List ℕ → Option A) (heard : Heard) (why : Stop) → IsAnswer q heard
+    → Follows q read heard (Err why)
     → IsSettled {A = A} (Err why)
 stop_well q read heard (Refused why) answers is = not_refused q heard why answers is
 stop_well q read heard NoServer answers is = is
@@ -176,7 +183,8 @@ stop_well q read heard NoMemory answers is = tt
 
 -- where the first ask is that of the first exchange
 pub first_ask : (host : Host) (port : ℕ) (frame : List ℕ) (e : Exchange) (asks others : List Asked)
-    → (record { host = host; port = port; frame = frame }) ∷ asks ≡ ask_in e ∷ others → (e.host ≡ host) × (e.frame ≡ frame) × (asks ≡ others)
+    → (record { host = host; port = port; frame = frame }) ∷ asks ≡ ask_in e ∷ others → (e.host ≡ host) × (e.frame ≡ frame)
+    × (asks ≡ others)
 first_ask host port frame e asks others eq =
     let asked : Asked = record { host = host; port = port; frame = frame } in
     let of_e : Asked = record { host = e.host; port = e.port; frame = e.frame } in
@@ -184,14 +192,17 @@ first_ask host port frame e asks others eq =
     let head : asked ≡ of_e = first_same asked of_e asks others same in
     (sym (ap (λ (a : Asked). a.host) head), sym (ap (λ (a : Asked). a.frame) head), others_same asked of_e asks others same)
 
-bits_of : (has_bits : List ℕ → Bool) (heard : Heard) (bytes : List ℕ) → heard ≡ Answer bytes → HasBits has_bits heard → has_bits bytes ≡ true
+bits_of : (has_bits : List ℕ → Bool) (heard : Heard) (bytes : List ℕ) → heard ≡ Answer bytes → HasBits has_bits heard
+    → has_bits bytes ≡ true
 bits_of has_bits heard bytes is bits = subst (λ (h : Heard). HasBits has_bits h) is bits
 
 pub within : (n : ℕ) → n % 2 ^ 32 < 2 ^ 32
 within n = omega arith
 
-hosts_step : {A : Type 0} (has_bits : List ℕ → Bool) (q : Question) (writes : Bool) (read : List ℕ → Option A) (host : Host) (hosts : List Host)
-    (asker : Asker) (e : Exchange) (es : List Exchange) (v : Result (Option A) Stop) → asker.number < 2 ^ 32 → Follows q read (heard_in asker.number e) v
+hosts_step : {A : Type 0} (has_bits : List ℕ → Bool) (q : Question) (writes : Bool) (read : List ℕ → Option A) (host : Host)
+    (hosts : List Host)
+    (asker : Asker) (e : Exchange) (es : List Exchange) (v : Result (Option A) Stop) → asker.number < 2 ^ 32
+    → Follows q read (heard_in asker.number e) v
     → HostsWent has_bits q read hosts asker es (asks_hosts writes read (ask_frame asker.number q.bytes) hosts asker es)
     → HostsWent has_bits q read (host ∷ hosts) asker (e ∷ es)
     (behind ((record { host = host; port = asker.port; frame = ask_frame asker.number q.bytes }) ∷ []) []
@@ -237,7 +248,8 @@ hosts_step has_bits q writes read host hosts asker e es (Err why) few follows ot
       post = λ bits. tt;
     }
 
-hosts_went : {A : Type 0} (has_bits : List ℕ → Bool) (q : Question) (writes : Bool) (read : List ℕ → Option A) → Reads q writes read → (hosts : List Host)
+hosts_went : {A : Type 0} (has_bits : List ℕ → Bool) (q : Question) (writes : Bool) (read : List ℕ → Option A) → Reads q writes read
+    → (hosts : List Host)
     (asker : Asker) (es : List Exchange) → asker.number < 2 ^ 32
     → HostsWent has_bits q read hosts asker es (asks_hosts writes read (ask_frame asker.number q.bytes) hosts asker es)
 unfolding ◌>>=◌ hears
@@ -263,7 +275,8 @@ hosts_went has_bits q writes read reads (host ∷ hosts) asker (e ∷ es) few =
     hosts_step has_bits q writes read host hosts asker e es (verdict writes read (heard_in asker.number e)) few
     (follows q writes read reads (heard_in asker.number e)) (hosts_went has_bits q writes read reads hosts asker es few)
 
-end_cause : {C A : Type 0} (d : Database C) (given : Type 0) (call : C) (number : ℕ) (hosts : List Host) (made : List Exchange) (r : Result A Stop)
+end_cause : {C A : Type 0} (d : Database C) (given : Type 0) (call : C) (number : ℕ) (hosts : List Host) (made : List Exchange)
+    (r : Result A Stop)
     → (given → (d.question call).fits ≡ true) → HostsCause (d.question call) number hosts made r → EndCause d given hosts made r
 end_cause d given call number hosts made (Ok x) fits c = tt
 end_cause d given call number hosts made (Err (Refused why)) fits c = inr (record {
@@ -310,11 +323,13 @@ All_as : {X : Type 0} (P Q : X → Type 0) → ((x : X) → P x → Q x) → (xs
 All_as P Q gives [] all = tt
 All_as P Q gives (x ∷ xs) all = (gives x all.0, All_as P Q gives xs all.1)
 
-first_answers : {C : Type 0} (d : Database C) (call : C) (number : ℕ) (hosts : List Host) (made : List Exchange) → (d.question call).fits ≡ true
+first_answers : {C : Type 0} (d : Database C) (call : C) (number : ℕ) (hosts : List Host) (made : List Exchange)
+    → (d.question call).fits ≡ true
     → Served d hosts made → FirstAnswers (d.question call) number hosts made
 first_answers d call number [] made fits served = served
 first_answers d call number (host ∷ hosts) made fits served =
-    All_as (Answers d host) (λ (e : Exchange). e.host ≡ host → Carries (d.question call) number e → IsAnswer (d.question call) (heard_in number e))
+    All_as (Answers d host)
+    (λ (e : Exchange). e.host ≡ host → Carries (d.question call) number e → IsAnswer (d.question call) (heard_in number e))
     (λ e answers at carries. answers at call number carries fits) made served.0
 
 post_as : {A : Type 0} (P Q : A → Type 0) (r : Result A Stop) → ((x : A) → P x → Q x) → IfOk r P → IfOk r Q
@@ -335,6 +350,8 @@ sound_call d given Post call writes read reads fits post asker es =
       counts = went.counts;
       stays = ap (λ (a : Asker). a.hosts) went.stays;
       cause = λ eq. end_cause d given call (counted asker).number asker.hosts went.made _ fits (went.cause eq);
-      well = λ g eq served. ends_well d.own _ (went.well eq (first_answers d call (counted asker).number asker.hosts went.made (fits g) served));
+      well =
+          λ g eq served. ends_well d.own _
+          (went.well eq (first_answers d call (counted asker).number asker.hosts went.made (fits g) served));
       post = λ g eq bits. post_as (Taken d.has_bits read) Post _ post (went.post bits);
     }

@@ -20,16 +20,19 @@ pub front_none : (t : Option (List ℕ)) (text : List ℕ) → FrontOf t t text
 front_none t text = record { said = []; unsaid = text; text_is = refl; appended = appended_none t }
 
 -- the hosts of a request were asked
-pub looked : (request : DebugRequest) (hosts : List Host) (before after : List Exchange) (out out1 : Option (List ℕ)) (end : Result (Unit {0}) Stop)
+pub looked : (request : DebugRequest) (hosts : List Host) (before after : List Exchange) (out out1 : Option (List ℕ))
+    (end : Result (Unit {0}) Stop)
     → hosts ≡ request.hosts
     → ToldSome (looks false hosts) (record { hosts = hosts; port = kind_port request.kind; number = 0 }) before after out out1 end
     → ToldSome (looks false request.hosts) (debug_asker request) before after out out1 end
 looked request hosts before after out out1 end same told =
-    let at : List Host → Type 0 = λ hs. ToldSome (looks false hs) (record { hosts = hs; port = kind_port request.kind; number = 0 }) before after out out1 end in
+    let at : List Host → Type 0 = λ hs. ToldSome (looks false hs)
+    (record { hosts = hs; port = kind_port request.kind; number = 0 }) before after out out1 end in
     subst at same told
 
 -- memory ran out before anything was asked
-pub short_look : (request : DebugRequest) (e : List Exchange) (status : ℕ) (out : Option (List ℕ)) → status ≡ 5 → Looked request e e status out out
+pub short_look : (request : DebugRequest) (e : List Exchange) (status : ℕ) (out : Option (List ℕ)) → status ≡ 5
+    → Looked request e e status out out
 short_look request e status out is = record {
   end = Err NoMemory;
   status_is = is;

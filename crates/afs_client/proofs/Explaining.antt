@@ -58,7 +58,8 @@ came_settled : {C : Type 0} (d : Database C) (tool : List ℕ) (course : Course 
 came_settled d tool course asker made end out out1 err err1 sound came =
     settled d asker made (course asker made) end (sound asker made) came.asks_are came.ends_so
 
-none_took : {C : Type 0} (d : Database C) (hosts : List Host) (made : List Exchange) → AskedAll d (Unit {0}) hosts made → NoneTook d hosts made
+none_took : {C : Type 0} (d : Database C) (hosts : List Host) (made : List Exchange) → AskedAll d (Unit {0}) hosts made
+    → NoneTook d hosts made
 none_took d hosts made c = record {
   call = c.call;
   number = c.number;
@@ -71,7 +72,8 @@ none_took d hosts made c = record {
 }
 
 explain_end : {C : Type 0} (d : Database C) (tool : List ℕ) (course : Course (Unit {0})) (asker : Asker)
-    (before after made : List Exchange) (status : ℕ) (end : Result (Unit {0}) Stop) (out out1 err err1 : Option (List ℕ)) → Sound d (Unit {0}) Any course
+    (before after made : List Exchange) (status : ℕ) (end : Result (Unit {0}) Stop) (out out1 err err1 : Option (List ℕ))
+    → Sound d (Unit {0}) Any course
     → after ≡ before ++ made → status ≡ status_of end → CameOrBroke end tool (course asker made) made out out1 err err1
     → Explained d course asker before after status
 explain_end d tool course asker before after made status (Ok x) out out1 err err1 sound grown is came = record {
@@ -136,11 +138,13 @@ explain d tool course asker before after status out out1 err err1 sound done =
     explain_end d tool course asker before after done.made status done.end out out1 err err1 sound done.grown done.status_is done.came
 
 -- a command that was run has the cause of its status in its exchanges
-explained : (tool : Tool) (command : words.Command) (asker : Asker) (before after : List Exchange) (status : ℕ) (out out1 err err1 : Option (List ℕ))
+explained : (tool : Tool) (command : words.Command) (asker : Asker) (before after : List Exchange) (status : ℕ)
+    (out out1 err err1 : Option (List ℕ))
     → Fitting command → Commanded (tool_name tool) (course_of tool command) asker before after status out out1 err err1
     → ExplainedFor tool command asker before after status
 explained Vos command asker before after status out out1 err err1 fitting done =
-    explain volumes_database _ (course_of Vos command) asker before after status out out1 err err1 (vos_sound command fitting (Unit {0})) done
+    explain volumes_database _ (course_of Vos command) asker before after status out out1 err err1
+    (vos_sound command fitting (Unit {0})) done
 explained Pts command asker before after status out out1 err err1 fitting done =
     explain users_database _ (course_of Pts command) asker before after status out out1 err err1 (pts_sound command fitting (Unit {0})) done
 
@@ -170,7 +174,8 @@ debug_understood : (hosts : List Host) (given : List (List ℕ)) → Understood 
 debug_understood hosts [] = tt
 debug_understood hosts (word ∷ given) = kind_understood hosts given (kind_of word)
 
-either : (b : Bool) (first second : Result Request RequestFault) → Understood first → Understood second → Understood (if b then first else second)
+either : (b : Bool) (first second : Result Request RequestFault) → Understood first → Understood second
+    → Understood (if b then first else second)
 either true first second a b = a
 either false first second a b = b
 
@@ -189,11 +194,13 @@ explain_meaning : (meaning : Result Request RequestFault) (before after : List E
     → IfOk meaning (λ found. IsExplained found before after status)
 explain_meaning (Ok (request.Command r)) before after status out out1 err err1 fitting ran =
     explained r.tool r.words (asker_of r) before after status out out1 err err1 fitting ran
-explain_meaning (Ok (request.Debug r)) before after status out out1 err err1 fitting ran = look_explained r before after status out out1 ran.0
+explain_meaning (Ok (request.Debug r)) before after status out out1 err err1 fitting ran =
+    look_explained r before after status out out1 ran.0
 explain_meaning (Err fault) before after status out out1 err err1 fitting ran = tt
 
 -- what the status says follows from what came of the words
 pub is_explained : (given : List (List ℕ)) (before after : List Exchange) (status : ℕ) (out out1 err err1 : Option (List ℕ))
-    → ClientRan (request_of given) before after status out out1 err err1 → IfOk (request_of given) (λ found. IsExplained found before after status)
+    → ClientRan (request_of given) before after status out out1 err err1
+    → IfOk (request_of given) (λ found. IsExplained found before after status)
 is_explained given before after status out out1 err err1 ran =
     explain_meaning (request_of given) before after status out out1 err err1 (understood given) ran

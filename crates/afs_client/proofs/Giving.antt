@@ -18,7 +18,8 @@ abbrev pub attempted_walk : {A : Type 0} → Walk A → Walk (Result A Stop)
 attempted_walk w = record { asks = w.asks; text = w.text; result = attempted w.result; asker = w.asker; rest = w.rest }
 
 -- a refusal stays one where more was exchanged later
-refused_before : {C : Type 0} (d : Database C) (made later : List Exchange) (why : Refusal) → RefusalCause d made why → RefusalCause d (made ++ later) why
+refused_before : {C : Type 0} (d : Database C) (made later : List Exchange) (why : Refusal) → RefusalCause d made why
+    → RefusalCause d (made ++ later) why
 refused_before d made later why (inl owned) = inl owned
 refused_before d made later why (inr c) = inr (record {
   call = c.call;
@@ -34,7 +35,8 @@ refused_before d made later why (inr c) = inr (record {
 -- How a change was given up: as refused, or memory or a sink failed before.
 abbrev pub GaveUp : {C : Type 0} → Database C → Type 0 → List Host → List Exchange → Refusal → Walk (Unit {0}) → Type 0
 GaveUp d given hosts made why w =
-    (w.result ≡ Err (Refused why)) ⊎ ((w.result ≡ Err NoMemory) ⊎ ((w.result ≡ Err WriteFault) × (given → w.asks ≡ asks_in made → Served d hosts made → ⊥)))
+    (w.result ≡ Err (Refused why))
+    ⊎ ((w.result ≡ Err NoMemory) ⊎ ((w.result ≡ Err WriteFault) × (given → w.asks ≡ asks_in made → Served d hosts made → ⊥)))
 
 abbrev pub gave_up_walk : Walk (Unit {0}) → Refusal → Result (Unit {0}) Stop → Walk (Unit {0})
 gave_up_walk w why r = after_result (attempted_walk w) (λ any. stops (Refused why)) (attempted r)
@@ -50,7 +52,8 @@ front_as : {A B : Type 0} (asker : Asker) (es made : List Exchange) (w : Walk A)
     → Front asker es made (record { asks = w.asks; text = w.text; result = r; asker = w.asker; rest = w.rest })
 front_as asker es made w r front = record { split = front.split; counts = front.counts; stays = front.stays }
 
-pub record GivenUp {C : Type 0} (d : Database C) (given : Type 0) (asker : Asker) (es made : List Exchange) (why : Refusal) (w : Walk (Unit {0})) : Type 0 where
+pub record GivenUp {C : Type 0} (d : Database C) (given : Type 0) (asker : Asker) (es made : List Exchange) (why : Refusal)
+    (w : Walk (Unit {0})) : Type 0 where
   pub front : Front asker es made w
   pub gave : GaveUp d given asker.hosts made why w
 
@@ -72,7 +75,8 @@ gave_up d given asker es w went why (Err WriteFault) is = record {
 gave_up d given asker es w went why (Err NoMemory) is =
     record { front = front_as asker es went.made w (Err NoMemory) (front_of went); gave = inr (inl refl) }
 
-gave_cause : {C : Type 0} (d : Database C) (given before : Type 0) (hosts all : List Host) (made whole : List Exchange) (why : Refusal) (w : Walk (Unit {0}))
+gave_cause : {C : Type 0} (d : Database C) (given before : Type 0) (hosts all : List Host) (made whole : List Exchange) (why : Refusal)
+    (w : Walk (Unit {0}))
     → GaveUp d given hosts made why w → RefusalCause d whole why → EndCause d before all whole w.result
 gave_cause d given before hosts all made whole why w (inl is) cause =
     subst (λ (r : Result (Unit {0}) Stop). EndCause d before all whole r) (sym is) cause
@@ -100,19 +104,22 @@ sound_gives_up d given id why owned release asker es =
       split = done.front.split;
       counts = done.front.counts;
       stays = done.front.stays;
-      cause = λ eq. gave_cause d given given asker.hosts asker.hosts went.made went.made why (gives_up id why asker es) done.gave (inl owned);
+      cause =
+          λ eq. gave_cause d given given asker.hosts asker.hosts went.made went.made why (gives_up id why asker es) done.gave (inl owned);
       well = λ g eq served. gave_well d given asker.hosts went.made why (gives_up id why asker es) done.gave owned g eq served;
       post = λ g eq bits. any_post _;
     }
 
 stopped : {C : Type 0} (d : Database C) (given : Type 0) (asker : Asker) (es : List Exchange) (w : Walk (Unit {0}))
-    → Went d given Any asker es w → (why : Stop) → w.result ≡ Err why → Went d given Any asker es (behind w.asks w.text (stops {A = Unit {0}} why w.asker w.rest))
+    → Went d given Any asker es w → (why : Stop) → w.result ≡ Err why
+    → Went d given Any asker es (behind w.asks w.text (stops {A = Unit {0}} why w.asker w.rest))
 stopped d given asker es w went why is = record {
   made = went.made;
   split = went.split;
   counts = ap length (append-nil w.asks) ∙ went.counts;
   stays = went.stays;
-  cause = λ eq. subst (λ (r : Result (Unit {0}) Stop). EndCause d given asker.hosts went.made r) is (went.cause (sym (append-nil w.asks) ∙ eq));
+  cause =
+      λ eq. subst (λ (r : Result (Unit {0}) Stop). EndCause d given asker.hosts went.made r) is (went.cause (sym (append-nil w.asks) ∙ eq));
   well = λ g eq served. subst (λ (r : Result (Unit {0}) Stop). EndsWell d.own r) is (went.well g (sym (append-nil w.asks) ∙ eq) served);
   post = λ g eq bits. tt;
 }
@@ -160,7 +167,8 @@ replaced d given id asker es w release went (Err (Refused why)) is =
           let parts = both_made w.asks walk.asks went.made second.made went.counts eq in
           let bits = bits_front d.has_bits went.made second.made (served_bits d asker.hosts (went.made ++ second.made) served) in
           gave_well d more w.asker.hosts second.made why walk done.gave
-          (subst (λ (r : Result (Unit {0}) Stop). EndsWell d.own r) is (went.well g parts.0 (served_front d asker.hosts went.made second.made served)))
+          (subst (λ (r : Result (Unit {0}) Stop). EndsWell d.own r) is
+          (went.well g parts.0 (served_front d asker.hosts went.made second.made served)))
           (g, parts.0, bits) parts.1
           (subst (λ (hosts : List Host). Served d hosts second.made) (sym went.stays)
           (served_back d asker.hosts went.made second.made served));
@@ -173,7 +181,8 @@ replaced d given id asker es w release went (Err NoMemory) is = left_off d given
 
 -- a replacement that is given up where it is refused
 pub sound_replacing : {C : Type 0} (d : Database C) (given : Type 0) (id : ℕ) (m : Course (Unit {0}))
-    → Sound d given Any m → ((more : Type 0) → Sound d more Any (releases_lock id)) → Sound d given Any (attempts m >>= λ end. after_replace id end)
+    → Sound d given Any m → ((more : Type 0) → Sound d more Any (releases_lock id))
+    → Sound d given Any (attempts m >>= λ end. after_replace id end)
 unfolding attempts ◌>>=◌
 sound_replacing d given id m sound release asker es =
     replaced d given id asker es (m asker es) release (sound asker es) (m asker es).result refl

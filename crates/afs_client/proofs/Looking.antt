@@ -86,7 +86,8 @@ one_behind e made one = record {
   answered = one.answered;
 }
 
-one_of : (any : Bool) (seen : Option DebugIs) (e : Exchange) (made : List Exchange) → Shows seen e → ((any || is_some seen) ≡ true) ⊎ OneAnswered made
+one_of : (any : Bool) (seen : Option DebugIs) (e : Exchange) (made : List Exchange) → Shows seen e → ((any || is_some seen) ≡ true)
+    ⊎ OneAnswered made
     → (any ≡ true) ⊎ OneAnswered (e ∷ made)
 one_of any seen e made shows (inr one) = inr (one_behind e made one)
 one_of true seen e made shows (inl is) = inl refl
@@ -99,23 +100,27 @@ question_to host asker = record { host = host; port = asker.port; frame = spelli
 looked_at : (any : Bool) (host : Host) (hosts : List Host) (asker : Asker) (e : Exchange) (es : List Exchange) (seen : Option DebugIs)
     → seen_answer (counted asker).number e.answer e.reply ≡ seen
     → LooksWent (any || is_some seen) hosts es (looks (any || is_some seen) hosts (counted asker) es)
-    → LooksWent any (host ∷ hosts) (e ∷ es) (behind (question_to host asker ∷ []) [] (behind [] (seen_text host seen) (looks (any || is_some seen) hosts (counted asker) es)))
+    → LooksWent any (host ∷ hosts) (e ∷ es)
+    (behind (question_to host asker ∷ []) [] (behind [] (seen_text host seen) (looks (any || is_some seen) hosts (counted asker) es)))
 looked_at any host hosts asker e es seen is others = record {
   made = e ∷ others.made;
   split = ap (λ (rest : List Exchange). e ∷ rest) others.split;
-  counts = let counts : length (looks (any || is_some seen) hosts (counted asker) es).asks ≡ length others.made = others.counts in omega arith;
+  counts =
+      let counts : length (looks (any || is_some seen) hosts (counted asker) es).asks ≡ length others.made = others.counts in omega arith;
   none = λ eq end.
       let first = first_ask host asker.port (spelling (frame.Debug (counted asker).number)) e _ _ eq in
       let rest = others.none first.2 end in
       let both = neither any (is_some seen) rest.0 in (
         both.0,
         none_seen seen host hosts e others.made first.0
-            (record { number = (counted asker).number; counted = within (asker.number + 1); frame_is = first.1; seen_is = is }) both.1 rest.1,
+            (record { number = (counted asker).number; counted = within (asker.number + 1); frame_is = first.1; seen_is = is }) both.1
+            rest.1,
       );
   one = λ eq end.
       let first = first_ask host asker.port (spelling (frame.Debug (counted asker).number)) e _ _ eq in
       one_of any seen e others.made
-      (record { number = (counted asker).number; counted = within (asker.number + 1); frame_is = first.1; seen_is = is }) (others.one first.2 end);
+      (record { number = (counted asker).number; counted = within (asker.number + 1); frame_is = first.1; seen_is = is })
+      (others.one first.2 end);
   ends = others.ends;
 }
 
@@ -188,7 +193,8 @@ no_other hosts asker now made said why leads =
     let result : w.result ≡ Err why = ap (λ (v : Walk (Unit {0})). v.result) leads in
     one_of_both w.result why result (looks_went false hosts asker (made ++ [])).ends
 
-explain_look : (hosts : List Host) (asker now : Asker) (before after : List Exchange) (status : ℕ) (said : List ℕ) (end : Result (Unit {0}) Stop)
+explain_look : (hosts : List Host) (asker now : Asker) (before after : List Exchange) (status : ℕ) (said : List ℕ)
+    (end : Result (Unit {0}) Stop)
     → status ≡ status_of end → Went end (looks false hosts) asker before said now after → LookExplained hosts before after status
 explain_look hosts asker now before after status said (Ok x) is led = record {
   made = led.made;
@@ -227,4 +233,5 @@ explain_look hosts asker now before after status said (Err NoMemory) is broke = 
 pub look_explained : (request : DebugRequest) (before after : List Exchange) (status : ℕ) (out out1 : Option (List ℕ))
     → Looked request before after status out out1 → LookExplained request.hosts before after status
 look_explained request before after status out out1 done =
-    explain_look request.hosts (debug_asker request) done.told.now before after status done.told.ran.said done.end done.status_is done.told.ran.went
+    explain_look request.hosts
+    (debug_asker request) done.told.now before after status done.told.ran.said done.end done.status_is done.told.ran.went

@@ -48,7 +48,8 @@ ran_pts r hosts before after status out out1 err err1 is same done =
     subst of (sym is) (subst at same done)
 
 -- memory ran out before anything was asked
-short_command : (tool : List ℕ) (course : Course (Unit {0})) (s : Asker) (e : List Exchange) (status : ℕ) (out err : Option (List ℕ)) → status ≡ 5
+short_command : (tool : List ℕ) (course : Course (Unit {0})) (s : Asker) (e : List Exchange) (status : ℕ) (out err : Option (List ℕ))
+    → status ≡ 5
     → Commanded tool course s e e status out out err err
 short_command tool course s e status out err is = record {
   made = [];
@@ -72,7 +73,8 @@ ran_short (Err fault) e status out err is =
     record { asks_nothing = refl; out_is = appended_none out; err_is = inr (inr is, front_none err (fault_line fault)) }
 
 -- what the words ask for was read
-pub ran_request : (meaning : Result Request RequestFault) (found : Request) (before after : List Exchange) (status : ℕ) (out out1 err err1 : Option (List ℕ))
+pub ran_request : (meaning : Result Request RequestFault) (found : Request) (before after : List Exchange) (status : ℕ)
+    (out out1 err err1 : Option (List ℕ))
     → Ok found ≡ meaning → RequestRan found before after status out out1 err err1 → ClientRan meaning before after status out out1 err err1
 ran_request meaning found before after status out out1 err err1 is done =
     subst (λ (m : Result Request RequestFault). ClientRan m before after status out out1 err err1) is done
@@ -85,7 +87,8 @@ ran_command found r before after status out out1 err err1 is done =
     subst (λ (f : Request). RequestRan f before after status out out1 err err1) (sym is) done
 
 -- the status of the line of a fault
-pub declined : (line : List ℕ) (why : Stop) (status : ℕ) (err err1 : Option (List ℕ)) → status ≡ stop_status why → SaysFault (Err why) err err1 line
+pub declined : (line : List ℕ) (why : Stop) (status : ℕ) (err err1 : Option (List ℕ)) → status ≡ stop_status why
+    → SaysFault (Err why) err err1 line
     → Declines line status err err1
 declined line (Refused refusal) status err err1 is said = absurd said
 declined line NoServer status err err1 is said = absurd said
@@ -93,7 +96,8 @@ declined line OutcomeUnknown status err err1 is said = absurd said
 declined line WriteFault status err err1 is said = inr (inl is, said)
 declined line NoMemory status err err1 is said = inr (inr is, said)
 
-pub says_fault : (line text : List ℕ) (r : Result (Unit {0}) Stop) (err err1 : Option (List ℕ)) → text ≡ line → Says r err err1 text → SaysFault r err err1 line
+pub says_fault : (line text : List ℕ) (r : Result (Unit {0}) Stop) (err err1 : Option (List ℕ)) → text ≡ line → Says r err err1 text
+    → SaysFault r err err1 line
 says_fault line text (Ok x) err err1 same said = subst (λ (t : List ℕ). Appended err err1 t) same said
 says_fault line text (Err (Refused refusal)) err err1 same said = cc (said.0)
 says_fault line text (Err NoServer) err err1 same said = cc (said.0)
@@ -125,7 +129,8 @@ not_two (Err OutcomeUnknown) status is two = omega arith
 not_two (Err WriteFault) status is two = omega arith
 not_two (Err NoMemory) status is two = omega arith
 
-declined_so : (line : List ℕ) (status : ℕ) (err err1 : Option (List ℕ)) → Declines line status err err1 → (status ≡ 2) ⊎ ((status ≡ 4) ⊎ (status ≡ 5))
+declined_so : (line : List ℕ) (status : ℕ) (err err1 : Option (List ℕ)) → Declines line status err err1 → (status ≡ 2)
+    ⊎ ((status ≡ 4) ⊎ (status ≡ 5))
 declined_so line status err err1 (inl said) = inl said.0
 declined_so line status err err1 (inr said) = inr said.0
 

@@ -47,7 +47,8 @@ EndsWell own (Err NoMemory) = Unit {0}
 
 -- What a course did with the exchanges that were to come: some are its own, one for each ask; its end has its cause in them, it ends well
 -- where the first host answered in each, and its value is so.
-pub record Went {C A : Type 0} (d : Database C) (given : Type 0) (Post : A → Type 0) (asker : Asker) (es : List Exchange) (w : Walk A) : Type 0 where
+pub record Went {C A : Type 0} (d : Database C) (given : Type 0) (Post : A → Type 0) (asker : Asker) (es : List Exchange)
+    (w : Walk A) : Type 0 where
   pub made : List Exchange
   pub split : es ≡ made ++ w.rest
   pub counts : length w.asks ≡ length made
@@ -162,7 +163,8 @@ sound_still d given Post r cause well post asker es = record {
   post = λ g eq bits. post g;
 }
 
-pub sound_gives : {C A : Type 0} (d : Database C) (given : Type 0) (Post : A → Type 0) (x : A) → (given → Post x) → Sound d given Post (gives x)
+pub sound_gives : {C A : Type 0} (d : Database C) (given : Type 0) (Post : A → Type 0) (x : A) → (given → Post x)
+    → Sound d given Post (gives x)
 sound_gives d given Post x post = sound_still d given Post (Ok x) (λ hosts. tt) tt post
 
 pub sound_says : {C : Type 0} (d : Database C) (given : Type 0) (text : List ℕ) → Sound d given Any (says text)
@@ -177,11 +179,13 @@ sound_says d given text asker es = record {
 }
 
 -- the command's own refusal
-pub sound_own : {C A : Type 0} (d : Database C) (given : Type 0) (Post : A → Type 0) (why : Refusal) → why ≡ d.own → Sound d given Post (stops (Refused why))
+pub sound_own : {C A : Type 0} (d : Database C) (given : Type 0) (Post : A → Type 0) (why : Refusal) → why ≡ d.own
+    → Sound d given Post (stops (Refused why))
 sound_own {A = A} d given Post why owned = sound_still {A = A} d given Post (Err (Refused why)) (λ hosts. inl owned) owned (λ g. tt)
 
 -- what a walk asked, where another one stands behind it
-pub both_made : (asks1 asks2 : List Asked) (made1 made2 : List Exchange) → length asks1 ≡ length made1 → asks1 ++ asks2 ≡ asks_in (made1 ++ made2)
+pub both_made : (asks1 asks2 : List Asked) (made1 made2 : List Exchange) → length asks1 ≡ length made1 → asks1
+    ++ asks2 ≡ asks_in (made1 ++ made2)
     → (asks1 ≡ asks_in made1) × (asks2 ≡ asks_in made2)
 both_made asks1 asks2 made1 made2 len eq =
     let parts : asks1 ++ asks2 ≡ asks_in made1 ++ asks_in made2 = eq ∙ map-append ask_in made1 made2 in
@@ -217,13 +221,15 @@ pub front_of : {C A : Type 0} {d : Database C} {given : Type 0} {Post : A → Ty
 front_of went = record { split = went.split; counts = went.counts; stays = went.stays }
 
 -- one behind the other
-pub front_behind : {A B : Type 0} (asker : Asker) (es made1 made2 : List Exchange) (w : Walk A) (w2 : Walk B) → Front asker es made1 w → Front w.asker w.rest made2 w2
+pub front_behind : {A B : Type 0} (asker : Asker) (es made1 made2 : List Exchange) (w : Walk A) (w2 : Walk B) → Front asker es made1 w
+    → Front w.asker w.rest made2 w2
     → Front asker es (made1 ++ made2) (behind w.asks w.text w2)
 front_behind asker es made1 made2 w w2 first second = record {
   split = first.split ∙ ap (λ (rest : List Exchange). made1 ++ rest) second.split ∙ sym (append_assoc made1 made2 w2.rest);
   counts = let a : length w.asks ≡ length made1 = first.counts in
       let b : length w2.asks ≡ length made2 = second.counts in
-      length-append w.asks w2.asks ∙ ap (λ (n : ℕ). n + length w2.asks) a ∙ ap (λ (n : ℕ). length made1 + n) b ∙ sym (length-append made1 made2);
+      length-append w.asks w2.asks ∙ ap (λ (n : ℕ). n + length w2.asks) a ∙ ap (λ (n : ℕ). length made1 + n) b
+      ∙ sym (length-append made1 made2);
   stays = second.stays ∙ first.stays;
 }
 
@@ -232,8 +238,10 @@ abbrev pub GivenMore : {C A : Type 0} → Database C → Type 0 → List Exchang
 GivenMore d given made w = given × (w.asks ≡ asks_in made) × HaveBits d.has_bits made
 
 -- a course stands behind exchanges that were made before
-pub went_behind : {C A B : Type 0} (d : Database C) (given : Type 0) (Post : B → Type 0) (asker : Asker) (es made1 : List Exchange) (w : Walk A) (w2 : Walk B)
-    → Front asker es made1 w → Went d (GivenMore d given made1 w) Post w.asker w.rest w2 → Went d given Post asker es (behind w.asks w.text w2)
+pub went_behind : {C A B : Type 0} (d : Database C) (given : Type 0) (Post : B → Type 0) (asker : Asker) (es made1 : List Exchange)
+    (w : Walk A) (w2 : Walk B)
+    → Front asker es made1 w → Went d (GivenMore d given made1 w) Post w.asker w.rest w2
+    → Went d given Post asker es (behind w.asks w.text w2)
 went_behind d given Post asker es made1 w w2 first second =
     let both = front_behind asker es made1 second.made w w2 first (front_of second) in
     let more : Type 0 = GivenMore d given made1 w in
@@ -246,8 +254,10 @@ went_behind d given Post asker es made1 w w2 first second =
           end_behind d given more asker.hosts made1 second.made w2.result (λ g bits. (g, parts.0, bits))
           (subst (λ (hosts : List Host). EndCause d more hosts second.made w2.result) first.stays (second.cause parts.1));
       well = λ g eq served. let parts = both_made w.asks w2.asks made1 second.made first.counts eq in
-          second.well (g, parts.0, bits_front d.has_bits made1 second.made (served_bits d asker.hosts (made1 ++ second.made) served)) parts.1
-          (subst (λ (hosts : List Host). Served d hosts second.made) (sym first.stays) (served_back d asker.hosts made1 second.made served));
+          second.well (g, parts.0, bits_front d.has_bits made1 second.made (served_bits d asker.hosts (made1 ++ second.made) served))
+          parts.1
+          (subst (λ (hosts : List Host). Served d hosts second.made) (sym first.stays)
+          (served_back d asker.hosts made1 second.made served));
       post = λ g eq bits. let parts = both_made w.asks w2.asks made1 second.made first.counts eq in
           second.post (g, parts.0, bits_front d.has_bits made1 second.made bits) parts.1 (bits_back d.has_bits made1 second.made bits);
     }
@@ -255,8 +265,10 @@ went_behind d given Post asker es made1 w w2 first second =
 ok_post : {A : Type 0} (Post : A → Type 0) (r : Result A Stop) (x : A) → r ≡ Ok x → IfOk r Post → Post x
 ok_post {A = A} Post r x is post = subst (λ (s : Result A Stop). IfOk s Post) is post
 
-went_after : {C A B : Type 0} (d : Database C) (given : Type 0) (PostA : A → Type 0) (Post : B → Type 0) (asker : Asker) (es : List Exchange) (w : Walk A) (f : A → Course B)
-    → ((x : A) → (more : Type 0) → (more → PostA x) → Sound d more Post (f x)) → (first : Went d given PostA asker es w) → (r : Result A Stop) → w.result ≡ r
+went_after : {C A B : Type 0} (d : Database C) (given : Type 0) (PostA : A → Type 0) (Post : B → Type 0) (asker : Asker)
+    (es : List Exchange) (w : Walk A) (f : A → Course B)
+    → ((x : A) → (more : Type 0) → (more → PostA x) → Sound d more Post (f x)) → (first : Went d given PostA asker es w)
+    → (r : Result A Stop) → w.result ≡ r
     → Went d given Post asker es (after_result w f r)
 went_after d given PostA Post asker es w f sound first (Ok x) is =
     went_behind d given Post asker es first.made w (f x w.asker w.rest) (front_of first)
@@ -272,7 +284,8 @@ went_after {A = A} {B = B} d given PostA Post asker es w f sound first (Err why)
 }
 
 -- one course after another, which may need what is said of the first one's value
-pub sound_with : {C A B : Type 0} (d : Database C) (given : Type 0) (PostA : A → Type 0) (Post : B → Type 0) (m : Course A) (f : A → Course B)
+pub sound_with : {C A B : Type 0} (d : Database C) (given : Type 0) (PostA : A → Type 0) (Post : B → Type 0) (m : Course A)
+    (f : A → Course B)
     → Sound d given PostA m → ((x : A) → (more : Type 0) → (more → PostA x) → Sound d more Post (f x)) → Sound d given Post (m >>= f)
 unfolding ◌>>=◌
 sound_with d given PostA Post m f first sound asker es =
@@ -282,5 +295,6 @@ sound_with d given PostA Post m f first sound asker es =
 abbrev pub AlwaysSound : {C A : Type 0} → Database C → Course A → Type 1
 AlwaysSound d m = (given : Type 0) → Sound d given Any m
 
-pub always_then : {C A B : Type 0} (d : Database C) (m : Course A) (f : A → Course B) → AlwaysSound d m → ((x : A) → AlwaysSound d (f x)) → AlwaysSound d (m >>= f)
+pub always_then : {C A B : Type 0} (d : Database C) (m : Course A) (f : A → Course B) → AlwaysSound d m → ((x : A) → AlwaysSound d (f x))
+    → AlwaysSound d (m >>= f)
 always_then d m f first next given = sound_with d given Any Any m f (first given) (λ x more any. next x more)

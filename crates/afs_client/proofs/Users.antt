@@ -50,15 +50,18 @@ value x given = sound_gives users_database given Any x (λ g. tt)
 abbrev pub Takes : {A : Type 0} → (PtCall → PtAnswer → Option A) → PtCall → Type 0
 Takes take c = (bytes : List ℕ) → is_pt_answer c bytes ≡ is_taken take c bytes
 
-asked_with : {A : Type 0} (given : Type 0) (Post : A → Type 0) (take : PtCall → PtAnswer → Option A) (c : PtCall) → Takes take c → has_spelling c ≡ true
+asked_with : {A : Type 0} (given : Type 0) (Post : A → Type 0) (take : PtCall → PtAnswer → Option A) (c : PtCall) → Takes take c
+    → has_spelling c ≡ true
     → (given → pt_fits c ≡ true) → ((x : A) → Taken users_database.has_bits (taken_from (take c) c) x → Post x)
     → Sound users_database given Post (asks take c)
 unfolding asks
 asked_with given Post take c same spelled fits post =
     sound_met users_database given Post (has_spelling c) _ (stops (Refused Malformed)) spelled
-    (sound_call users_database given Post c (is_write (call_kind c)) (taken_from (take c) c) (record { writes_is = refl; read_is = same }) fits post)
+    (sound_call users_database given Post c (is_write (call_kind c)) (taken_from (take c) c)
+    (record { writes_is = refl; read_is = same }) fits post)
 
-asked : {A : Type 0} (take : PtCall → PtAnswer → Option A) (c : PtCall) → Takes take c → has_spelling c ≡ true → pt_fits c ≡ true → PtsSound (asks take c)
+asked : {A : Type 0} (take : PtCall → PtAnswer → Option A) (c : PtCall) → Takes take c → has_spelling c ≡ true → pt_fits c ≡ true
+    → PtsSound (asks take c)
 asked take c same spelled fits given = asked_with given Any take c same spelled (λ g. fits) (λ x taken. tt)
 
 known_if : (b : Bool) (id : ℤ) → PtsSound (still (if b then Err (Refused (Rule 267268)) else Ok id))
@@ -73,7 +76,8 @@ one_name false is = is
 name_id_sound : (name : List ℕ) → IsShort name → PtsSound (name_id name)
 unfolding name_id
 name_id_sound name short =
-    chain _ _ (asked id_in (call.NameToId (name ∷ [])) (λ bytes. refl) (one_name (nat_le (length name) 255) short) refl) (λ id. known_if _ id)
+    chain _ _ (asked id_in (call.NameToId (name ∷ [])) (λ bytes. refl) (one_name (nat_le (length name) 255) short) refl)
+    (λ id. known_if _ id)
 
 id_or_sound : (found : Option ℤ) (word : List ℕ) → IsShort word → PtsSound (id_or found word)
 id_or_sound (Some id) word short = value id
@@ -124,11 +128,13 @@ deletes_sound : (entry : List ℕ) → IsShort entry → PtsSound (deletes entry
 unfolding deletes
 deletes_sound entry short = chain (the_id entry) _ (the_id_sound entry short) (λ id. does_sound (call.Delete id) (λ bytes. refl) refl refl)
 
-changes_sound : (entry name : List ℕ) (owner : Option (List ℕ)) → IsShort entry → IsShort name → IfSome owner IsShort → PtsSound (changes entry name owner)
+changes_sound : (entry name : List ℕ) (owner : Option (List ℕ)) → IsShort entry → IsShort name → IfSome owner IsShort
+    → PtsSound (changes entry name owner)
 unfolding changes
 changes_sound entry name owner short named owned =
     chain (the_id entry) _ (the_id_sound entry short)
-    (λ id. chain (owner_id owner) _ (owner_id_sound owner owned) (λ by. does_sound (call.ChangeEntry id name by (pos 0)) (λ bytes. refl) named refl))
+    (λ id. chain (owner_id owner) _ (owner_id_sound owner owned)
+    (λ by. does_sound (call.ChangeEntry id name by (pos 0)) (λ bytes. refl) named refl))
 
 member_sound : (adds : Bool) (user group : ℤ) → PtsSound (does (member_call adds user group))
 member_sound true user group = does_sound (call.AddToGroup user group) (λ bytes. refl) refl refl
@@ -169,13 +175,15 @@ examines_sound : (entry : List ℕ) → IsShort entry → PtsSound (examines ent
 unfolding examines
 examines_sound entry short =
     chain (the_id entry) _ (the_id_sound entry short) (λ id. chain _ _ (asked entry_in (call.ListEntry id) (λ bytes. refl) refl refl)
-    (λ found. chain (the_names (found.owner ∷ found.creator ∷ [])) _ (the_names_sound (found.owner ∷ found.creator ∷ [])) (λ names. value _)))
+    (λ found. chain (the_names (found.owner ∷ found.creator ∷ [])) _ (the_names_sound (found.owner ∷ found.creator ∷ []))
+    (λ names. value _)))
 
 -- the ids of a page have their bits
 abbrev pub PageFits : List PtEntry → Type 0
 PageFits es = list_all (λ e. is_user_id e.id) es ≡ true
 
-page_fits : (kinds : ℕ) (after : ℤ) (a : Option PtAnswer) (es : List PtEntry) → option_and_then (page_in (call.ListEntries kinds after)) a ≡ Some es
+page_fits : (kinds : ℕ) (after : ℤ) (a : Option PtAnswer) (es : List PtEntry)
+    → option_and_then (page_in (call.ListEntries kinds after)) a ≡ Some es
     → pt_page_has_bits a ≡ true → PageFits es
 page_fits kinds after None es is bits = cc
 page_fits kinds after (Some answer.Done) es is bits = cc
@@ -194,7 +202,8 @@ last_fits last (e ∷ es) is fits = last_fits e.id es (first_true (is_user_id e.
 -- a page that is full has a last entry
 pages_on : (count kinds : ℕ) (after : ℤ) (text : List ℕ) (es : List PtEntry) (given : Type 0) → (given → PageFits es)
     → ((next : ℤ) (all : List ℕ) → (given → is_user_id next ≡ true) → Sound users_database given Any (lists_pages count kinds next all))
-    → Sound users_database given Any (if nat_lt (length es) MAX_PAGE then gives (text ++ rows es) else lists_pages count kinds (last_id after es) (text ++ rows es))
+    → Sound users_database given Any
+    (if nat_lt (length es) MAX_PAGE then gives (text ++ rows es) else lists_pages count kinds (last_id after es) (text ++ rows es))
 pages_on count kinds after text [] given fits next = value (text ++ rows []) given
 pages_on count kinds after text (e ∷ es) given fits next =
     sound_if users_database given Any (nat_lt (length (e ∷ es)) MAX_PAGE) _ _ (value (text ++ rows (e ∷ es)) given)
@@ -225,7 +234,8 @@ sets_fields_sound entry mask flags quota short =
     chain (the_id entry) _ (the_id_sound entry short) (λ id. does_sound (call.SetFields id mask flags quota) (λ bytes. refl) refl refl)
 
 -- items, worked through one after the other
-works_sound : (tasks : List _) → ((given : Type 0) → AllByRecursion (λ t. Sound users_database given Any (task_course t)) tasks) → PtsSound (works tasks)
+works_sound : (tasks : List _) → ((given : Type 0) → AllByRecursion (λ t. Sound users_database given Any (task_course t)) tasks)
+    → PtsSound (works tasks)
 works_sound [] sound = value tt
 works_sound (first ∷ others) sound =
     chain (task_course first) _ (λ given. (sound given).0)
@@ -241,7 +251,8 @@ each_item : {X : Type 0} (P : X → Type 0) (item : List ℕ → X) → ((word :
 each_item P item has [] short = tt
 each_item P item has (word ∷ words) short = (has word short.0, each_item P item has words short.1)
 
-each_pair : {X : Type 0} (P : X → Type 0) (item : List ℕ → List ℕ → X) → ((user group : List ℕ) → IsShort user → IsShort group → P (item user group))
+each_pair : {X : Type 0} (P : X → Type 0) (item : List ℕ → List ℕ → X)
+    → ((user group : List ℕ) → IsShort user → IsShort group → P (item user group))
     → (users groups : List (List ℕ)) → AllByRecursion IsShort users → AllByRecursion IsShort groups
     → AllByRecursion P (flat_map (λ user. map (λ group. item user group) groups) users)
 each_pair P item has [] groups users_short groups_short = tt
@@ -250,7 +261,8 @@ each_pair P item has (user ∷ users) groups users_short groups_short =
     (each_item P (λ group. item user group) (λ group short. has user group users_short.0 short) groups groups_short)
     (each_pair P item has users groups users_short.1 groups_short)
 
-made_sound : (given : Type 0) (is_group : Bool) (owner : Option (List ℕ)) (names : List (List ℕ)) → (ids : List (Option ℤ)) → IfSome owner IsShort → AllByRecursion IsShort names
+made_sound : (given : Type 0) (is_group : Bool) (owner : Option (List ℕ)) (names : List (List ℕ)) → (ids : List (Option ℤ))
+    → IfSome owner IsShort → AllByRecursion IsShort names
     → AllByRecursion (λ t. Sound users_database given Any (task_course t)) (made is_group owner names ids)
 made_sound given is_group owner [] ids owned short = tt
 made_sound given is_group owner (name ∷ names) ids owned short =
@@ -301,7 +313,8 @@ tasks_sound op.SetMax slots good given =
     all_append (λ t. Sound users_database given Any (task_course t)) (maximum true group) (maximum false user)
     (maximum_sound given true group) (maximum_sound given false user)
 tasks_sound op.SetFields slots good given =
-    each_item _ (fields (option_map flags_of (value_at slots 1)) (number_at slots 2)) (λ word short. sets_fields_sound word _ _ _ short given) _
+    each_item _ (fields (option_map flags_of (value_at slots 1)) (number_at slots 2))
+    (λ word short. sets_fields_sound word _ _ _ short given) _
     (names_at _ slots 0 _ _ _ good refl entry_name)
 tasks_sound _ slots good given = tt
 

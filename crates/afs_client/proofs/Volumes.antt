@@ -19,8 +19,8 @@ use Rattle.vl_calls.specs.declared.limits.TheConstants.{MAX_PAGE}
 use Rattle.tool_base.specs.Course.{◌>>=◌, Course, gives, says, stops}
 use Rattle.tool_base.specs.declared.stops.Refusal.TheVariants.{Malformed, Rule}
 use Rattle.tool_base.specs.declared.stops.Stop.TheVariants.{Refused}
-use Rattle.vldb_records.specs.declared.entries.VlEntry.{VlEntry}
-use Rattle.vldb_records.specs.declared.entries.VlSite.{VlSite}
+use Rattle.vldb_entries.specs.declared.entries.VlEntry.{VlEntry}
+use Rattle.vldb_entries.specs.declared.entries.VlSite.{VlSite}
 use Rattle.vl_calls.specs.declared.calls.GivenEntry.{GivenEntry}
 use Rattle.vos_tool.specs.Adding.{addentry_text, makes, makes_of, new_entry}
 use Rattle.vos_tool.specs.Addresses.{changeaddr_text, listaddrs_text}
@@ -119,7 +119,8 @@ addentry_sound name place id short = callable _ _ (stops (Refused Malformed)) sh
 abbrev pub PageFits : List VlEntry → Type 0
 PageFits es = list_all (λ e. is_volume_id e.rw) es ≡ true
 
-page_fits : (after : ℕ) (a : Option VlAnswer) (es : List VlEntry) → option_and_then (as_page after) a ≡ Some es → vl_page_has_bits a ≡ true → PageFits es
+page_fits : (after : ℕ) (a : Option VlAnswer) (es : List VlEntry) → option_and_then (as_page after) a ≡ Some es
+    → vl_page_has_bits a ≡ true → PageFits es
 page_fits after None es is bits = cc
 page_fits after (Some answer.Done) es is bits = cc
 page_fits after (Some (answer.Id id)) es is bits = cc
@@ -134,7 +135,8 @@ last_fits last (e ∷ es) is fits = last_fits e.rw es (first_true (is_volume_id 
 -- a page that is full has a last entry
 pages_on : (more : ℕ) (filter : Filter) (after : ℕ) (found es : List VlEntry) (given : Type 0) → (given → PageFits es)
     → ((next : ℕ) (all : List VlEntry) → (given → is_volume_id next ≡ true) → Sound volumes_database given Any (pages more filter next all))
-    → Sound volumes_database given Any (if nat_lt (length es) MAX_PAGE then gives (found ++ es) else pages more filter (last_id after es) (found ++ es))
+    → Sound volumes_database given Any
+    (if nat_lt (length es) MAX_PAGE then gives (found ++ es) else pages more filter (last_id after es) (found ++ es))
 pages_on more filter after found [] given fits next = value (found ++ []) given
 pages_on more filter after found (e ∷ es) given fits next =
     sound_if volumes_database given Any (nat_lt (length (e ∷ es)) MAX_PAGE) _ _ (value (found ++ (e ∷ es)) given)
@@ -147,7 +149,8 @@ unfolding pages
 pages_sound zero filter after found given fits = value found given
 pages_sound (suc more) filter after found given fits =
     sound_with volumes_database given PageFits Any _ _
-    (sound_call volumes_database given PageFits (page_call filter after) _ (page_in after) (record { writes_is = refl; read_is = λ bytes. refl }) fits
+    (sound_call volumes_database given PageFits (page_call filter after) _ (page_in after)
+    (record { writes_is = refl; read_is = λ bytes. refl }) fits
     (λ es taken. page_fits after (answer_of tells.Entries taken.bytes) es taken.read_is taken.bits))
     (λ es all has. pages_on more filter after found es all has (λ next whole given2. pages_sound more filter next whole all given2))
 
@@ -162,11 +165,13 @@ one_sound : (word : List ℕ) → IsShort word → VosSound (one_text word)
 unfolding one_text
 one_sound word short = chain (volume_entry word) _ (volume_entry_sound word short) (λ e. value _)
 
-listvldb_sound : (word : Option (List ℕ)) (filter : Filter) (style : Style) → IfSome word IsShort → VosSound (listvldb_text word filter style)
+listvldb_sound : (word : Option (List ℕ)) (filter : Filter) (style : Style) → IfSome word IsShort
+    → VosSound (listvldb_text word filter style)
 listvldb_sound (Some word) filter style short = one_sound word short
 listvldb_sound None filter style short = listing_sound filter style
 
-each_sound : {X : Type 0} (f : X → Course (Unit {0})) (P : X → Type 0) → ((x : X) → P x → VosSound (f x)) → (xs : List X) → AllByRecursion P xs → VosSound (each f xs)
+each_sound : {X : Type 0} (f : X → Course (Unit {0})) (P : X → Type 0) → ((x : X) → P x → VosSound (f x)) → (xs : List X)
+    → AllByRecursion P xs → VosSound (each f xs)
 each_sound f P sound [] all = value tt
 each_sound f P sound (x ∷ xs) all = chain (f x) _ (sound x all.0) (λ done. each_sound f P sound xs all.1)
 
@@ -178,7 +183,8 @@ unlockvldb_sound : (filter : Filter) → VosSound (unlockvldb_text filter)
 unfolding unlockvldb_text
 unlockvldb_sound filter =
     chain (entries_of filter) _ (entries_sound filter)
-    (λ es. chain (releases_each es) _ (each_sound (λ (e : VlEntry). releases_lock e.rw) Any (λ e any. releases_lock_sound e.rw) es (all_any es)) (λ done. value _))
+    (λ es. chain (releases_each es) _
+    (each_sound (λ (e : VlEntry). releases_lock e.rw) Any (λ e any. releases_lock_sound e.rw) es (all_any es)) (λ done. value _))
 
 deletes_sound : (word : List ℕ) → IsShort word → VosSound (deletes word)
 unfolding deletes
@@ -200,7 +206,8 @@ changeaddr_sound from None = chain _ _ (asked (call.ChangeAddr from 0) done_in (
 replaces_sound : (id : ℕ) (entry : GivenEntry) → VosSound (replaces id entry)
 unfolding replaces
 replaces_sound id entry given =
-    sound_replacing volumes_database given id _ (asked (call.ReplaceEntry id any_type entry WHOLE_LOCK) done_in (λ bytes. refl) refl given) (releases_lock_sound id)
+    sound_replacing volumes_database given id _
+    (asked (call.ReplaceEntry id any_type entry WHOLE_LOCK) done_in (λ bytes. refl) refl given) (releases_lock_sound id)
 
 replaces_if_sound : (id : ℕ) (e : VlEntry) (sites : Option (List VlSite)) → VosSound (replaces_if id e sites)
 replaces_if_sound id e (Some sites) = replaces_sound id (entry_with e sites)
@@ -216,7 +223,8 @@ changes_sound change place id =
 change_sound : (change : SiteChange) (place : Place) (word : List ℕ) → IsShort word → VosSound (change_text change place word)
 unfolding change_text
 change_sound change place word short =
-    chain (volume_id word) _ (volume_id_sound word short) (λ id. chain (changes_sites change place id) _ (changes_sound change place id) (λ done. value _))
+    chain (volume_id word) _ (volume_id_sound word short)
+    (λ id. chain (changes_sites change place id) _ (changes_sound change place id) (λ done. value _))
 
 -- the names in the words of an operation are such as a call takes
 abbrev pub VosNames : Operation → List Slot → Type 0
@@ -261,4 +269,5 @@ pub vos_sound : (c : Command) → Fitting c → VosSound (vos_course c)
 unfolding vos_text
 vos_sound c fitting =
     let names : VosNames c.operation c.switches = vos_names c.operation c.switches fitting in
-    chain (vos_text c) _ (text_sound c.operation c.switches names) (λ text. chain (says text) _ (λ given. sound_says volumes_database given text) (λ said. value tt))
+    chain (vos_text c) _ (text_sound c.operation c.switches names)
+    (λ text. chain (says text) _ (λ given. sound_says volumes_database given text) (λ said. value tt))

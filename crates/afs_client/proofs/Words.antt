@@ -62,14 +62,17 @@ Fitting c = AreGood (parameters_of c.operation) c.switches
 
 command_fits : (o : Operation) (words : List (List ℕ)) (c : Command) → command_of o words ≡ Ok c → Fitting c
 command_fits o words c is =
-    let whole = then_parts (slots_of (parameters_of o ++ common_parameters) words) (λ (slots : List Slot). Ok (command_with o slots)) c is in
+    let whole = then_parts (slots_of (parameters_of o ++ common_parameters) words)
+    (λ (slots : List Slot). Ok (command_with o slots)) c is in
     subst (λ (d : Command). Fitting d) (ok_same _ c whole.2) (read_good (parameters_of o) common_parameters words whole.0 whole.1)
 
-some_fits : (word : List ℕ) (words : List (List ℕ)) (found : Option Operation) (c : Command) → command_some word words found ≡ Ok c → Fitting c
+some_fits : (word : List ℕ) (words : List (List ℕ)) (found : Option Operation) (c : Command) → command_some word words found ≡ Ok c
+    → Fitting c
 some_fits word words None c is = cc
 some_fits word words (Some o) c is = command_fits o words c is
 
-meant_fits : (tool : Tool) (word : List ℕ) (words : List (List ℕ)) (meant : Meant) (c : Command) → command_by tool word words meant ≡ Ok c → Fitting c
+meant_fits : (tool : Tool) (word : List ℕ) (words : List (List ℕ)) (meant : Meant) (c : Command)
+    → command_by tool word words meant ≡ Ok c → Fitting c
 meant_fits tool word words Unknown c is = cc
 meant_fits tool word words Ambiguous c is = cc
 meant_fits tool word words (Item place) c is = some_fits word words (slice_get (operations_of tool) place) c is

@@ -47,7 +47,8 @@ Declines line status err err_after =
     ((status ≡ 2) × Appended err err_after line) ⊎ (((status ≡ 4) ⊎ (status ≡ 5)) × FrontOf err err_after line)
 
 -- Words that mean nothing: nothing was asked, and the line of the fault was written.
-pub record Declined (line : List ℕ) (before after : List Exchange) (status : ℕ) (out out_after err err_after : Option (List ℕ)) : Type 0 where
+pub record Declined (line : List ℕ) (before after : List Exchange) (status : ℕ)
+    (out out_after err err_after : Option (List ℕ)) : Type 0 where
   pub asks_nothing : after ≡ before
   pub out_is : Appended out out_after []
   pub err_is : Declines line status err err_after
@@ -57,7 +58,8 @@ abbrev pub RequestRan : Request → List Exchange → List Exchange → ℕ
     → Option (List ℕ) → Option (List ℕ) → Option (List ℕ) → Option (List ℕ) → Type 0
 RequestRan (request.Command r) before after status out out_after err err_after =
     Commanded (tool_name r.tool) (course_of r.tool r.words) (asker_of r) before after status out out_after err err_after
-RequestRan (request.Debug r) before after status out out_after err err_after = Looked r before after status out out_after × (err_after ≡ err)
+RequestRan (request.Debug r) before after status out out_after err err_after =
+    Looked r before after status out out_after × (err_after ≡ err)
 
 -- What the words ask for was run, or they are refused.
 abbrev pub ClientRan : Result Request RequestFault → List Exchange → List Exchange → ℕ

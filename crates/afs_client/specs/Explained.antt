@@ -26,7 +26,8 @@ abbrev pub EndedWell : Refusal → Result (Unit {0}) Stop → ℕ → Type 0
 EndedWell own end status = (status ≡ 0) ⊎ ((status ≡ 4) ⊎ ((status ≡ 5) ⊎ ((status ≡ 1) × (end ≡ Err (Refused own)))))
 
 -- The exchanges that were made are the cause of the status; where the first host answered each call, the command ended well.
-pub record Explained {C : Type 0} (d : Database C) (course : Course (Unit {0})) (asker : Asker) (before after : List Exchange) (status : ℕ) : Type 0 where
+pub record Explained {C : Type 0} (d : Database C) (course : Course (Unit {0})) (asker : Asker) (before after : List Exchange)
+    (status : ℕ) : Type 0 where
   pub made : List Exchange
   pub grown : after ≡ before ++ made
   pub refused : status ≡ 1 → WasRefusedSo d made (course asker made).result

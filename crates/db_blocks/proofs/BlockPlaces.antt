@@ -14,13 +14,15 @@ laid image at bytes = take at image ++ bytes ++ drop (at + length bytes) image
 pub changed_laid : (image bytes : List ℕ) (at : ℕ) → at ≤ length image → changed image (Put at bytes) ≡ laid image at bytes
 unfolding laid
 changed_laid image bytes at within =
-    ap (λ (front : List ℕ). front ++ bytes ++ drop (at + length bytes) image) (take-append-le at image (replicate (at - length image) 0) within)
+    ap (λ (front : List ℕ). front ++ bytes ++ drop (at + length bytes) image)
+    (take-append-le at image (replicate (at - length image) 0) within)
 
 laid_before : (image bytes : List ℕ) (at i : ℕ) → at ≤ length image → i < at → slice_index (laid image at bytes) i ≡ slice_index image i
 unfolding laid
 laid_before image bytes at i within before = grind (arith, places)
 
-laid_in : (image bytes : List ℕ) (at i : ℕ) → at ≤ length image → i < length bytes → slice_index (laid image at bytes) (at + i) ≡ slice_index bytes i
+laid_in : (image bytes : List ℕ) (at i : ℕ) → at ≤ length image → i < length bytes
+    → slice_index (laid image at bytes) (at + i) ≡ slice_index bytes i
 unfolding laid
 laid_in image bytes at i within inside = grind (arith, places)
 
@@ -42,13 +44,15 @@ part_same : (a b : List ℕ) (at len : ℕ) → at + len ≤ length a → at + l
     → ((i : ℕ) → at ≤ i → i < at + len → slice_index a i ≡ slice_index b i) → take len (drop at a) ≡ take len (drop at b)
 part_same a b at len in_a in_b same =
     same_number_lists (take len (drop at a)) (take len (drop at b))
-    (length-take-le len (drop at a) (omega (arith, length-drop at a)) ∙ sym (length-take-le len (drop at b) (omega (arith, length-drop at b))))
+    (length-take-le len (drop at a) (omega (arith, length-drop at a))
+    ∙ sym (length-take-le len (drop at b) (omega (arith, length-drop at b))))
     (λ k below.
     let short : k < len = omega (arith, below, length-take-le len (drop at a) (omega (arith, length-drop at a))) in
     get_or-take len (drop at a) k 0 short ∙ get_or-drop at a k 0 ∙ same (at + k) (omega arith) (omega arith)
     ∙ sym (get_or-take len (drop at b) k 0 short ∙ get_or-drop at b k 0))
 
-take_laid : (image bytes : List ℕ) (at m : ℕ) → at + length bytes ≤ m → m ≤ length image → take m (laid image at bytes) ≡ laid (take m image) at bytes
+take_laid : (image bytes : List ℕ) (at m : ℕ) → at + length bytes ≤ m → m ≤ length image
+    → take m (laid image at bytes) ≡ laid (take m image) at bytes
 unfolding laid
 take_laid image bytes at m fits within = same_lists _ _ (search (rules, places)) (λ k d h. grind (arith, places))
 
@@ -74,7 +78,8 @@ apart head image bytes k j n size len within below other =
     part_same (laid image (block_place head k) bytes) image (block_place head j) 192 (omega arith) (omega arith)
     (λ i from less. laid_before image bytes (block_place head k) i (omega arith) (omega arith)))
     (λ (behind : k ≤ j).
-    part_same (laid image (block_place head k) bytes) image (block_place head j) 192 (omega (arith, laid_len image bytes (block_place head k) (omega arith))) (omega arith)
+    part_same (laid image (block_place head k) bytes) image (block_place head j) 192
+    (omega (arith, laid_len image bytes (block_place head k) (omega arith))) (omega arith)
     (λ i from less. laid_behind image bytes (block_place head k) i (omega arith) (omega arith)))
     (cases_lt j k)
 
@@ -89,10 +94,12 @@ front : (image bytes : List ℕ) (at m : ℕ) → m ≤ at → at ≤ length ima
 unfolding laid
 front image bytes at m before within = same_lists _ _ (search (rules, places)) (λ k d h. grind (arith, places))
 
-pub put_block : (head : ℕ) (image block : List ℕ) (k n : ℕ) → length image ≡ block_place head n → length block ≡ 192 → k < n → IsPut head k block image (with_block head k block image) n
+pub put_block : (head : ℕ) (image block : List ℕ) (k n : ℕ) → length image ≡ block_place head n → length block ≡ 192 → k < n
+    → IsPut head k block image (with_block head k block image) n
 unfolding block_in
 put_block head image block k n size len below =
-    let is : with_block head k block image ≡ laid image (block_place head k) block = changed_laid image block (block_place head k) (omega arith) in
+    let is : with_block head k block image ≡ laid image (block_place head k) block = changed_laid image block (block_place head k)
+    (omega arith) in
     let count : block_count head image ≡ n = omega arith in
     subst (λ (new : List ℕ). IsPut head k block image new n) (sym is) record {
       size = laid_len image block (block_place head k) (omega arith) ∙ size;
@@ -101,10 +108,12 @@ put_block head image block k n size len below =
       others = λ j less other. apart head image block k j n size len (omega arith) (omega arith) other;
     }
 
-pub add_block : (head : ℕ) (image block : List ℕ) (n : ℕ) → length image ≡ block_place head n → length block ≡ 192 → IsPut head n block image (with_block head n block image) (n + 1)
+pub add_block : (head : ℕ) (image block : List ℕ) (n : ℕ) → length image ≡ block_place head n → length block ≡ 192
+    → IsPut head n block image (with_block head n block image) (n + 1)
 unfolding block_in
 add_block head image block n size len =
-    let is : with_block head n block image ≡ laid image (block_place head n) block = changed_laid image block (block_place head n) (omega arith) in
+    let is : with_block head n block image ≡ laid image (block_place head n) block = changed_laid image block (block_place head n)
+    (omega arith) in
     let count : block_count head image ≡ n = omega arith in
     subst (λ (new : List ℕ). IsPut head n block image new (n + 1)) (sym is) record {
       size = omega (arith, laid_end image block (block_place head n) size);
@@ -120,7 +129,8 @@ pub record IsHeadPut (head : ℕ) (old new made : List ℕ) : Type 0 where
   pub front : take head new ≡ made
   pub others : (j : ℕ) → j < block_count head old → block_in head new j ≡ block_in head old j
 
-pub head_put : (head : ℕ) (image bytes old_head new_head : List ℕ) (at n : ℕ) → length image ≡ block_place head n → at + length bytes ≤ head → take head image ≡ old_head
+pub head_put : (head : ℕ) (image bytes old_head new_head : List ℕ) (at n : ℕ) → length image ≡ block_place head n
+    → at + length bytes ≤ head → take head image ≡ old_head
     → laid old_head at bytes ≡ new_head → IsHeadPut head image (changed image (Put at bytes)) new_head
 unfolding block_in
 head_put head image bytes old_head new_head at n size fits is made =
@@ -129,10 +139,13 @@ head_put head image bytes old_head new_head at n size fits is made =
     subst (λ (new : List ℕ). IsHeadPut head image new new_head) (sym whole) record {
       size = laid_len image bytes at (omega arith);
       front = take_laid image bytes at head fits (omega arith) ∙ ap (λ (h : List ℕ). laid h at bytes) is ∙ made;
-      others = λ j less. part_same (laid image at bytes) image (block_place head j) 192 (omega (arith, laid_len image bytes at (omega arith))) (omega arith)
+      others =
+          λ j less. part_same (laid image at bytes) image (block_place head j) 192 (omega (arith, laid_len image bytes at (omega arith)))
+          (omega arith)
           (λ i from below. laid_behind image bytes at i (omega arith) (omega arith));
     }
 
 pub block_len : (head : ℕ) (image : List ℕ) (k n : ℕ) → length image ≡ block_place head n → k < n → length (block_in head image k) ≡ 192
 unfolding block_in
-block_len head image k n size below = length-take-le 192 (drop (block_place head k) image) (omega (arith, length-drop (block_place head k) image))
+block_len head image k n size below =
+    length-take-le 192 (drop (block_place head k) image) (omega (arith, length-drop (block_place head k) image))

@@ -44,8 +44,10 @@ first_met test a (suc n) below = met_step (test a) test a n (first_from test (su
 
 -- so a scan finds it
 at_step : (b : Bool) (a f k : ℕ) → (a ≡ k → b ≡ true) → (a < k → b ≡ false) → a ≤ k → (suc a ≤ k → f ≡ k) → cond b a f ≡ k
-at_step true a f k here before from later = ⊎_elim (λ (same : a ≡ k). same) (λ (other : a ≡ k → ⊥). let no = before (omega arith) in absurd cc) (cases_eq a k)
-at_step false a f k here before from later = ⊎_elim (λ (same : a ≡ k). let yes = here same in absurd cc) (λ (other : a ≡ k → ⊥). later (omega arith)) (cases_eq a k)
+at_step true a f k here before from later =
+    ⊎_elim (λ (same : a ≡ k). same) (λ (other : a ≡ k → ⊥). let no = before (omega arith) in absurd cc) (cases_eq a k)
+at_step false a f k here before from later =
+    ⊎_elim (λ (same : a ≡ k). let yes = here same in absurd cc) (λ (other : a ≡ k → ⊥). later (omega arith)) (cases_eq a k)
 
 pub first_at : (test : ℕ → Bool) (a n k : ℕ) → a ≤ k → k < a + n → ((j : ℕ) → a ≤ j → j < k → test j ≡ false) → test k ≡ true
     → first_from test a n ≡ k

@@ -11,5 +11,7 @@ found_meets head test image f is =
     let met = first_met (λ k. test (block_in head image k)) 0 (block_count head image) at in
     ap test (is.2 ∙ ap (block_in head image) is.1) ∙ met
 
-pub none_meets : (head : ℕ) (test : List ℕ → Bool) (image : List ℕ) (k : ℕ) → IsFirst head test image None → k < block_count head image → test (block_in head image k) ≡ false
-none_meets head test image k is below = first_not (λ j. test (block_in head image j)) 0 (block_count head image) k (omega arith) (omega (arith, is))
+pub none_meets : (head : ℕ) (test : List ℕ → Bool) (image : List ℕ) (k : ℕ) → IsFirst head test image None → k < block_count head image
+    → test (block_in head image k) ≡ false
+none_meets head test image k is below =
+    first_not (λ j. test (block_in head image j)) 0 (block_count head image) k (omega arith) (omega (arith, is))

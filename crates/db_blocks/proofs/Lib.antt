@@ -4,5 +4,6 @@ pub mod FirstBlocks
 pub mod FoundBlocks
 pub mod Keeping
 pub mod Maps
+pub mod Numbers
 pub mod Order
 pub mod Scanned

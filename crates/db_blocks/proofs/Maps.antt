@@ -15,10 +15,12 @@ pub record IsForm {E : Type 0} (key : E → ℕ) (form : E → List ℕ) (good :
 abbrev pub IsOf : {E : Type 0} → (E → ℕ) → (E → List ℕ) → (ℕ → Option E) → List ℕ → Type 0
 IsOf {E} key form entry block = (e : E) × (entry (key e) ≡ Some e) × (block ≡ form e)
 
-pub record AreBlocks {E : Type 0} (head : ℕ) (key : E → ℕ) (form : E → List ℕ) (entry : ℕ → Option E) (image : List ℕ) (count : ℕ) : Type 0 where
+pub record AreBlocks {E : Type 0} (head : ℕ) (key : E → ℕ) (form : E → List ℕ) (entry : ℕ → Option E) (image : List ℕ)
+    (count : ℕ) : Type 0 where
   pub blocks : (k : ℕ) → k < count → (block_in head image k ≡ zeros 192) ⊎ IsOf key form entry (block_in head image k)
   pub only : (id : ℕ) (e : E) → entry id ≡ Some e → (k : ℕ) × (k < count) × (block_in head image k ≡ form e)
-  pub one : (j k : ℕ) (e : E) → j < count → k < count → entry (key e) ≡ Some e → block_in head image j ≡ form e → block_in head image k ≡ form e → j ≡ k
+  pub one : (j k : ℕ) (e : E) → j < count → k < count → entry (key e) ≡ Some e → block_in head image j ≡ form e
+      → block_in head image k ≡ form e → j ≡ k
 
 -- each entry stands under its own number, and is good
 pub record IsMap {E : Type 0} (key : E → ℕ) (good : E → Type 0) (entry : ℕ → Option E) : Type 0 where
@@ -52,12 +54,15 @@ by_option (Some x) none some = some x refl
 -- ---- one block is another one
 
 -- what stands in a place is free or the entry of a number, and that entry stands nowhere else
-pub record IsAlone {E : Type 0} (head : ℕ) (key : E → ℕ) (form : E → List ℕ) (entry : ℕ → Option E) (image : List ℕ) (count k x : ℕ) : Type 0 where
-  pub here : k < count → (block_in head image k ≡ zeros 192) ⊎ ((e : E) × (entry (key e) ≡ Some e) × (block_in head image k ≡ form e) × (key e ≡ x))
+pub record IsAlone {E : Type 0} (head : ℕ) (key : E → ℕ) (form : E → List ℕ) (entry : ℕ → Option E) (image : List ℕ)
+    (count k x : ℕ) : Type 0 where
+  pub here : k < count → (block_in head image k ≡ zeros 192)
+      ⊎ ((e : E) × (entry (key e) ≡ Some e) × (block_in head image k ≡ form e) × (key e ≡ x))
   pub others : (e : E) → entry x ≡ Some e → (k < count) × (block_in head image k ≡ form e)
 
 -- what the new block holds: this entry, or none
-pub record IsContent {E : Type 0} (key : E → ℕ) (form : E → List ℕ) (good : E → Type 0) (x : ℕ) (content : Option E) (block : List ℕ) : Type 0 where
+pub record IsContent {E : Type 0} (key : E → ℕ) (form : E → List ℕ) (good : E → Type 0) (x : ℕ) (content : Option E)
+    (block : List ℕ) : Type 0 where
   pub none : content ≡ None → block ≡ zeros 192
   pub some : (e : E) → content ≡ Some e → (key e ≡ x) × good e × (block ≡ form e)
 
@@ -82,8 +87,10 @@ not_apart head key form entry image count k x are alone j e below other at is sa
     let o = alone.others e there in
     other (are.one j k e below o.0 at is o.1)
 
-new_blocks : {E : Type 0} (head : ℕ) (key : E → ℕ) (form : E → List ℕ) (good : E → Type 0) (entry : ℕ → Option E) (old new : List ℕ) (count k m x : ℕ) (block : List ℕ)
-    (content : Option E) → AreBlocks head key form entry old count → IsStep head old new count k m block → IsAlone head key form entry old count k x
+new_blocks : {E : Type 0} (head : ℕ) (key : E → ℕ) (form : E → List ℕ) (good : E → Type 0) (entry : ℕ → Option E) (old new : List ℕ)
+    (count k m x : ℕ) (block : List ℕ)
+    (content : Option E) → AreBlocks head key form entry old count → IsStep head old new count k m block
+    → IsAlone head key form entry old count k x
     → IsContent key form good x content block
     → (j : ℕ) → j < m → (block_in head new j ≡ zeros 192) ⊎ IsOf key form (set_under x content entry) (block_in head new j)
 new_blocks {E} head key form good entry old new count k m x block content are next alone is j below =
@@ -98,12 +105,19 @@ new_blocks {E} head key form good entry old new count k m x block content are ne
     ⊎_elim
     (λ (free : block_in head old j ≡ zeros 192). inl (b ∙ free))
     (λ (of : IsOf key form entry (block_in head old j)).
-    inr (of.0, under_other x (key of.0) content entry (not_apart head key form entry old count k x are alone j of.0 was other of.1 of.2) ∙ of.1, b ∙ of.2))
+    inr (
+      of.0,
+      under_other x (key of.0) content entry (not_apart head key form entry old count k x are alone j of.0 was other of.1 of.2)
+          ∙ of.1,
+      b ∙ of.2,
+    ))
     (are.blocks j was))
     (cases_eq j k)
 
-new_only : {E : Type 0} (head : ℕ) (key : E → ℕ) (form : E → List ℕ) (good : E → Type 0) (entry : ℕ → Option E) (old new : List ℕ) (count k m x : ℕ) (block : List ℕ)
-    (content : Option E) → IsForm key form good → IsMap key good entry → AreBlocks head key form entry old count → IsStep head old new count k m block
+new_only : {E : Type 0} (head : ℕ) (key : E → ℕ) (form : E → List ℕ) (good : E → Type 0) (entry : ℕ → Option E) (old new : List ℕ)
+    (count k m x : ℕ) (block : List ℕ)
+    (content : Option E) → IsForm key form good → IsMap key good entry → AreBlocks head key form entry old count
+    → IsStep head old new count k m block
     → IsAlone head key form entry old count k x → IsContent key form good x content block
     → (id : ℕ) (e : E) → set_under x content entry id ≡ Some e → (j : ℕ) × (j < m) × (block_in head new j ≡ form e)
 new_only {E} head key form good entry old new count k m x block content forms map are next alone is id e at =
@@ -125,7 +139,8 @@ new_only {E} head key form good entry old new count k m x block content forms ma
     (cases_eq id x)
 
 -- the entry of the number stands in the new block alone
-new_at : {E : Type 0} (head : ℕ) (key : E → ℕ) (form : E → List ℕ) (good : E → Type 0) (entry : ℕ → Option E) (old new : List ℕ) (count k m x : ℕ) (block : List ℕ)
+new_at : {E : Type 0} (head : ℕ) (key : E → ℕ) (form : E → List ℕ) (good : E → Type 0) (entry : ℕ → Option E) (old new : List ℕ)
+    (count k m x : ℕ) (block : List ℕ)
     → IsForm key form good → IsMap key good entry → AreBlocks head key form entry old count → IsStep head old new count k m block
     → IsAlone head key form entry old count k x → (e : E) → good e → key e ≡ x → (j : ℕ) → j < m → block_in head new j ≡ form e → j ≡ k
 new_at head key form good entry old new count k m x block forms map are next alone e fine same j below is =
@@ -143,7 +158,8 @@ new_at head key form good entry old new count k m x block forms map are next alo
     (cases_eq j k)
 
 -- another entry does not stand in the new block
-new_not_at : {E : Type 0} (head : ℕ) (key : E → ℕ) (form : E → List ℕ) (good : E → Type 0) (old new : List ℕ) (count k m x : ℕ) (block : List ℕ) (content : Option E)
+new_not_at : {E : Type 0} (head : ℕ) (key : E → ℕ) (form : E → List ℕ) (good : E → Type 0) (old new : List ℕ) (count k m x : ℕ)
+    (block : List ℕ) (content : Option E)
     → IsForm key form good → IsStep head old new count k m block → IsContent key form good x content block
     → (e : E) → good e → key e ≢ x → (j : ℕ) → block_in head new j ≡ form e → j ≢ k
 new_not_at head key form good old new count k m x block content forms next is e fine other j at same =
@@ -151,10 +167,13 @@ new_not_at head key form good old new count k m x block content forms next is e 
     by_option content (λ none. forms.full e fine (sym b ∙ is.none none))
     (λ f some. let c = is.some f some in other (forms.apart e f fine c.1 (sym b ∙ c.2) ∙ c.0))
 
-new_one : {E : Type 0} (head : ℕ) (key : E → ℕ) (form : E → List ℕ) (good : E → Type 0) (entry : ℕ → Option E) (old new : List ℕ) (count k m x : ℕ) (block : List ℕ)
-    (content : Option E) → IsForm key form good → IsMap key good entry → AreBlocks head key form entry old count → IsStep head old new count k m block
+new_one : {E : Type 0} (head : ℕ) (key : E → ℕ) (form : E → List ℕ) (good : E → Type 0) (entry : ℕ → Option E) (old new : List ℕ)
+    (count k m x : ℕ) (block : List ℕ)
+    (content : Option E) → IsForm key form good → IsMap key good entry → AreBlocks head key form entry old count
+    → IsStep head old new count k m block
     → IsAlone head key form entry old count k x → IsContent key form good x content block
-    → (i j : ℕ) (e : E) → i < m → j < m → set_under x content entry (key e) ≡ Some e → block_in head new i ≡ form e → block_in head new j ≡ form e → i ≡ j
+    → (i j : ℕ) (e : E) → i < m → j < m → set_under x content entry (key e) ≡ Some e → block_in head new i ≡ form e
+    → block_in head new j ≡ form e → i ≡ j
 new_one head key form good entry old new count k m x block content forms map are next alone is i j e in_i in_j at is_i is_j =
     ⊎_elim
     (λ (same : key e ≡ x).
@@ -170,9 +189,12 @@ new_one head key form good entry old new count k m x block content forms map are
     (sym (stood head old new count k m block next i in_i not_i) ∙ is_i) (sym (stood head old new count k m block next j in_j not_j) ∙ is_j))
     (cases_eq (key e) x)
 
-pub blocks_set : {E : Type 0} (head : ℕ) (key : E → ℕ) (form : E → List ℕ) (good : E → Type 0) (entry : ℕ → Option E) (old new : List ℕ) (count k m x : ℕ) (block : List ℕ)
-    (content : Option E) → IsForm key form good → IsMap key good entry → AreBlocks head key form entry old count → IsStep head old new count k m block
-    → IsAlone head key form entry old count k x → IsContent key form good x content block → AreBlocks head key form (set_under x content entry) new m
+pub blocks_set : {E : Type 0} (head : ℕ) (key : E → ℕ) (form : E → List ℕ) (good : E → Type 0) (entry : ℕ → Option E) (old new : List ℕ)
+    (count k m x : ℕ) (block : List ℕ)
+    (content : Option E) → IsForm key form good → IsMap key good entry → AreBlocks head key form entry old count
+    → IsStep head old new count k m block
+    → IsAlone head key form entry old count k x → IsContent key form good x content block
+    → AreBlocks head key form (set_under x content entry) new m
 blocks_set head key form good entry old new count k m x block content forms map are next alone is = record {
   blocks = new_blocks head key form good entry old new count k m x block content are next alone is;
   only = new_only head key form good entry old new count k m x block content forms map are next alone is;
@@ -183,7 +205,8 @@ blocks_set head key form good entry old new count k m x block content forms map 
 
 -- in another image
 pub blocks_same : {E : Type 0} (head : ℕ) (key : E → ℕ) (form : E → List ℕ) (entry : ℕ → Option E) (old new : List ℕ) (count : ℕ)
-    → ((j : ℕ) → j < count → block_in head new j ≡ block_in head old j) → AreBlocks head key form entry old count → AreBlocks head key form entry new count
+    → ((j : ℕ) → j < count → block_in head new j ≡ block_in head old j) → AreBlocks head key form entry old count
+    → AreBlocks head key form entry new count
 blocks_same head key form entry old new count same are = record {
   blocks = λ k below. ⊎_elim
       (λ (free : block_in head old k ≡ zeros 192). inl (same k below ∙ free))
@@ -198,8 +221,10 @@ mapped f None y is = absurd cc
 mapped f (Some x) y is = (x, refl, some_same is)
 
 -- and of entries that are read otherwise
-pub blocks_read : {E : Type 0} (head : ℕ) (key : E → ℕ) (form after : E → List ℕ) (f : E → E) (entry next : ℕ → Option E) (image : List ℕ) (count : ℕ)
-    → ((e : E) → key (f e) ≡ key e) → ((id : ℕ) → next id ≡ option_map f (entry id)) → ((id : ℕ) (e : E) → entry id ≡ Some e → after (f e) ≡ form e)
+pub blocks_read : {E : Type 0} (head : ℕ) (key : E → ℕ) (form after : E → List ℕ) (f : E → E) (entry next : ℕ → Option E)
+    (image : List ℕ) (count : ℕ)
+    → ((e : E) → key (f e) ≡ key e) → ((id : ℕ) → next id ≡ option_map f (entry id))
+    → ((id : ℕ) (e : E) → entry id ≡ Some e → after (f e) ≡ form e)
     → AreBlocks head key form entry image count → AreBlocks head key after next image count
 blocks_read {E} head key form after f entry next image count keys maps forms are = record {
   blocks = λ k below. ⊎_elim

@@ -20,7 +20,8 @@ bad_size head (Some image) len at fault is told other =
     subst (HasCause (Some image) (IsWhole head)) (sym is) (λ whole. other (block_count head image) (sym told ∙ whole))
 
 -- a fault that is no bad record has a cause in what is read
-pub no_bad : (bytes now : Option (List ℕ)) (fits : List ℕ → Type 0) (fault : RecordFault) → now ≡ bytes → HasCause now (λ image. Unit {0}) fault → HasCause bytes fits fault
+pub no_bad : (bytes now : Option (List ℕ)) (fits : List ℕ → Type 0) (fault : RecordFault) → now ≡ bytes
+    → HasCause now (λ image. Unit {0}) fault → HasCause bytes fits fault
 no_bad bytes now fits DiskFault same cause = tt
 no_bad bytes now fits NoMemory same cause = tt
 no_bad None now fits (BadRecord at) same cause = tt
@@ -52,7 +53,15 @@ pub looks_so : {I : Type 0} (g : Ghosts I) (a b : Drafted I) (first failed : Typ
     → OnlyLooks g a b failed
 looks_so g a b first failed r so = record {
   same = r.same;
-  reads = record { held = r.reads.held; size = r.reads.size; came = r.reads.came; never_falls = r.reads.never_falls; cause = λ h. r.reads.cause (so h) };
+  reads =
+      record {
+        held = r.reads.held;
+        size = r.reads.size;
+        came = r.reads.came;
+        never_falls = r.reads.never_falls;
+        cause = λ h.
+            r.reads.cause (so h);
+      };
 }
 
 pub drafts_after : {I : Type 0} (g : Ghosts I) (a b c : Drafted I) (first failed : Type 0) → OnlyLooks g a b first → OnlyDrafts g b c failed
@@ -75,7 +84,8 @@ pub record Scanned {I : Type 0} (g : Ghosts I) (first now : Drafted I) (head : �
   pub told : IfSome first.bytes (λ image. length image ≡ block_place head count)
   pub before : IfSome first.bytes (λ image. (j : ℕ) → j < done → test (block_in head image j) ≡ false)
 
-none_before : (bytes : Option (List ℕ)) (head : ℕ) (test : List ℕ → Bool) → IfSome bytes (λ image. (j : ℕ) → j < 0 → test (block_in head image j) ≡ false)
+none_before : (bytes : Option (List ℕ)) (head : ℕ) (test : List ℕ → Bool)
+    → IfSome bytes (λ image. (j : ℕ) → j < 0 → test (block_in head image j) ≡ false)
 none_before None head test = tt
 none_before (Some image) head test = λ j below. absurd (omega arith)
 
@@ -83,7 +93,8 @@ pub scanned_none : {I : Type 0} (g : Ghosts I) (d : Drafted I) (head : ℕ) (tes
     → IfSome d.bytes (λ image. length image ≡ block_place head count) → Scanned g d d head test count 0
 scanned_none g d head test count told = record { frame = looks_none g d ⊥ (λ h. h); told = told; before = none_before d.bytes head test }
 
-before_more : (bytes : Option (List ℕ)) (head : ℕ) (test : List ℕ → Bool) (done : ℕ) (block : List ℕ) → IfSome bytes (λ image. block ≡ block_in head image done)
+before_more : (bytes : Option (List ℕ)) (head : ℕ) (test : List ℕ → Bool) (done : ℕ) (block : List ℕ)
+    → IfSome bytes (λ image. block ≡ block_in head image done)
     → test block ≡ false
     → IfSome bytes (λ image. (j : ℕ) → j < done → test (block_in head image j) ≡ false)
     → IfSome bytes (λ image. (j : ℕ) → j < done + 1 → test (block_in head image j) ≡ false)
@@ -91,16 +102,20 @@ before_more None head test done block is fails before = tt
 before_more (Some image) head test done block is fails before = λ j below.
     ⊎_elim (λ (same : j ≡ done). rw (same, ← is) fails) (λ (other : j ≡ done → ⊥). before j (omega arith)) (cases_eq j done)
 
-pub scanned_more : {I : Type 0} (g : Ghosts I) (first now next : Drafted I) (head : ℕ) (test : List ℕ → Bool) (count done : ℕ) (block : List ℕ) (failed : Type 0)
+pub scanned_more : {I : Type 0} (g : Ghosts I) (first now next : Drafted I) (head : ℕ) (test : List ℕ → Bool) (count done : ℕ)
+    (block : List ℕ) (failed : Type 0)
     → Scanned g first now head test count done → OnlyLooks g now next failed → IfSome now.bytes (λ image. block ≡ block_in head image done)
     → test block ≡ false → Scanned g first next head test count (done + 1)
 scanned_more g first now next head test count done block failed s looks is fails = record {
   frame = looks_then g first now next ⊥ ⊥ s.frame (looks_so g now next failed ⊥ looks (λ h. absurd h));
   told = s.told;
-  before = before_more first.bytes head test done block (subst (λ (b : Option (List ℕ)). IfSome b (λ image. block ≡ block_in head image done)) s.frame.same.bytes is) fails s.before;
+  before =
+      before_more first.bytes head test done block
+      (subst (λ (b : Option (List ℕ)). IfSome b (λ image. block ≡ block_in head image done)) s.frame.same.bytes is) fails s.before;
 }
 
-first_so : (bytes : Option (List ℕ)) (head : ℕ) (test : List ℕ → Bool) (count done : ℕ) (block : List ℕ) → IfSome bytes (λ image. length image ≡ block_place head count)
+first_so : (bytes : Option (List ℕ)) (head : ℕ) (test : List ℕ → Bool) (count done : ℕ) (block : List ℕ)
+    → IfSome bytes (λ image. length image ≡ block_place head count)
     → IfSome bytes (λ image. (j : ℕ) → j < done → test (block_in head image j) ≡ false) → done < count
     → IfSome bytes (λ image. block ≡ block_in head image done) → test block ≡ true
     → IfSome bytes (λ image. IsFirst head test image (Some (record { number = done; block = block })))
@@ -108,24 +123,29 @@ first_so None head test count done block told before below is met = tt
 first_so (Some image) head test count done block told before below is met =
     let n : block_count head image ≡ count = count_is head image count told in (
       omega arith,
-      sym (first_at (λ k. test (block_in head image k)) 0 (block_count head image) done (omega arith) (omega arith) (λ j from less. before j less) (rw (← is) met)),
+      sym (first_at (λ k. test (block_in head image k)) 0 (block_count head image) done (omega arith) (omega arith)
+          (λ j from less. before j less) (rw (← is) met)),
       is,
     )
 
 pub scan_first : {I : Type 0} (g : Ghosts I) (first now : Drafted I) (head : ℕ) (test : List ℕ → Bool) (count done : ℕ) (block : List ℕ)
-    → Scanned g first now head test count done → done < count → IfSome now.bytes (λ image. block ≡ block_in head image done) → test block ≡ true
+    → Scanned g first now head test count done → done < count → IfSome now.bytes (λ image. block ≡ block_in head image done)
+    → test block ≡ true
     → IfSome first.bytes (λ image. IsFirst head test image (Some (record { number = done; block = block })))
 scan_first g first now head test count done block s below is met =
     first_so first.bytes head test count done block s.told s.before below
     (subst (λ (b : Option (List ℕ)). IfSome b (λ image. block ≡ block_in head image done)) s.frame.same.bytes is) met
 
-none_so : (bytes : Option (List ℕ)) (head : ℕ) (test : List ℕ → Bool) (count : ℕ) → IfSome bytes (λ image. length image ≡ block_place head count)
-    → IfSome bytes (λ image. (j : ℕ) → j < count → test (block_in head image j) ≡ false) → IfSome bytes (λ image. IsFirst head test image None)
+none_so : (bytes : Option (List ℕ)) (head : ℕ) (test : List ℕ → Bool) (count : ℕ)
+    → IfSome bytes (λ image. length image ≡ block_place head count)
+    → IfSome bytes (λ image. (j : ℕ) → j < count → test (block_in head image j) ≡ false)
+    → IfSome bytes (λ image. IsFirst head test image None)
 none_so None head test count told before = tt
 none_so (Some image) head test count told before =
     let n : block_count head image ≡ count = count_is head image count told in
     first_none (λ k. test (block_in head image k)) 0 (block_count head image) (λ j from less. before j (omega arith)) ∙ omega arith
 
-pub scan_none : {I : Type 0} (g : Ghosts I) (first now : Drafted I) (head : ℕ) (test : List ℕ → Bool) (count : ℕ) → Scanned g first now head test count count
+pub scan_none : {I : Type 0} (g : Ghosts I) (first now : Drafted I) (head : ℕ) (test : List ℕ → Bool) (count : ℕ)
+    → Scanned g first now head test count count
     → IfSome first.bytes (λ image. IsFirst head test image None)
 scan_none g first now head test count s = none_so first.bytes head test count s.told s.before

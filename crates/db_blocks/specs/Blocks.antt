@@ -38,7 +38,8 @@ first_block head test image = first_from (λ k. test (block_in head image k)) 0 
 -- what a scan found: the first block that meets a test, if one does
 abbrev pub IsFirst : (head : ℕ) → (List ℕ → Bool) → List ℕ → Option Found → Type 0
 IsFirst head test image None = first_block head test image ≡ block_count head image
-IsFirst head test image (Some f) = (f.number < block_count head image) × (f.number ≡ first_block head test image) × (f.block ≡ block_in head image f.number)
+IsFirst head test image (Some f) =
+    (f.number < block_count head image) × (f.number ≡ first_block head test image) × (f.block ≡ block_in head image f.number)
 
 -- the image in which a block is another one, or one more
 abbrev pub with_block : (head : ℕ) → ℕ → List ℕ → List ℕ → List ℕ

@@ -1,14 +1,14 @@
 -- Bytes that stay where others are laid.
-use Rattle.std.proofs.Common.{◌≡◌, ℕ, ◌+◌, ◌^◌, ◌<◌, ◌≤◌, ◌⊎◌, List, ◌++◌, length, slice_index, take, drop, refl, sym, ap, subst, ◌∙◌, ⊎_elim, append_assoc, arith}
+use Rattle.std.proofs.Common.{◌≡◌, ℕ, ◌+◌, ◌<◌, ◌≤◌, ◌⊎◌, List, ◌++◌, length, slice_index, take, drop, refl, sym, ap, subst, ◌∙◌, ⊎_elim, append_assoc, arith}
 use Rattle.std.specs.Int.{w32, from_be_bytes}
 use Rattle.std.proofs.lemmas.Grind.{same_number_lists}
 use Rattle.std.proofs.lemmas.List.{places, take_at, drop_at, length-drop, length-take-le, get_or-take, get_or-drop}
-use Rattle.std.proofs.lemmas.Nat.{from_be_bytes-to_be_bytes_4}
 use Rattle.ubik_types.specs.Image.{changed}
 use Rattle.ubik_types.specs.declared.images.Change.TheVariants.{Put}
 use Rattle.db_blocks.specs.Blocks.{word_at}
-use Rattle.db_blocks.specs.Bytes.{word}
+use Rattle.db_blocks.specs.Bytes.{number_word}
 use Rattle.db_blocks.proofs.BlockPlaces.{changed_laid, laid}
+use Rattle.db_blocks.proofs.Numbers.{number_told}
 use Rattle.db_chains.specs.Changes.{put_word}
 
 -- an image is no shorter, and has other bytes in this range alone
@@ -71,14 +71,14 @@ word_stays at len q old new stays within apart =
 
 pub word_put : (image : List ℕ) (at n : ℕ) → at + 4 ≤ length image → StaysBut at 4 image (put_word at n image)
 unfolding put_word
-word_put image at n within = put_stays image (word n) at within
+word_put image at n within = put_stays image (number_word n) at within
 
 pub word_len : (image : List ℕ) (at n : ℕ) → at + 4 ≤ length image → length (put_word at n image) ≡ length image
 unfolding put_word
-word_len image at n within = put_len image (word n) at within
+word_len image at n within = put_len image (number_word n) at within
 
-pub word_here : (image : List ℕ) (at n : ℕ) → at + 4 ≤ length image → n < 2 ^ 32 → word_at (put_word at n image) at ≡ n
+pub word_here : (image : List ℕ) (at n : ℕ) → at + 4 ≤ length image → word_at (put_word at n image) at ≡ n
 unfolding put_word
-word_here image at n within fits =
-    ap (λ (b : List ℕ). from_be_bytes w32 (take 4 (drop at b))) (changed_laid image (word n) at (omega arith))
-    ∙ ap (from_be_bytes w32) (laid_here image (word n) at (omega arith) refl) ∙ from_be_bytes-to_be_bytes_4 n fits
+word_here image at n within =
+    ap (λ (b : List ℕ). from_be_bytes w32 (take 4 (drop at b))) (changed_laid image (number_word n) at (omega arith))
+    ∙ ap (from_be_bytes w32) (laid_here image (number_word n) at (omega arith) refl) ∙ number_told n

@@ -1,5 +1,5 @@
 -- What a change of an image leaves of its chains, and makes of one.
-use Rattle.std.proofs.Common.{◌≡◌, ◌≢◌, ℕ, ◌+◌, ◌^◌, ◌<◌, ◌≤◌, true, List, [], ◌∷◌, ◌++◌, length, sym, subst, ◌∙◌, arith}
+use Rattle.std.proofs.Common.{◌≡◌, ◌≢◌, ℕ, ◌+◌, ◌≤◌, true, List, [], ◌∷◌, ◌++◌, length, sym, subst, ◌∙◌, arith}
 use Rattle.std.specs.Prelude.{◌==◌}
 use Rattle.std.specs.List.{AllByRecursion}
 use Rattle.std.proofs.lemmas.Bool.{and_from, eq-eqb}
@@ -114,16 +114,16 @@ chain_insert : (l : Links) (image : List ℕ) (at w : ℕ) (front back : List �
     → IsApartFrom l at (front ++ back)
     → IsApart at 4 (next_place l w) → HasChain l image at (front ++ back) → is_right l image w ≡ true
     → AllByRecursion (λ v. v ≢ w) (front ++ back)
-    → word_at image (next_place l w) ≡ word_at image (place_behind l at front) → w < 2 ^ 32
+    → word_at image (next_place l w) ≡ word_at image (place_behind l at front)
     → HasChain l (put_word (place_behind l at front) w image) at (front ++ w ∷ back)
-chain_insert l image at w [] back links free all own chain is others next fits =
+chain_insert l image at w [] back links free all own chain is others next =
     let stays : StaysBut at 4 image (put_word at w image) = word_put image at w free.within in (
-      word_here image at w free.within fits,
+      word_here image at w free.within,
       right_stays l at 4 w image (put_word at w image) links stays (free.marks w is) is,
       chain_stays l at 4 (next_place l w) image (put_word at w image) back links stays (next_within l image w links is).0 own all
           (chain_from l image at (next_place l w) back next chain),
     )
-chain_insert l image at w (f ∷ fs) back links free all own chain is others next fits =
+chain_insert l image at w (f ∷ fs) back links free all own chain is others next =
     let p = place_behind l (next_place l f) fs in
     let there = behind_free l image (next_place l f) fs back links (next_free l image f links chain.1) chain.2 in
     let stays : StaysBut p 4 image (put_word p w image) = word_put image p w there.within in
@@ -134,15 +134,14 @@ chain_insert l image at w (f ∷ fs) back links free all own chain is others nex
       chain_insert l image (next_place l f) w fs back links (next_free l image f links chain.1)
           (next_apart l image (next_place l f) f (fs ++ back) links chain.1 chain.2 (others_behind l image at f
           (fs ++ back) links.step chain))
-          (nexts_apart l image w f links is chain.1 (λ same. others.0 (sym same))) chain.2 is others.1 next fits,
+          (nexts_apart l image w f links is chain.1 (λ same. others.0 (sym same))) chain.2 is others.1 next,
     )
 
 pub chain_put_in : (l : Links) (image : List ℕ) (at w : ℕ) (front back : List ℕ) → AreLinks l → IsHeadPlace l at → at + 4 ≤ length image
-    → HasChain l image at (front ++ back) → MayEnter l image w (front ++ back) → w < 2 ^ 32
-    → word_at image (place_behind l at front) < 2 ^ 32
+    → HasChain l image at (front ++ back) → MayEnter l image w (front ++ back)
     → HasChain l (put_in l (place_behind l at front) w image) at (front ++ w ∷ back)
 unfolding put_in
-chain_put_in l image at w front back links place within chain may fits small =
+chain_put_in l image at w front back links place within chain may =
     let p = place_behind l at front in
     let x = word_at image p in
     let q = next_place l w in
@@ -161,22 +160,22 @@ chain_put_in l image at w front back links place within chain may fits small =
     let is : is_right l mid w ≡ true = right_stays l q 4 w image mid links stays (mark_apart l image w w links may.right) may.right in
     chain_insert l mid at w front back links (head_free l mid at links place (omega arith))
     (head_apart_all l mid at at (front ++ back) links place kept)
-    head.0 kept is may.new (word_here image q x room small ∙ sym (word_stays q 4 p image mid stays here.within apart)) fits
+    head.0 kept is may.new (word_here image q x room ∙ sym (word_stays q 4 p image mid stays here.within apart))
 
 -- ---- a word less
 
 chain_remove : (l : Links) (image : List ℕ) (at w : ℕ) (front back : List ℕ) → AreLinks l → IsFree l image at
     → IsApartFrom l at (front ++ w ∷ back)
-    → HasChain l image at (front ++ w ∷ back) → word_at image (next_place l w) < 2 ^ 32
+    → HasChain l image at (front ++ w ∷ back)
     → HasChain l (put_word (place_behind l at front) (word_at image (next_place l w)) image) at (front ++ back)
-chain_remove l image at w [] back links free all chain fits =
+chain_remove l image at w [] back links free all chain =
     let y = word_at image (next_place l w) in
     let stays : StaysBut at 4 image (put_word at y image) = word_put image at y free.within in
     let room = (next_within l image w links chain.1).0 in
     chain_from l (put_word at y image) (next_place l w) at back
-    (word_here image at y free.within fits ∙ sym (word_stays at 4 (next_place l w) image (put_word at y image) stays room all.0.0))
+    (word_here image at y free.within ∙ sym (word_stays at 4 (next_place l w) image (put_word at y image) stays room all.0.0))
     (chain_stays l at 4 (next_place l w) image (put_word at y image) back links stays room all.0.0 all.1 chain.2)
-chain_remove l image at w (f ∷ fs) back links free all chain fits =
+chain_remove l image at w (f ∷ fs) back links free all chain =
     let y = word_at image (next_place l w) in
     let p = place_behind l (next_place l f) fs in
     let there = behind_free l image (next_place l f) fs (w ∷ back) links (next_free l image f links chain.1) chain.2 in
@@ -188,7 +187,7 @@ chain_remove l image at w (f ∷ fs) back links free all chain fits =
       chain_remove l image (next_place l f) w fs back links (next_free l image f links chain.1)
           (next_apart l image (next_place l f) f (fs ++ w ∷ back) links chain.1 chain.2 (others_behind l image at f
           (fs ++ w ∷ back) links.step chain))
-          chain.2 fits,
+          chain.2,
     )
 
 -- a word of a chain stands behind those before it, and is right
@@ -198,10 +197,10 @@ stands_behind l image at w [] back chain = (chain.0, chain.1)
 stands_behind l image at w (f ∷ fs) back chain = stands_behind l image (next_place l f) w fs back chain.2
 
 pub chain_taken_out : (l : Links) (image : List ℕ) (at w : ℕ) (front back : List ℕ) → AreLinks l → IsHeadPlace l at → at + 4 ≤ length image
-    → HasChain l image at (front ++ w ∷ back) → word_at image (next_place l w) < 2 ^ 32
+    → HasChain l image at (front ++ w ∷ back)
     → HasChain l (taken_out l (place_behind l at front) image) at (front ++ back)
 unfolding taken_out
-chain_taken_out l image at w front back links place within chain fits =
+chain_taken_out l image at w front back links place within chain =
     let p = place_behind l at front in
     let y = word_at image (next_place l w) in
     let q = next_place l w in
@@ -210,7 +209,7 @@ chain_taken_out l image at w front back links place within chain fits =
     let free = behind_free l image at front (w ∷ back) links (head_free l image at links place within) chain in
     let less : HasChain l mid at (front ++ back) =
     chain_remove l image at w front back links (head_free l image at links place within)
-    (head_apart_all l image at at (front ++ w ∷ back) links place chain) chain fits in
+    (head_apart_all l image at at (front ++ w ∷ back) links place chain) chain in
     let stays : StaysBut p 4 image mid = word_put image p y free.within in
     let size : length mid ≡ length image = word_len image p y free.within in
     let is : is_right l mid w ≡ true = right_stays l p 4 w image mid links stays (free.marks w here.1) here.1 in

@@ -1,6 +1,5 @@
 -- What the calls say of a draft's bytes, where they are told.
-use Rattle.std.proofs.Common.{◌≡◌, ◌≢◌, ℕ, ◌+◌, ◌^◌, ◌<◌, ◌≤◌, inl, inr, Bool, List, [], ◌∷◌, ◌++◌, Option, Some, None, IfSome, length, sym, ap, subst, ◌∙◌, arith}
-use Rattle.std.proofs.lemmas.Bool.{eqb-true}
+use Rattle.std.proofs.Common.{◌≡◌, ◌≢◌, ℕ, ◌+◌, ◌<◌, ◌≤◌, inl, inr, Bool, List, [], ◌∷◌, ◌++◌, Option, Some, None, IfSome, length, sym, ap, subst, ◌∙◌, arith}
 use Rattle.db_image.specs.declared.faults.RecordFault.{RecordFault}
 use Rattle.db_image.specs.declared.faults.RecordFault.TheVariants.{DiskFault, BadRecord, NoMemory}
 use Rattle.db_blocks.specs.Ends.{HasCause}
@@ -11,7 +10,7 @@ use Rattle.std.proofs.lemmas.List.{append-nil}
 use Rattle.ubik_types.specs.Image.{changed}
 use Rattle.ubik_types.specs.declared.images.Change.TheVariants.{Put}
 use Rattle.db_blocks.specs.Blocks.{word_at}
-use Rattle.db_blocks.specs.Bytes.{word}
+use Rattle.db_blocks.specs.Bytes.{number_word}
 use Rattle.db_chains.specs.declared.changes.Until.TheVariants.{End, Word, Above}
 use Rattle.db_chains.specs.declared.links.Links.{Links}
 use Rattle.db_chains.specs.Chains.{HasChain}
@@ -30,7 +29,7 @@ use Rattle.db_chains.proofs.Stops.{above_behind, end_behind, word_behind}
 
 pub bytes_put_in : (a b c : Option (List ℕ)) (l : Links) (at w next place : ℕ) (one two : List ℕ)
     → IfSome a (λ image. next ≡ word_at image at)
-    → place ≡ next_place l w → one ≡ word next → two ≡ word w
+    → place ≡ next_place l w → one ≡ number_word next → two ≡ number_word w
     → b ≡ option_map (λ image. changed image (Put place one)) a → c ≡ option_map (λ image. changed image (Put at two)) b
     → c ≡ option_map (put_in l at w) a
 unfolding put_in put_word
@@ -39,13 +38,13 @@ bytes_put_in None b c l at w next place one two reads is one_is two_is first sec
 bytes_put_in (Some image) b c l at w next place one two reads is one_is two_is first second =
     second ∙ ap (option_map (λ image. changed image (Put at two))) first
     ∙ ap (λ (bytes : List ℕ). Some (changed (changed image (Put place bytes)) (Put at two))) one_is
-    ∙ ap (λ (bytes : List ℕ). Some (changed (changed image (Put place (word next))) (Put at bytes))) two_is
-    ∙ ap (λ (n : ℕ). Some (changed (changed image (Put place (word n))) (Put at (word w)))) reads
-    ∙ ap (λ (p : ℕ). Some (changed (changed image (Put p (word (word_at image at)))) (Put at (word w)))) is
+    ∙ ap (λ (bytes : List ℕ). Some (changed (changed image (Put place (number_word next))) (Put at bytes))) two_is
+    ∙ ap (λ (n : ℕ). Some (changed (changed image (Put place (number_word n))) (Put at (number_word w)))) reads
+    ∙ ap (λ (p : ℕ). Some (changed (changed image (Put p (number_word (word_at image at)))) (Put at (number_word w)))) is
 
 pub bytes_taken_out : (a b c : Option (List ℕ)) (l : Links) (at w next place : ℕ) (one two : List ℕ)
     → IfSome a (λ image. w ≡ word_at image at)
-    → IfSome a (λ image. next ≡ word_at image place) → place ≡ next_place l w → one ≡ word next → two ≡ word 0
+    → IfSome a (λ image. next ≡ word_at image place) → place ≡ next_place l w → one ≡ number_word next → two ≡ number_word 0
     → b ≡ option_map (λ image. changed image (Put at one)) a → c ≡ option_map (λ image. changed image (Put place two)) b
     → c ≡ option_map (taken_out l at) a
 unfolding taken_out put_word
@@ -55,14 +54,9 @@ bytes_taken_out (Some image) b c l at w next place one two stands reads is one_i
     let q : place ≡ next_place l (word_at image at) = is ∙ ap (next_place l) stands in
     second ∙ ap (option_map (λ image. changed image (Put place two))) first
     ∙ ap (λ (bytes : List ℕ). Some (changed (changed image (Put at bytes)) (Put place two))) one_is
-    ∙ ap (λ (bytes : List ℕ). Some (changed (changed image (Put at (word next))) (Put place bytes))) two_is
-    ∙ ap (λ (n : ℕ). Some (changed (changed image (Put at (word n))) (Put place (word 0)))) reads
-    ∙ ap (λ (p : ℕ). Some (changed (changed image (Put at (word (word_at image p)))) (Put p (word 0)))) q
-
-pub small_word : (a : Option (List ℕ)) (at n : ℕ) → IfSome a (λ image. n ≡ word_at image at) → n < 2 ^ 32
-    → IfSome a (λ image. word_at image at < 2 ^ 32)
-small_word None at n reads fits = tt
-small_word (Some image) at n reads fits = let is : n ≡ word_at image at = reads in subst (λ (x : ℕ). x < 2 ^ 32) is fits
+    ∙ ap (λ (bytes : List ℕ). Some (changed (changed image (Put at (number_word next))) (Put place bytes))) two_is
+    ∙ ap (λ (n : ℕ). Some (changed (changed image (Put at (number_word n))) (Put place (number_word 0)))) reads
+    ∙ ap (λ (p : ℕ). Some (changed (changed image (Put at (number_word (word_at image p)))) (Put p (number_word 0)))) q
 
 -- at the place where a walk stopped
 pub bytes_at : (a c : Option (List ℕ)) (f : ℕ → List ℕ → List ℕ) (place_in : List ℕ → ℕ) (place : ℕ)
@@ -78,59 +72,54 @@ some_and c new P is holds = subst (λ (o : Option (List ℕ)). IsSomeAnd o P) (s
 
 pub first_chain : (a c : Option (List ℕ)) (l : Links) (at len w : ℕ) → AreLinks l → IsHeadPlace l at
     → IfSome a (λ image. length image ≡ len)
-    → at + 4 ≤ len → w < 2 ^ 32 → IfSome a (λ image. word_at image at < 2 ^ 32) → c ≡ option_map (put_in l at w) a
+    → at + 4 ≤ len → c ≡ option_map (put_in l at w) a
     → IfSome a (λ image. (ws : List ℕ) → HasChain l image at ws → MayEnter l image w ws → IsSomeAnd c (λ new. HasChain l new at (w ∷ ws)))
-first_chain None c l at len w links place told within fits small bytes = tt
-first_chain (Some image) c l at len w links place told within fits small bytes = λ ws chain may.
+first_chain None c l at len w links place told within bytes = tt
+first_chain (Some image) c l at len w links place told within bytes = λ ws chain may.
     some_and c (put_in l at w image) (λ new. HasChain l new at (w ∷ ws)) bytes
-    (chain_put_in l image at w [] ws links place (omega arith) chain may fits small)
+    (chain_put_in l image at w [] ws links place (omega arith) chain may)
 
--- the word that stands where a walk stopped
-pub last_chain : (a c : Option (List ℕ)) (l : Links) (at len w place : ℕ) → AreLinks l → IsHeadPlace l at
+pub last_chain : (a c : Option (List ℕ)) (l : Links) (at len w : ℕ) → AreLinks l → IsHeadPlace l at
     → IfSome a (λ image. length image ≡ len)
-    → at + 4 ≤ len → w < 2 ^ 32 → IfSome a (λ image. place ≡ stop_place l (is_until End) image at)
-    → IfSome a (λ image. word_at image place < 2 ^ 32) → c ≡ option_map (put_last l at w) a
+    → at + 4 ≤ len → c ≡ option_map (put_last l at w) a
     → IfSome a (λ image. (ws : List ℕ) → HasChain l image at ws → MayEnter l image w ws → IsSomeAnd c (λ new. HasChain l new at
     (ws ++ w ∷ [])))
-last_chain None c l at len w place links head told within fits is small bytes = tt
-last_chain (Some image) c l at len w place links head told within fits is small bytes = λ ws chain may.
+last_chain None c l at len w links head told within bytes = tt
+last_chain (Some image) c l at len w links head told within bytes = λ ws chain may.
     let behind : stop_place l (is_until End) image at ≡ place_behind l at ws = end_behind l image at ws links.step chain in
     let all : ws ≡ ws ++ [] = sym (append-nil ws) in
     some_and c (put_in l (place_behind l at ws) w image) (λ new. HasChain l new at (ws ++ w ∷ []))
     (bytes ∙ ap (λ (p : ℕ). Some (put_in l p w image)) behind)
     (chain_put_in l image at w ws [] links head (omega arith) (subst (HasChain l image at) all chain) (subst
-    (MayEnter l image w) all may) fits
-    (subst (λ (p : ℕ). word_at image p < 2 ^ 32) (is ∙ behind) small))
+    (MayEnter l image w) all may))
 
-pub between_chain : (a c : Option (List ℕ)) (l : Links) (at len w place : ℕ) → AreLinks l → IsHeadPlace l at
+pub between_chain : (a c : Option (List ℕ)) (l : Links) (at len w : ℕ) → AreLinks l → IsHeadPlace l at
     → IfSome a (λ image. length image ≡ len)
-    → at + 4 ≤ len → w < 2 ^ 32 → IfSome a (λ image. place ≡ stop_place l (is_until (Above w)) image at)
-    → IfSome a (λ image. word_at image place < 2 ^ 32) → c ≡ option_map (put_between l at w) a
+    → at + 4 ≤ len → c ≡ option_map (put_between l at w) a
     → IfSome a (λ image. (below above : List ℕ) → HasChain l image at (below ++ above) → MayEnter l image w (below ++ above)
     → AllByRecursion (λ v. v < w) below → AllByRecursion (λ v. w < v) above
     → IsSomeAnd c (λ new. HasChain l new at (below ++ w ∷ above)))
-between_chain None c l at len w place links head told within fits is small bytes = tt
-between_chain (Some image) c l at len w place links head told within fits is small bytes = λ below above chain may less more.
+between_chain None c l at len w links head told within bytes = tt
+between_chain (Some image) c l at len w links head told within bytes = λ below above chain may less more.
     let behind : stop_place l (is_until (Above w)) image at ≡ place_behind l at below =
     above_behind l image at w below above links.step chain less more in
     some_and c (put_in l (place_behind l at below) w image) (λ new. HasChain l new at (below ++ w ∷ above))
     (bytes ∙ ap (λ (p : ℕ). Some (put_in l p w image)) behind)
-    (chain_put_in l image at w below above links head (omega arith) chain may fits (subst (λ (p : ℕ). word_at image p < 2 ^ 32) (is
-    ∙ behind) small))
+    (chain_put_in l image at w below above links head (omega arith) chain may)
 
 pub without_chain : (a c : Option (List ℕ)) (l : Links) (at len w : ℕ) → AreLinks l → IsHeadPlace l at
     → IfSome a (λ image. length image ≡ len)
-    → at + 4 ≤ len → IfSome a (λ image. word_at image (next_place l w) < 2 ^ 32) → c ≡ option_map (without l at w) a
+    → at + 4 ≤ len → c ≡ option_map (without l at w) a
     → IfSome a (λ image. (front back : List ℕ) → HasChain l image at (front ++ w ∷ back) → IsSomeAnd c (λ new. HasChain l new at
     (front ++ back)))
-without_chain None c l at len w links head told within small bytes = tt
-without_chain (Some image) c l at len w links head told within small bytes = λ front back chain.
+without_chain None c l at len w links head told within bytes = tt
+without_chain (Some image) c l at len w links head told within bytes = λ front back chain.
     let others = apart_front (λ v. v ≢ w) front back (others_of l image at w front back links chain) in
     let behind : stop_place l (is_until (Word w)) image at ≡ place_behind l at front = word_behind l image at w front back links.step
     chain others in
     some_and c (taken_out l (place_behind l at front) image) (λ new. HasChain l new at (front ++ back))
     (bytes ∙ ap (λ (p : ℕ). Some (taken_out l p image)) behind)
-    (chain_taken_out l image at w front back links head (omega arith) chain small)
+    (chain_taken_out l image at w front back links head (omega arith) chain)
 
 -- ---- a change at the place where a walk stopped
 
@@ -149,25 +138,23 @@ bytes_stop a b c f l test at stop is same bytes =
 
 pub last_put : (a b c : Option (List ℕ)) (l : Links) (at len w : ℕ) (stop : Stop) → AreLinks l → IsHeadPlace l at
     → IfSome a (λ image. length image ≡ len)
-    → at + 4 ≤ len → w < 2 ^ 32 → IfSome a (λ image. IsStop l (is_until End) image at stop) → b ≡ a
-    → c ≡ option_map (put_in l stop.place w) b → IfSome b (λ image. word_at image stop.place < 2 ^ 32)
+    → at + 4 ≤ len → IfSome a (λ image. IsStop l (is_until End) image at stop) → b ≡ a
+    → c ≡ option_map (put_in l stop.place w) b
     → IfSome a (λ image. (ws : List ℕ) → HasChain l image at ws → MayEnter l image w ws → IsSomeAnd c (λ new. HasChain l new at
     (ws ++ w ∷ [])))
-last_put a b c l at len w stop links head told within fits is same bytes small =
-    last_chain a c l at len w stop.place links head told within fits (stop_at a l (is_until End) at stop is)
-    (subst (λ (o : Option (List ℕ)). IfSome o (λ image. word_at image stop.place < 2 ^ 32)) same small)
+last_put a b c l at len w stop links head told within is same bytes =
+    last_chain a c l at len w links head told within
     (bytes_stop a b c (λ p image. put_in l p w image) l (is_until End) at stop is same bytes)
 
 pub between_put : (a b c : Option (List ℕ)) (l : Links) (at len w : ℕ) (stop : Stop) → AreLinks l → IsHeadPlace l at
     → IfSome a (λ image. length image ≡ len)
-    → at + 4 ≤ len → w < 2 ^ 32 → IfSome a (λ image. IsStop l (is_until (Above w)) image at stop) → b ≡ a
-    → c ≡ option_map (put_in l stop.place w) b → IfSome b (λ image. word_at image stop.place < 2 ^ 32)
+    → at + 4 ≤ len → IfSome a (λ image. IsStop l (is_until (Above w)) image at stop) → b ≡ a
+    → c ≡ option_map (put_in l stop.place w) b
     → IfSome a (λ image. (below above : List ℕ) → HasChain l image at (below ++ above) → MayEnter l image w (below ++ above)
     → AllByRecursion (λ v. v < w) below → AllByRecursion (λ v. w < v) above
     → IsSomeAnd c (λ new. HasChain l new at (below ++ w ∷ above)))
-between_put a b c l at len w stop links head told within fits is same bytes small =
-    between_chain a c l at len w stop.place links head told within fits (stop_at a l (is_until (Above w)) at stop is)
-    (subst (λ (o : Option (List ℕ)). IfSome o (λ image. word_at image stop.place < 2 ^ 32)) same small)
+between_put a b c l at len w stop links head told within is same bytes =
+    between_chain a c l at len w links head told within
     (bytes_stop a b c (λ p image. put_in l p w image) l (is_until (Above w)) at stop is same bytes)
 
 pub stop_some : (a : Option (List ℕ)) (l : Links) (test : ℕ → List ℕ → Bool) (at : ℕ) (stop : Stop) (f : Link) → stop.link ≡ Some f
@@ -184,14 +171,6 @@ stop_none (Some image) l test at stop same is = record { place = is.place; found
 
 -- ---- a word that is taken out
 
-small_there : (a : Option (List ℕ)) (l : Links) (at w place : ℕ) (f : Link)
-    → IfSome a (λ image. IsStop l (is_until (Word w)) image at record { place = place; link = Some f })
-    → IfSome a (λ image. word_at image (next_place l f.word) < 2 ^ 32) → IfSome a (λ image. word_at image (next_place l w) < 2 ^ 32)
-small_there None l at w place f is small = tt
-small_there (Some image) l at w place f is small =
-    let same : f.word ≡ w = eqb-true f.word w is.found.1 in
-    subst (λ (v : ℕ). word_at image (next_place l v) < 2 ^ 32) same small
-
 pub stands_there : (a b : Option (List ℕ)) (l : Links) (test : ℕ → List ℕ → Bool) (at place : ℕ) (f : Link) → b ≡ a
     → IfSome a (λ image. IsStop l test image at record { place = place; link = Some f }) → IfSome b (λ image. f.word ≡ word_at image place)
 stands_there None b l test at place f same is = subst (λ (o : Option (List ℕ)). IfSome o (λ image. f.word ≡ word_at image place))
@@ -202,13 +181,11 @@ stands_there (Some image) b l test at place f same is =
 pub word_taken : (a b c : Option (List ℕ)) (l : Links) (at len w place : ℕ) (f : Link) → AreLinks l → IsHeadPlace l at
     → IfSome a (λ image. length image ≡ len)
     → at + 4 ≤ len → IfSome a (λ image. IsStop l (is_until (Word w)) image at record { place = place; link = Some f }) → b ≡ a
-    → c ≡ option_map (taken_out l place) b → IfSome b (λ image. word_at image (next_place l f.word) < 2 ^ 32)
+    → c ≡ option_map (taken_out l place) b
     → IfSome a (λ image. (front back : List ℕ) → HasChain l image at (front ++ w ∷ back) → IsSomeAnd c (λ new. HasChain l new at
     (front ++ back)))
-word_taken a b c l at len w place f links head told within is same bytes small =
+word_taken a b c l at len w place f links head told within is same bytes =
     without_chain a c l at len w links head told within
-    (small_there a l at w place f is (subst (λ (o : Option (List ℕ)). IfSome o (λ image. word_at image
-    (next_place l f.word) < 2 ^ 32)) same small))
     (bytes_stop a b c (λ p image. taken_out l p image) l (is_until (Word w)) at record { place = place; link = Some f } is same bytes)
 
 -- a walk that ends without the word

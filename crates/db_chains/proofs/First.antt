@@ -1,5 +1,5 @@
 -- The first word of a chain, taken out.
-use Rattle.std.proofs.Common.{◌≡◌, ◌≢◌, ℕ, ◌+◌, ◌^◌, ◌<◌, ◌≤◌, inl, inr, Bool, true, false, cond, List, [], ◌∷◌, Option, Some, None, IfSome, length, drop, refl, sym, ap, subst, ◌∙◌, ⊎_elim, arith}
+use Rattle.std.proofs.Common.{◌≡◌, ◌≢◌, ℕ, ◌+◌, ◌<◌, ◌≤◌, inl, inr, Bool, true, false, cond, List, [], ◌∷◌, Option, Some, None, IfSome, length, drop, refl, sym, ap, subst, ◌∙◌, ⊎_elim, arith}
 use Rattle.std.specs.Prelude.{IsSomeAnd, ◌==◌, slice_get}
 use Rattle.std.specs.Option.{option_map}
 use Rattle.std.proofs.lemmas.Bool.{both_ways, eq-eqb, ne_eqb}
@@ -11,7 +11,7 @@ use Rattle.db_chains.specs.declared.links.Links.{Links}
 use Rattle.db_chains.specs.Chains.{HasChain}
 use Rattle.db_chains.specs.Changes.{IsHeadPlace, first_at, taken_out, without_first}
 use Rattle.db_chains.specs.Ends.{HasSome, IsBadFirst, IsBadWhere}
-use Rattle.db_chains.specs.Links.{AreLinks, is_right, next_place}
+use Rattle.db_chains.specs.Links.{AreLinks, is_right}
 use Rattle.db_chains.proofs.Changed.{chain_taken_out}
 use Rattle.db_chains.proofs.Words.{right_some}
 
@@ -78,27 +78,25 @@ some_bytes (Some image) b c l at word same stands some bytes =
     ∙ ap Some (changes (word_at image at == 0) image (taken_out l at image) (ne_eqb (word_at image at) 0 (λ none. some (stands ∙ none))))
 
 split_first : (l : Links) (image new : List ℕ) (at word : ℕ) (ws : List ℕ) → AreLinks l → IsHeadPlace l at → at + 4 ≤ length image
-    → word ≡ word_at image at → word ≢ 0 → word_at image (next_place l word) < 2 ^ 32 → HasChain l image at ws
+    → word ≡ word_at image at → word ≢ 0 → HasChain l image at ws
     → (Some word ≡ slice_get ws 0) × HasChain l (taken_out l at image) at (drop 1 ws)
-split_first l image new at word [] links head within stands some small chain = absurd (some (stands ∙ chain))
-split_first l image new at word (w ∷ ws) links head within stands some small chain =
+split_first l image new at word [] links head within stands some chain = absurd (some (stands ∙ chain))
+split_first l image new at word (w ∷ ws) links head within stands some chain =
     let same : word ≡ w = stands ∙ chain.0 in (
       ap Some same,
-      chain_taken_out l image at w [] ws links head within chain (subst (λ (v : ℕ). word_at image (next_place l v) < 2 ^ 32) same small),
+      chain_taken_out l image at w [] ws links head within chain,
     )
 
 pub some_chain : (a b c : Option (List ℕ)) (l : Links) (at len word : ℕ) → AreLinks l → IsHeadPlace l at
     → IfSome a (λ image. length image ≡ len)
     → at + 4 ≤ len → b ≡ a → IfSome a (λ image. word ≡ word_at image at) → word ≢ 0
-    → c ≡ option_map (taken_out l at) b → IfSome b (λ image. word_at image (next_place l word) < 2 ^ 32)
+    → c ≡ option_map (taken_out l at) b
     → IfSome a (λ image. (ws : List ℕ) → HasChain l image at ws → (Some word ≡ slice_get ws 0) × IsSomeAnd c (λ new. HasChain l new at
     (drop 1 ws)))
-some_chain None b c l at len word links head told within same stands some bytes small = tt
-some_chain (Some image) b c l at len word links head told within same stands some bytes small = λ ws chain.
-    let fits : word_at image (next_place l word) < 2 ^ 32 =
-    subst (λ (o : Option (List ℕ)). IfSome o (λ image. word_at image (next_place l word) < 2 ^ 32)) same small in
+some_chain None b c l at len word links head told within same stands some bytes = tt
+some_chain (Some image) b c l at len word links head told within same stands some bytes = λ ws chain.
     let made : c ≡ Some (taken_out l at image) = bytes ∙ ap (option_map (taken_out l at)) same in
-    let both = split_first l image image at word ws links head (omega arith) stands some fits chain in
+    let both = split_first l image image at word ws links head (omega arith) stands some chain in
     (both.0, subst (λ (o : Option (List ℕ)). IsSomeAnd o (λ new. HasChain l new at (drop 1 ws))) (sym made) both.1)
 
 -- ---- bad records

@@ -1,5 +1,5 @@
 -- What is left of an image where a block is taken or freed.
-use Rattle.std.proofs.Common.{◌≡◌, ◌≢◌, ℕ, ◌+◌, ◌-◌, ◌/◌, ◌%◌, ◌^◌, ◌<◌, ◌≤◌, ◌⊎◌, inl, inr, Bool, true, false, cond, List, [], ◌∷◌, length, drop, refl, sym, ap, subst, ◌∙◌, ⊎_elim, arith}
+use Rattle.std.proofs.Common.{◌≡◌, ◌≢◌, ℕ, ◌+◌, ◌-◌, ◌/◌, ◌%◌, ◌<◌, ◌≤◌, ◌⊎◌, inl, inr, Bool, true, false, cond, List, [], ◌∷◌, length, drop, refl, sym, ap, subst, ◌∙◌, ⊎_elim, arith}
 use Rattle.std.specs.Prelude.{◌==◌, slice_get, unwrap_or}
 use Rattle.std.specs.List.{AllByRecursion}
 use Rattle.std.proofs.lemmas.Bool.{cases_order, eq-eqb, ne_eqb}
@@ -163,9 +163,9 @@ none_free l image new at n rest [] step none still is chain = (is, still)
 none_free l image new at n rest (w ∷ ws) step none still is chain = absurd (right_some l image w step chain.1 (sym chain.0 ∙ none))
 
 pub taken_new : (f : FreeBlocks) (block image : List ℕ) (count : ℕ) → AreFree f → length image ≡ block_place f.head count
-    → length block ≡ 192 → word_at image f.first ≡ 0 → count + 1 < 2 ^ 32 → IsTaken f block image (count + 1) (with_new f count block image)
+    → length block ≡ 192 → word_at image f.first ≡ 0 → IsTaken f block image (count + 1) (with_new f count block image)
 unfolding with_new
-taken_new f block image count free size len none fits =
+taken_new f block image count free size len none =
     let l = free_links f in
     let m : block_count f.head image ≡ count = count_is f.head image count size in
     let mid = with_block f.head count block image in
@@ -184,7 +184,7 @@ taken_new f block image count free size len none fits =
           ∙ block_stays f.head f.count 4 count mid new stays (omega arith) (inr (omega arith)) ∙ put.here;
       others = λ k below other.
           block_stays f.head f.count 4 k mid new stays (omega arith) (inr (omega arith)) ∙ put.others k below (λ same. omega arith);
-      count = word_here mid f.count (count + 1) room fits
+      count = word_here mid f.count (count + 1) room
           ∙ when_true (word_at image f.first == 0) (count + 1) (word_at image f.count) (eq-eqb (word_at image f.first) 0 none);
       words = λ p inside apart also.
           word_stays f.count 4 p mid new stays (omega arith) also ∙ head_word f.head p image mid inside put.front;

@@ -1,5 +1,5 @@
 -- What the calls on free blocks say of a draft, where its bytes are told.
-use Rattle.std.proofs.Common.{◌≡◌, ◌≢◌, ℕ, ◌+◌, ◌-◌, ◌*◌, ◌^◌, ◌<◌, ◌≤◌, Bool, true, false, cond, List, [], Option, Some, None, IfSome, length, drop, refl, sym, ap, subst, ◌∙◌, arith}
+use Rattle.std.proofs.Common.{◌≡◌, ◌≢◌, ℕ, ◌+◌, ◌-◌, ◌*◌, ◌<◌, ◌≤◌, Bool, true, false, cond, List, [], Option, Some, None, IfSome, length, drop, refl, sym, ap, subst, ◌∙◌, arith}
 use Rattle.std.specs.Prelude.{◌==◌, IsSomeAnd, slice_get}
 use Rattle.std.specs.List.{AllByRecursion}
 use Rattle.std.specs.Option.{option_map}
@@ -12,7 +12,7 @@ use Rattle.db_image.specs.declared.images.ImageRead.{Ghosts}
 use Rattle.db_image.specs.declared.services.Layout.{Layout}
 use Rattle.db_image.proofs.ReadSteps.{reads_then}
 use Rattle.db_blocks.specs.Blocks.{block_count, block_place, with_block, word_at}
-use Rattle.db_blocks.specs.Bytes.{word}
+use Rattle.db_blocks.specs.Bytes.{number_word}
 use Rattle.db_blocks.proofs.Scanned.{count_is}
 use Rattle.db_chains.specs.declared.changes.Until.TheVariants.{Above}
 use Rattle.db_chains.specs.declared.free_blocks.FreeBlocks.{FreeBlocks}
@@ -55,7 +55,7 @@ freed_frame g m n most a b c d first second failed looks same layout puts drafts
 -- ---- a block is taken
 
 pub bytes_new : (a b c : Option (List ℕ)) (f : FreeBlocks) (count place : ℕ) (block one : List ℕ) → place ≡ block_place f.head count
-    → one ≡ word (count + 1) → b ≡ option_map (λ image. changed image (Put place block)) a
+    → one ≡ number_word (count + 1) → b ≡ option_map (λ image. changed image (Put place block)) a
     → c ≡ option_map (λ image. changed image (Put f.count one)) b → c ≡ option_map (with_new f count block) a
 unfolding with_new put_word
 bytes_new None b c f count place block one is same first second =
@@ -63,7 +63,7 @@ bytes_new None b c f count place block one is same first second =
 bytes_new (Some image) b c f count place block one is same first second =
     second ∙ ap (option_map (λ image. changed image (Put f.count one))) first
     ∙ ap (λ (bytes : List ℕ). Some (changed (changed image (Put place block)) (Put f.count bytes))) same
-    ∙ ap (λ (p : ℕ). Some (changed (changed image (Put p block)) (Put f.count (word (count + 1))))) is
+    ∙ ap (λ (p : ℕ). Some (changed (changed image (Put p block)) (Put f.count (number_word (count + 1))))) is
 
 none_first : (b : Bool) (w : ℕ) → None ≡ cond b None (Some w) → b ≡ true
 none_first true w is = refl
@@ -134,15 +134,15 @@ some_and c new P is holds = subst (λ (o : Option (List ℕ)). IsSomeAnd o P) (s
 
 pub is_taken_new : (a b c : Option (List ℕ)) (f : FreeBlocks) (block : List ℕ) (count len : ℕ) → AreFree f
     → IfSome a (λ image. length image ≡ len)
-    → len ≡ block_place f.head count → length block ≡ 192 → len < 2 ^ 31 + 2 ^ 20 → IfSome a (λ image. None ≡ first_at image f.first)
+    → len ≡ block_place f.head count → length block ≡ 192 → IfSome a (λ image. None ≡ first_at image f.first)
     → b ≡ option_map (without_first (free_links f) f.first) a → c ≡ option_map (with_new f count block) b
     → IfSome a (λ image. IsSomeAnd c (IsTaken f block image (count + 1)))
-is_taken_new None b c f block count len free told size full short none first second = tt
-is_taken_new (Some image) b c f block count len free told size full short none first second =
+is_taken_new None b c f block count len free told size full none first second = tt
+is_taken_new (Some image) b c f block count len free told size full none first second =
     let n = no_first f block image count (told ∙ size) none in
     some_and c (with_new f count block image) (IsTaken f block image (count + 1))
     (second ∙ ap (option_map (with_new f count block)) first ∙ ap (λ (x : List ℕ). Some (with_new f count block x)) n.0)
-    (taken_new f block image count free (told ∙ size) full n.3 (omega arith))
+    (taken_new f block image count free (told ∙ size) full n.3)
 
 pub number_first : (a : Option (List ℕ)) (f : FreeBlocks) (n : ℕ) → IfSome a (λ image. Some n ≡ first_at image f.first)
     → IfSome a (λ image. n ≡ next_number f image)
@@ -220,21 +220,14 @@ bytes_freed (Some image) b c d f n place stop block stands same is full first se
     (stop_above (Some image) (free_links f) f.first n stop stands)
 
 pub is_freed : (a b c d : Option (List ℕ)) (f : FreeBlocks) (count len n place : ℕ) (stop : Stop) (block : List ℕ) → AreFree f
-    → IfSome a (λ image. length image ≡ len) → len ≡ block_place f.head count → 0 < n → n ≤ count → n < 2 ^ 32
+    → IfSome a (λ image. length image ≡ len) → len ≡ block_place f.head count → 0 < n → n ≤ count
     → IfSome a (λ image. IsStop (free_links f) (is_until (Above n)) image f.first stop) → b ≡ a → place ≡ block_place f.head (n - 1)
     → block ≡ blank f → c ≡ option_map (λ image. changed image (Put place block)) b → d ≡ option_map (put_in (free_links f) stop.place n) c
-    → IfSome c (λ image. word_at image stop.place < 2 ^ 32)
     → IfSome a (λ image. (ws : List ℕ) → HasChain (free_links f) image f.first ws → IsAscending ws → AllByRecursion (λ v. v ≢ n) ws
     → IsSomeAnd d (IsFreed f ws n image))
-is_freed None b c d f count len n place stop block free told size some below fits stands same is full first second small = tt
-is_freed (Some image) b c d f count len n place stop block free told size some below fits stands same is full first second small =
+is_freed None b c d f count len n place stop block free told size some below stands same is full first second = tt
+is_freed (Some image) b c d f count len n place stop block free told size some below stands same is full first second =
     λ ws chain up others.
-    let mid = with_block f.head (n - 1) (blank f) image in
-    let made : c ≡ Some mid =
-    first ∙ ap (option_map (λ image. changed image (Put place block))) same ∙ ap (λ (p : ℕ). Some (changed image (Put p block))) is
-    ∙ ap (λ (x : List ℕ). Some (with_block f.head (n - 1) x image)) full in
     some_and d (with_freed f n image) (IsFreed f ws n image)
     (bytes_freed (Some image) b c d f n place stop block stands same is full first second)
-    (freed f image count n stop.place ws free (told ∙ size) some below fits chain up others
-    (stop_above (Some image) (free_links f) f.first n stop stands)
-    (subst (λ (o : Option (List ℕ)). IfSome o (λ image. word_at image stop.place < 2 ^ 32)) made small))
+    (freed f image count n ws free (told ∙ size) some below chain up others)

@@ -10,15 +10,14 @@ use Rattle.db_blocks.specs.Blocks.{block_count, block_in, block_place, with_bloc
 use Rattle.db_blocks.specs.Bytes.{word, zeros}
 use Rattle.db_blocks.proofs.BlockPlaces.{IsPut, put_block}
 use Rattle.db_blocks.proofs.Scanned.{count_is}
-use Rattle.db_chains.specs.declared.changes.Until.TheVariants.{Above}
 use Rattle.db_chains.specs.declared.free_blocks.FreeBlocks.{FreeBlocks}
 use Rattle.db_chains.specs.declared.links.Links.{Links}
 use Rattle.db_chains.specs.Chains.{HasChain}
-use Rattle.db_chains.specs.Changes.{is_until, place_above, put_in, put_word}
+use Rattle.db_chains.specs.Changes.{place_above, put_in, put_word}
 use Rattle.db_chains.specs.Free.{AreFree, IsAscending, IsBesideNext, IsFreed, blank, free_links, put_among, with_freed}
 use Rattle.db_chains.specs.Links.{block_of, is_right, mark_place, names_block, next_place}
 use Rattle.db_chains.specs.Others.{AreApart}
-use Rattle.db_chains.specs.Walks.{place_behind, stop_place}
+use Rattle.db_chains.specs.Walks.{place_behind}
 use Rattle.db_chains.proofs.Apart.{next_fits}
 use Rattle.db_chains.proofs.Bytes.{IsApart, StaysBut, word_len, word_put, word_stays}
 use Rattle.db_chains.proofs.Changed.{chain_put_in, next_within}
@@ -226,14 +225,12 @@ freed_at f image mid count n p ws free size put some below place up chain =
           ∙ head_word f.head w image mid inside put.front;
     }
 
-pub freed : (f : FreeBlocks) (image : List ℕ) (count n place : ℕ) (ws : List ℕ) → AreFree f
-    → length image ≡ block_place f.head count → 0 < n → n ≤ count → n < 2 ^ 32
+pub freed : (f : FreeBlocks) (image : List ℕ) (count n : ℕ) (ws : List ℕ) → AreFree f
+    → length image ≡ block_place f.head count → 0 < n → n ≤ count
     → HasChain (free_links f) image f.first ws → IsAscending ws → AllByRecursion (λ v. v ≢ n) ws
-    → place ≡ stop_place (free_links f) (is_until (Above n)) image f.first
-    → word_at (with_block f.head (n - 1) (blank f) image) place < 2 ^ 32
     → IsFreed f ws n image (with_freed f n image)
 unfolding with_freed
-freed f image count n place ws free size some within fits chain up others is small =
+freed f image count n ws free size some within chain up others =
     let l = free_links f in
     let mid = with_block f.head (n - 1) (blank f) image in
     let put : IsPut f.head (n - 1) (blank f) image mid count =
@@ -253,8 +250,7 @@ freed f image count n place ws free size some within fits chain up others is sma
     record {
       right = blank_right f mid count n free.mark put.size some within put.here;
       new = subst (AllByRecursion (λ v. v ≢ n)) (sym s.whole) others;
-    }
-    fits (subst (λ (p : ℕ). word_at mid p < 2 ^ 32) (is ∙ behind) small) in
+    } in
     subst (λ (p : ℕ). IsFreed f ws n image (put_in l p n mid)) (sym behind)
     (freed_at f image mid count n (place_behind l f.first s.below) ws free size put some within
     (free_place f image count (place_behind l f.first s.below) s.below s.above free size old refl)

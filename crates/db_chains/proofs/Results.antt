@@ -22,10 +22,6 @@ pub ok_so : {T E : Type 0} (r : Result T E) (A B : Type 0) → OnOk r A → (A �
 ok_so (Ok x) A B a then = then a
 ok_so (Err e) A B a then = tt
 
-pub ok_both : {T E : Type 0} (r : Result T E) (A B C : Type 0) → OnOk r A → OnOk r B → (A → B → C) → OnOk r C
-ok_both (Ok x) A B C a b then = then a b
-ok_both (Err e) A B C a b then = tt
-
 pub err_so : {T E : Type 0} (r : Result T E) (P Q : E → Type 0) → IfErr r P → ((e : E) → P e → Q e) → IfErr r Q
 err_so (Ok x) P Q p then = tt
 err_so (Err e) P Q p then = then e p

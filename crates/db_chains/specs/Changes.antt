@@ -4,7 +4,7 @@ use Rattle.std.specs.List.{AllByRecursion}
 use Rattle.ubik_types.specs.Image.{changed}
 use Rattle.ubik_types.specs.declared.images.Change.TheVariants.{Put}
 use Rattle.db_blocks.specs.Blocks.{block_place, word_at}
-use Rattle.db_blocks.specs.Bytes.{word}
+use Rattle.db_blocks.specs.Bytes.{number_word}
 use Rattle.db_blocks.specs.declared.blocks.TheConstants.{BLOCK_LEN}
 use Rattle.db_chains.specs.declared.links.Links.{Links}
 use Rattle.db_chains.specs.declared.changes.Until.{Until}
@@ -30,7 +30,7 @@ place_above l at w image = stop_place l (is_until (Above w)) image at
 
 -- a number in a word of an image
 unfoldable pub put_word : (at n : ℕ) → List ℕ → List ℕ
-put_word at n image = changed image (Put at (word n))
+put_word at n image = changed image (Put at (number_word n))
 
 -- a word comes in at a place: what stood there stands behind it
 unfoldable pub put_in : Links → (at w : ℕ) → List ℕ → List ℕ

@@ -9,7 +9,7 @@ ghost use Rattle.db_blocks.specs.declared.blocks.TheConstants.{BLOCK_LEN};
 ghost use Rattle.db_chains.specs.Chains.{HasChain};
 ghost use Rattle.db_chains.specs.Changes.{IsHeadPlace, IsPlaced, MayEnter, first_at, is_until, put_between, put_in, put_last, taken_out, without, without_first};
 ghost use Rattle.db_chains.specs.Ends.{DraftsAtMost, HasSome, HasWord, IsBadFirst, IsBadOrLacks, IsBadWhere, walk_cost};
-ghost use Rattle.db_chains.specs.Links.{AreLinks, next_place};
+ghost use Rattle.db_chains.specs.Links.{AreLinks};
 ghost use Rattle.db_chains.specs.Walks.{IsBad};
 
 use crate::links::{Links, next_place};
@@ -56,7 +56,6 @@ pub(crate) fn put_in<I: ImageRead>(
     requires word { IsPlaced links d.old.len word }
     ensures bytes { OnOk result (Becomes (put_in links at word) d.old d.new) }
     ensures told { IfSome d.old.bytes (λ image. length image ≡ d.old.len) }
-    ensures small { OnOk result (IfSome d.old.bytes (λ image. word_at image at < 2 ^ 32)) }
     ensures len { d.new.len ≡ d.old.len }
     ensures fault { IfErr result IsOfImage }
     ensures frame { DraftsAtMost I.ImageRead (WORD_LEN + 2 * put_cost d.old.layout WORD_LEN) d.old d.new
@@ -82,7 +81,6 @@ pub(crate) fn take_at<I: ImageRead>(
     requires stands { IfSome d.old.bytes (λ image. word ≡ word_at image at) }
     ensures bytes { OnOk result (Becomes (taken_out links at) d.old d.new) }
     ensures told { IfSome d.old.bytes (λ image. length image ≡ d.old.len) }
-    ensures small { OnOk result (IfSome d.old.bytes (λ image. word_at image (next_place links word) < 2 ^ 32)) }
     ensures len { d.new.len ≡ d.old.len }
     ensures fault { IfErr result IsOfImage }
     ensures frame { DraftsAtMost I.ImageRead (WORD_LEN + 2 * put_cost d.old.layout WORD_LEN) d.old d.new

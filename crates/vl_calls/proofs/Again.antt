@@ -18,7 +18,8 @@ use Rattle.vl_calls.specs.Calls.{kind_number, kind_numbered, shapes_of, call_fro
 use Rattle.vl_calls.specs.Reading.{call_at, front_call, call_of}
 use Rattle.vl_calls.proofs.EntriesAgain.{given_again}
 
-value_again : (shape : Shape) (v : value shape) (from : Reading) (after : List ℕ) → IsBounded shape v → IsOfItsBits shape v → from.rest ≡ shape_text xdr_text shape v ++ after → Again (shape_at xdr_item shape from) v after
+value_again : (shape : Shape) (v : value shape) (from : Reading) (after : List ℕ) → IsBounded shape v → IsOfItsBits shape v
+    → from.rest ≡ shape_text xdr_text shape v ++ after → Again (shape_at xdr_item shape from) v after
 value_again Number n from after bounded bits e = number_again n from after bits e
 value_again Signed z from after bounded bits e = signed_again z from after bits e
 value_again Truth b from after bounded bits e = truth_again b from after e
@@ -67,18 +68,21 @@ made_again call.GetAddrs = refl
 made_again (call.ChangeAddr from to) = refl
 made_again call.Probe = refl
 
-pub call_again : (c : VlCall) (from : Reading) (after : List ℕ) → IsCall c → from.rest ≡ spelling c ++ after → Again (front_call from) c after
+pub call_again : (c : VlCall) (from : Reading) (after : List ℕ) → IsCall c → from.rest ≡ spelling c ++ after
+    → Again (front_call from) c after
 unfolding front_call call_at
 call_again c from after fits e =
     let k = call_kind c in
     let fields = spelled value (shape_text xdr_text) (shapes_of k) (call_values c) in
     let number = number_again (kind_number k) from (fields ++ after) (small k) (e ∙ append_assoc (word (kind_number k)) fields after) in
-    let v = values_again value (shape_at xdr_item) (shape_text xdr_text) IsBounded IsOfItsBits value_again (shapes_of k) (call_values c) number.behind after fits.0 fits.1 number.rest in
+    let v = values_again value (shape_at xdr_item) (shape_text xdr_text) IsBounded IsOfItsBits value_again (shapes_of k)
+    (call_values c) number.behind after fits.0 fits.1 number.rest in
     record { behind = v.behind; is = rw (number.is, numbered_again k, v.is, made_again c) refl; rest = v.rest }
 
 pub spelling_again : (c : VlCall) → IsCall c → call_of (spelling c) ≡ Some c
 unfolding call_of
-spelling_again c fits = ended (front_call (at_start (spelling c))) c (call_again c (at_start (spelling c)) [] fits (sym (append-nil (spelling c))))
+spelling_again c fits =
+    ended (front_call (at_start (spelling c))) c (call_again c (at_start (spelling c)) [] fits (sym (append-nil (spelling c))))
 
 pub begins_none : (c d : VlCall) (x y : List ℕ) → IsCall c → IsCall d → spelling c ++ x ≡ spelling d ++ y → (c ≡ d) × (x ≡ y)
 begins_none c d x y p q e =

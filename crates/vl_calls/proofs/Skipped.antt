@@ -26,7 +26,8 @@ pub no_number : (bytes : List ℕ) (e : XdrFault) → word_at (at_start bytes) �
 unfolding call_of front_call
 no_number bytes e h = rw h refl
 
-pub no_kind : (bytes : List ℕ) (n : ℕ) (s : Reading) → word_at (at_start bytes) ≡ Ok (n, s) → kind_numbered n ≡ None → kind_in (call_of bytes) ≡ None
+pub no_kind : (bytes : List ℕ) (n : ℕ) (s : Reading) → word_at (at_start bytes) ≡ Ok (n, s) → kind_numbered n ≡ None
+    → kind_in (call_of bytes) ≡ None
 unfolding call_of front_call
 no_kind bytes n s h k = rw (h, k) refl
 
@@ -39,23 +40,27 @@ record Fronts (from left : Reading) (k : CallKind) : Type 0 where
 abbrev changed : {A B : Type 0} → (A → B) → Option (A × Reading) → Option (B × Reading)
 changed f read = read >>= λ y. Some (f y.0, y.1)
 
-read_of : {A B : Type 0} (read : Option (A × Reading)) (left : Reading) (f : A → B) → rest_of read ≡ Some left → (x : A) × (changed f read ≡ Some (f x, left))
+read_of : {A B : Type 0} (read : Option (A × Reading)) (left : Reading) (f : A → B) → rest_of read ≡ Some left → (x : A)
+    × (changed f read ≡ Some (f x, left))
 read_of {B = B} (Some x) left f e =
     let same : x.1 ≡ left = cc in (x.0, ap (λ (r : Reading). Some (f x.0, r)) same)
 read_of None left f e = absurd cc
 
-fronts : (from s left : Reading) (n : ℕ) (k : CallKind) → word_at from ≡ Ok (n, s) → kind_numbered n ≡ Some k → behind k s ≡ Some left → Fronts from left k
+fronts : (from s left : Reading) (n : ℕ) (k : CallKind) → word_at from ≡ Ok (n, s) → kind_numbered n ≡ Some k → behind k s ≡ Some left
+    → Fronts from left k
 unfolding front_call call_at
 fronts from s left n k h is values =
     let v = read_of (values_at value (shape_at xdr_item) (shapes_of k) s) left (call_from k) values in
     record { call = call_from k v.0; is = rw (h, is) v.1; kind = (made k v.0).kind }
 
-pub no_values : (bytes : List ℕ) (n : ℕ) (s : Reading) (k : CallKind) → word_at (at_start bytes) ≡ Ok (n, s) → kind_numbered n ≡ Some k → behind k s ≡ None
+pub no_values : (bytes : List ℕ) (n : ℕ) (s : Reading) (k : CallKind) → word_at (at_start bytes) ≡ Ok (n, s) → kind_numbered n ≡ Some k
+    → behind k s ≡ None
     → kind_in (call_of bytes) ≡ None
 unfolding call_of front_call call_at
 no_values bytes n s k h is values = rw (h, is, no_read (values_at value (shape_at xdr_item) (shapes_of k) s) values) refl
 
-pub ended : (bytes : List ℕ) (n : ℕ) (s left : Reading) (k : CallKind) → word_at (at_start bytes) ≡ Ok (n, s) → kind_numbered n ≡ Some k → behind k s ≡ Some left
+pub ended : (bytes : List ℕ) (n : ℕ) (s left : Reading) (k : CallKind) → word_at (at_start bytes) ≡ Ok (n, s) → kind_numbered n ≡ Some k
+    → behind k s ≡ Some left
     → left.rest ≡ [] → kind_in (call_of bytes) ≡ Some k
 unfolding call_of
 ended bytes n s left k h is values nothing =
@@ -67,7 +72,8 @@ not_zero : (n : ℕ) → (n ≡ 0 → ⊥) → eqb n 0 ≡ false
 not_zero zero h = absurd (h refl)
 not_zero (suc n) h = eqb-suc-zero n
 
-pub not_ended : (bytes : List ℕ) (n : ℕ) (s left : Reading) (k : CallKind) → word_at (at_start bytes) ≡ Ok (n, s) → kind_numbered n ≡ Some k → behind k s ≡ Some left
+pub not_ended : (bytes : List ℕ) (n : ℕ) (s left : Reading) (k : CallKind) → word_at (at_start bytes) ≡ Ok (n, s)
+    → kind_numbered n ≡ Some k → behind k s ≡ Some left
     → (left.rest ≡ [] → ⊥) → kind_in (call_of bytes) ≡ None
 unfolding call_of
 not_ended bytes n s left k h is values some =

@@ -59,19 +59,26 @@ numbered n k e =
     test n 7 _ k _ IsNumbered e refl λ e. test n 8 _ k _ IsNumbered e refl λ e. test n 9 _ k _ IsNumbered e refl λ e.
     test n 10 _ k _ IsNumbered e refl λ e. test n 11 _ k _ IsNumbered e refl λ e. test n 12 _ k _ IsNumbered e refl λ e. absurd cc
 
-call_taken : (from : Reading) (x : VlCall × Reading) → IsBytes from.rest → front_call from ≡ Some x → Takes from (spelling x.0) x.1 × IsCall x.0
+call_taken : (from : Reading) (x : VlCall × Reading) → IsBytes from.rest → front_call from ≡ Some x → Takes from (spelling x.0) x.1
+    × IsCall x.0
 unfolding front_call call_at
 call_taken from x fits e =
-    let n = bind_some (xdr_item item.Number from) (λ number. kind_numbered number.0 >>= λ kind. values_at value (shape_at xdr_item) (shapes_of kind) number.1 >>= λ found. Some (call_from kind found.0, found.1)) x e in
-    let k = bind_some (kind_numbered n.0.0) (λ kind. values_at value (shape_at xdr_item) (shapes_of kind) n.0.1 >>= λ found. Some (call_from kind found.0, found.1)) x n.2 in
+    let n = bind_some (xdr_item item.Number from)
+    (λ number. kind_numbered number.0 >>= λ kind. values_at value (shape_at xdr_item) (shapes_of kind) number.1 >>= λ found. Some
+    (call_from kind found.0, found.1)) x e in
+    let k = bind_some (kind_numbered n.0.0)
+    (λ kind. values_at value (shape_at xdr_item) (shapes_of kind) n.0.1 >>= λ found. Some (call_from kind found.0, found.1)) x n.2 in
     let v = bind_some (values_at value (shape_at xdr_item) (shapes_of k.0) n.0.1) (λ found. Some (call_from k.0 found.0, found.1)) x k.2 in
     let number = number_takes from n.0 fits n.1 in
-    let all = values_take value (shape_at xdr_item) (shape_text xdr_text) IsBounded IsOfItsBits value_takes (shapes_of k.0) n.0.1 v.0 number.0.left v.1 in
+    let all = values_take value (shape_at xdr_item) (shape_text xdr_text) IsBounded IsOfItsBits value_takes
+    (shapes_of k.0) n.0.1 v.0 number.0.left v.1 in
     let fields = spelled value (shape_text xdr_text) (shapes_of k.0) v.0.0 in
     let both = then_takes from n.0.1 v.0.1 (word n.0.0) fields number.0 all.takes in
     let of_kind = made k.0 v.0.0 in
-    let text : word n.0.0 ++ fields ≡ spelling (call_from k.0 v.0.0) = ap (λ (m : ℕ). word m ++ fields) (sym (numbered n.0.0 k.0 k.1)) ∙ sym of_kind.spell in
-    subst (λ (y : VlCall × Reading). Takes from (spelling y.0) y.1 × IsCall y.0) (given_is (call_from k.0 v.0.0, v.0.1) x v.2) (rw (← text) both, (of_kind.bounded all.bounded, of_kind.bits all.bits))
+    let text : word n.0.0 ++ fields ≡ spelling (call_from k.0 v.0.0) = ap (λ (m : ℕ). word m ++ fields) (sym (numbered n.0.0 k.0 k.1))
+    ∙ sym of_kind.spell in
+    subst (λ (y : VlCall × Reading). Takes from (spelling y.0) y.1 × IsCall y.0) (given_is (call_from k.0 v.0.0, v.0.1) x v.2)
+    (rw (← text) both, (of_kind.bounded all.bounded, of_kind.bits all.bits))
 
 pub read_alone : (bytes : List ℕ) (c : VlCall) → IsBytes bytes → call_of bytes ≡ Some c → IsCall c × (bytes ≡ spelling c)
 unfolding call_of

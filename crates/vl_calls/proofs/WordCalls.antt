@@ -9,7 +9,7 @@ use Rattle.vl_calls.specs.declared.calls.GivenEntry.{GivenEntry}
 use Rattle.vl_calls.specs.declared.calls.VlCall.{VlCall}
 use Rattle.vl_calls.specs.declared.shapes.Shape.{Shape}
 use Rattle.vl_calls.specs.declared.shapes.Shape.TheVariants as shapes
-use Rattle.vldb_records.specs.declared.entries.VlSite.{VlSite}
+use Rattle.vldb_entries.specs.declared.entries.VlSite.{VlSite}
 use Rattle.vl_calls.specs.Calls.{shapes_of, call_from, HasSpelling}
 use Rattle.vl_calls.specs.Entries.{site_at, Part, Name, Number, Sites, part_value, part_at, IsPart, given_parts, given_from, given_at, IsGiven}
 use Rattle.vl_calls.specs.Reading.{call_at}
@@ -45,6 +45,7 @@ named_has_spelling words c e =
     let w = bind_some (first_word words) (λ name. kind_named name.0 >>= λ kind. last_of (call_at word_item kind name.1)) c e in
     let k = bind_some (kind_named w.0.0) (λ kind. last_of (call_at word_item kind w.0.1)) c w.2 in
     let l = last_is (call_at word_item k.0 w.0.1) c k.2 in
-    let v = bind_some (values_at value (shape_at word_item) (shapes_of k.0) w.0.1) (λ found. Some (call_from k.0 found.0, found.1)) (c, l.0) l.1 in
+    let v = bind_some (values_at value (shape_at word_item) (shapes_of k.0) w.0.1) (λ found. Some (call_from k.0 found.0, found.1))
+    (c, l.0) l.1 in
     let bounded = values_are value (shape_at word_item) IsBounded value_is_bounded (shapes_of k.0) w.0.1 v.0 v.1 in
     subst (λ (y : VlCall × Words). HasSpelling y.0) (given_is (call_from k.0 v.0.0, v.0.1) (c, l.0) v.2) ((made k.0 v.0.0).bounded bounded)

@@ -7,8 +7,8 @@ use Rattle.call_grammar.specs.Lists.{TextsOf, listed, spelled}
 use Rattle.call_grammar.specs.Reading.{◌>>=◌, ItemsOf, list_at, values, values_at, AllValues}
 use Rattle.vl_calls.specs.declared.calls.GivenEntry.{GivenEntry}
 use Rattle.vl_calls.specs.declared.limits.TheConstants.{MAX_SITES}
-use Rattle.vldb_records.specs.declared.entries.VlEntry.{VlEntry}
-use Rattle.vldb_records.specs.declared.entries.VlSite.{VlSite}
+use Rattle.vldb_entries.specs.declared.entries.VlEntry.{VlEntry}
+use Rattle.vldb_entries.specs.declared.entries.VlSite.{VlSite}
 
 -- a site: host, partition and flags
 unfoldable pub site_at : {S : Type 0} → ItemsOf S → S → Option (VlSite × S)

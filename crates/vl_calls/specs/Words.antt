@@ -11,7 +11,7 @@ use Rattle.vl_calls.specs.declared.calls.VlCall.{VlCall}
 use Rattle.vl_calls.specs.declared.kinds.CallKind.{CallKind}
 use Rattle.vl_calls.specs.declared.kinds.CallKind.TheVariants as kinds
 use Rattle.vl_calls.specs.declared.kinds.TheConstants.{KINDS}
-use Rattle.vldb_records.specs.declared.entries.VlEntry.{VlEntry}
+use Rattle.vldb_entries.specs.declared.entries.VlEntry.{VlEntry}
 use Rattle.vl_calls.specs.Answers.{answer_of, answer_text, asked_for}
 use Rattle.vl_calls.specs.Calls.{call_kind, spelling}
 use Rattle.vl_calls.specs.Reading.{call_at, call_of}

@@ -14,7 +14,7 @@ use crate::limits::{MAX_HOSTS, MAX_PAGE};
 use call_grammar::{Form, NotRead, Source, at_end, read_list};
 use std::alloc::Global;
 use ubik_types::NoMemory;
-use vldb_records::VlEntry;
+use vldb_entries::VlEntry;
 use xdr_base::XdrReader;
 
 /// The answer to a call of this kind that these bytes spell, all of them; none where they spell none.

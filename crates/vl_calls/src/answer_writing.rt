@@ -7,7 +7,7 @@ use crate::texts::{EntryText, HostText};
 use call_grammar::{Sink, Telling, write_list};
 use std::alloc::Global;
 use ubik_types::{Bytes, NoMemory};
-use vldb_records::VlEntry;
+use vldb_entries::VlEntry;
 use xdr_base::XdrWriter;
 
 /// The bytes of an answer.

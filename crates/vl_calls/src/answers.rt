@@ -4,7 +4,7 @@ ghost use Rattle.vl_calls.specs.Answers.{asked_for};
 
 use crate::kinds::CallKind;
 use call_grammar::Items;
-use vldb_records::VlEntry;
+use vldb_entries::VlEntry;
 
 pub type Entries = Items<VlEntry>;
 

@@ -4,7 +4,7 @@ ghost use Rattle.vl_calls.specs.Calls.{call_kind};
 
 use crate::kinds::CallKind;
 use ubik_types::Bytes;
-use vldb_records::SiteList;
+use vldb_entries::SiteList;
 
 /// An entry as a call gives it: all but its lock.
 #[derive(Drop)]

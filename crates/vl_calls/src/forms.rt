@@ -7,7 +7,7 @@ use crate::limits::MAX_SITES;
 use call_grammar::{Form, NoValue, NotRead, SkipForm, Source, read_list, skip_list};
 use std::alloc::Global;
 use ubik_types::bytes_of;
-use vldb_records::{VlEntry, VlSite};
+use vldb_entries::{VlEntry, VlSite};
 
 /// How a site is read.
 pub(crate) struct SiteForm;

@@ -10,7 +10,7 @@ use crate::calls::GivenEntry;
 use Value::{Name, Number, Sites};
 use call_grammar::{Sink, Telling, write_list};
 use ubik_types::{Bytes, NoMemory};
-use vldb_records::{SiteList, VlEntry, VlSite};
+use vldb_entries::{SiteList, VlEntry, VlSite};
 
 /// A value, which is lent.
 #[derive(Clone, Copy)]

@@ -16,7 +16,7 @@ use crate::writing::spell_call;
 use call_grammar::{NotRead, WordReader, WordWriter, are_visible};
 use std::alloc::Global;
 use ubik_types::{Bytes, NoMemory, bytes_of};
-use vldb_records::VlEntry;
+use vldb_entries::VlEntry;
 
 /// The bytes of the call that these words name; none exactly where they name none.
 pub fn call_words(alloc: Global, words: &[Bytes]) -> Result<Option<Bytes>, NoMemory>

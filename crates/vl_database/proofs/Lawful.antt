@@ -4,8 +4,9 @@ use Rattle.std.specs.Prelude.{nat_lt, is_some}
 use Rattle.std.specs.List.{list_all}
 use Rattle.std.specs.Option.{option_map}
 use Rattle.db_image.specs.declared.services.CallReply.TheVariants as reply
-use Rattle.vldb_records.specs.Location.{Location}
-use Rattle.vldb_records.specs.Records.{Holds, whole}
+use Rattle.vldb_entries.specs.Location.{Location}
+use Rattle.vldb_entries.specs.Forms.{whole}
+use Rattle.vldb_records.specs.Records.{Holds}
 use Rattle.vl_calls.specs.declared.calls.VlCall.{VlCall}
 use Rattle.vl_calls.specs.Calls.{call_kind, spelling}
 use Rattle.vl_calls.specs.Reading.{call_of}
@@ -39,7 +40,8 @@ not_malformed (Refuses rule) is = λ e. cc
 not_malformed (Answers a) is = λ e. cc
 not_malformed (Makes a change) is = λ e. cc
 
-answered : (s : Location) (now : ℕ) (o : Option VlCall) → IsSome (option_map is_write (option_map call_kind o)) → reply_by (verdict s now o) ≢ reply.Malformed
+answered : (s : Location) (now : ℕ) (o : Option VlCall) → IsSome (option_map is_write (option_map call_kind o))
+    → reply_by (verdict s now o) ≢ reply.Malformed
 answered s now None is = absurd cc
 answered s now (Some c) is = not_malformed (verdict s now (Some c)) (call_answers s now c)
 
@@ -70,7 +72,8 @@ pub names_calls : NamesCalls
 names_calls words bytes e = named_by words (call_in_words words) bytes refl e
 
 -- bytes that have their range stay
-pub only_these : (o : Option (List ℕ)) (bytes : List ℕ) → o ≡ Some bytes → list_all (λ x. nat_lt x 256) bytes ≡ true → Some bytes ≡ only_bytes o
+pub only_these : (o : Option (List ℕ)) (bytes : List ℕ) → o ≡ Some bytes → list_all (λ x. nat_lt x 256) bytes ≡ true
+    → Some bytes ≡ only_bytes o
 only_these None bytes is fit = absurd cc
 only_these (Some other) bytes is fit =
     let same : bytes ≡ other = cc in

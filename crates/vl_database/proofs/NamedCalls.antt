@@ -11,7 +11,7 @@ use Rattle.call_grammar.specs.Reading.{◌>>=◌, values_at}
 use Rattle.call_grammar.specs.Words.{first_word, last_of, one_at, word_item}
 use Rattle.call_grammar.proofs.Taken.{bind_some, given, given_is}
 use Rattle.call_grammar.proofs.WordItems.{last_is, list_is, values_are}
-use Rattle.vldb_records.specs.declared.entries.VlSite.{VlSite}
+use Rattle.vldb_entries.specs.declared.entries.VlSite.{VlSite}
 use Rattle.vl_calls.specs.declared.calls.GivenEntry.{GivenEntry}
 use Rattle.vl_calls.specs.declared.calls.VlCall.{VlCall}
 use Rattle.vl_calls.specs.declared.shapes.Shape.{Shape}
@@ -57,7 +57,8 @@ negative_fits : (n : ℕ) → n ≤ 2147483648 → FitsSigned w32 (neg_ℤ (pos 
 negative_fits zero le = record { sfits = omega (arith, ints) }
 negative_fits (suc n) le = record { sfits = omega (arith, ints) }
 
-signed_by : (b : Bool) (digits word : List ℕ) (z : ℤ) → cond b (negated digits) (option_map pos (number_within 0 2147483647 word)) ≡ Some z → FitsSigned w32 z
+signed_by : (b : Bool) (digits word : List ℕ) (z : ℤ)
+    → cond b (negated digits) (option_map pos (number_within 0 2147483647 word)) ≡ Some z → FitsSigned w32 z
 signed_by true digits word z e =
     let n = mapped (λ (n : ℕ). neg_ℤ (pos n)) (number_within 1 2147483648 digits) z e in
     subst (λ (y : ℤ). FitsSigned w32 y) n.2 (negative_fits n.0 (at_most 1 2147483648 digits n.0 n.1))
@@ -89,13 +90,15 @@ site_of host partition flags = record { host = host; partition = partition; flag
 site_has_bits : (words : Words) (x : VlSite × Words) → site_at word_item words ≡ Some x → SiteHasItsBits x.0
 unfolding site_at
 site_has_bits words x e =
-    let a = bind_some (word_item item.Number words) (λ h. word_item item.Number h.1 >>= λ p. word_item item.Number p.1 >>= λ f. Some (site_of h.0 p.0 f.0, f.1)) x e in
+    let a = bind_some (word_item item.Number words)
+    (λ h. word_item item.Number h.1 >>= λ p. word_item item.Number p.1 >>= λ f. Some (site_of h.0 p.0 f.0, f.1)) x e in
     let b = bind_some (word_item item.Number a.0.1) (λ p. word_item item.Number p.1 >>= λ f. Some (site_of a.0.0 p.0 f.0, f.1)) x a.2 in
     let c = bind_some (word_item item.Number b.0.1) (λ f. Some (site_of a.0.0 b.0.0 f.0, f.1)) x b.2 in
     subst (λ (y : VlSite × Words). SiteHasItsBits y.0) (given_is (site_of a.0.0 b.0.0 c.0.0, c.0.1) x c.2)
     (number_fits words a.0 a.1, number_fits a.0.1 b.0 b.1, number_fits b.0.1 c.0 c.1)
 
-part_has_bits : (part : Part) (words : Words) (x : part_value part × Words) → part_at word_item part words ≡ Some x → PartHasItsBits part x.0
+part_has_bits : (part : Part) (words : Words) (x : part_value part × Words) → part_at word_item part words ≡ Some x
+    → PartHasItsBits part x.0
 part_has_bits Name words x e = tt
 part_has_bits Number words x e = number_fits words x e
 part_has_bits Sites words x e = (list_is 255 (site_at word_item) SiteHasItsBits site_has_bits words x e).1
@@ -120,7 +123,8 @@ named_has_bits words c e =
     let w = bind_some (first_word words) (λ name. kind_named name.0 >>= λ kind. last_of (call_at word_item kind name.1)) c e in
     let k = bind_some (kind_named w.0.0) (λ kind. last_of (call_at word_item kind w.0.1)) c w.2 in
     let l = last_is (call_at word_item k.0 w.0.1) c k.2 in
-    let v = bind_some (values_at value (shape_at word_item) (shapes_of k.0) w.0.1) (λ found. Some (call_from k.0 found.0, found.1)) (c, l.0) l.1 in
+    let v = bind_some (values_at value (shape_at word_item) (shapes_of k.0) w.0.1) (λ found. Some (call_from k.0 found.0, found.1))
+    (c, l.0) l.1 in
     let bits = values_are value (shape_at word_item) IsOfItsBits value_has_bits (shapes_of k.0) w.0.1 v.0 v.1 in
     subst (λ (y : VlCall × Words). calls.HasItsBits y.0) (given_is (call_from k.0 v.0.0, v.0.1) (c, l.0) v.2) ((made k.0 v.0.0).bits bits)
 

@@ -14,8 +14,9 @@ use Rattle.vl_calls.specs.declared.calls.VlCall.{VlCall}
 use Rattle.vl_calls.specs.Calls.{call_kind}
 use Rattle.vl_calls.specs.Reading.{call_of}
 use Rattle.vl_calls.specs.Writes.{is_write}
-use Rattle.vldb_records.specs.Location.{Location}
-use Rattle.vldb_records.specs.Records.{Holds, whole}
+use Rattle.vldb_entries.specs.Location.{Location}
+use Rattle.vldb_entries.specs.Forms.{whole}
+use Rattle.vldb_records.specs.Records.{Holds}
 use Rattle.vl_service.specs.Meaning.{Verdict, asked, reply_by, told, verdict}
 use Rattle.vl_service.specs.Standing.{IsDone, image_by}
 use Rattle.vl_service.specs.Told.{location_in}
@@ -34,8 +35,10 @@ looked (Some image) after v ended same look told = λ s holds. record {
   leaves = same ∙ ap Some (sym (image_same (v s) s image (look s)));
 }
 
-pub look_ok : {E : Type 0} (r : Result CallEnd E) (bytes after : Option (List ℕ)) (v w : Location → Verdict) → after ≡ bytes → ((s : Location) → IsLook (v s))
-    → ((s : Location) → w s ≡ v s) → IfOk r (λ ended. IfSome bytes (λ image. (s : Location) → Holds image s → ended ≡ end_of (reply_by (v s))))
+pub look_ok : {E : Type 0} (r : Result CallEnd E) (bytes after : Option (List ℕ)) (v w : Location → Verdict) → after ≡ bytes
+    → ((s : Location) → IsLook (v s))
+    → ((s : Location) → w s ≡ v s)
+    → IfOk r (λ ended. IfSome bytes (λ image. (s : Location) → Holds image s → ended ≡ end_of (reply_by (v s))))
     → IfOk r (λ ended. IfSome bytes (λ image. (s : Location) → Holds image s → IsDone (w s) s image ended after))
 look_ok (Err fault) bytes after v w same look is told = tt
 look_ok (Ok ended) None after v w same look is told = tt
@@ -51,10 +54,12 @@ no_reader asked_for p is writes reads = let same = ap (λ (c : VlCall). is_write
 pub asked_is : (now : ℕ) (bytes : List ℕ) → now < 2 ^ 32 → IsBytes bytes → asked now bytes ≡ call_of bytes
 asked_is now bytes low are =
     ap (λ (b : Bool). cond b (call_of bytes) None)
-    (and_from (nat_lt now 4294967296) (list_all (λ x. nat_lt x 256) bytes) (lt-ltb now 4294967296 (omega (arith, low))) (bytes_fit bytes are))
+    (and_from (nat_lt now 4294967296) (list_all (λ x. nat_lt x 256) bytes) (lt-ltb now 4294967296 (omega (arith, low)))
+    (bytes_fit bytes are))
 
 -- whether it writes
-pub writes_as : (bytes : List ℕ) (o : Option VlCall) → IsBytes bytes → o ≡ call_of bytes → vl_database.writes bytes ≡ option_map is_write (option_map call_kind o)
+pub writes_as : (bytes : List ℕ) (o : Option VlCall) → IsBytes bytes → o ≡ call_of bytes
+    → vl_database.writes bytes ≡ option_map is_write (option_map call_kind o)
 writes_as bytes o are is =
     ap (λ (x : Option VlCall). option_map is_write (option_map call_kind x)) (asked_is 0 bytes (omega arith) are ∙ sym is)
 
@@ -63,13 +68,15 @@ pub no_call_done : (bytes : Option (List ℕ)) (now : ℕ) (o : Option VlCall) �
 unfolding verdict
 no_call_done None now o none = tt
 no_call_done (Some image) now o none = λ s holds.
-    subst (λ (x : Option VlCall). IsDone (verdict s now x) s image end.Malformed (Some image)) (sym none) (record { reply = refl; leaves = refl })
+    subst (λ (x : Option VlCall). IsDone (verdict s now x) s image end.Malformed (Some image)) (sym none)
+    (record { reply = refl; leaves = refl })
 
 pub call_done : (bytes after : Option (List ℕ)) (now : ℕ) (o p : Option VlCall) (ended : CallEnd) → o ≡ p
     → IfSome bytes (λ image. (s : Location) → Holds image s → IsDone (verdict s now p) s image ended after)
     → IfSome bytes (λ image. (s : Location) → Holds image s → IsDone (verdict s now o) s image ended after)
 call_done bytes after now o p ended same done =
-    subst (λ (x : Option VlCall). IfSome bytes (λ image. (s : Location) → Holds image s → IsDone (verdict s now x) s image ended after)) (sym same) done
+    subst (λ (x : Option VlCall). IfSome bytes (λ image. (s : Location) → Holds image s → IsDone (verdict s now x) s image ended after))
+    (sym same) done
 
 -- ---- the service
 
@@ -78,7 +85,8 @@ moment_is now low = ap (λ (b : Bool). cond b now 0) (lt-ltb now 4294967296 (ome
 
 abbrev EndsAt : (image bytes : List ℕ) → CallEnd → Option (List ℕ) → (now : ℕ) → Location → Type 0
 EndsAt image bytes ended after now s =
-    let c = asked now bytes in EndsBy (record { reply = reply_by (verdict s now c); image = image_by (verdict s now c) s image }) ended after
+    let c = asked now bytes in EndsBy
+    (record { reply = reply_by (verdict s now c); image = image_by (verdict s now c) s image }) ended after
 
 pub meant : (held after : Option (List ℕ)) (now : ℕ) (bytes : List ℕ) (ended : CallEnd) → now < 2 ^ 32
     → IfSome held (λ image. (s : Location) → Holds image s → IsDone (verdict s now (asked now bytes)) s image ended after)

@@ -4,8 +4,8 @@ use Rattle.std.proofs.Common.{◌≡◌, ◌≢◌, ℕ, Bool, true, List, Optio
 use Rattle.std.specs.Option.{option_map}
 use Rattle.db_image.specs.Ends.{KeepsGrammar, end_of}
 use Rattle.db_image.proofs.Decided.{no_writer}
-use Rattle.vldb_records.specs.Location.{Location}
-use Rattle.vldb_records.specs.Records.{whole}
+use Rattle.vldb_entries.specs.Location.{Location}
+use Rattle.vldb_entries.specs.Forms.{whole}
 use Rattle.vl_calls.specs.declared.calls.VlCall.{VlCall}
 use Rattle.vl_calls.specs.Calls.{call_kind}
 use Rattle.vl_calls.specs.Writes.{is_write}

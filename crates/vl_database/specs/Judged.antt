@@ -8,8 +8,8 @@ use Rattle.vl_calls.specs.declared.calls.VlCall.TheVariants as call
 use Rattle.vl_calls.specs.Calls.{call_kind}
 use Rattle.vl_calls.specs.Reading.{call_of}
 use Rattle.vl_calls.specs.Writes.{is_write}
-use Rattle.vldb_records.specs.declared.entries.VlEntry.{VlEntry}
-use Rattle.vldb_records.specs.Location.{Location, is_name}
+use Rattle.vldb_entries.specs.declared.entries.VlEntry.{VlEntry}
+use Rattle.vldb_entries.specs.Location.{Location, is_name}
 use Rattle.vl_service.specs.Meaning.{Answers, Change, Makes, NoCall, Refuses, Verdict, asked, entered_unless, entries, entry_named, entry_of_type, has_address, has_site_at}
 use Rattle.vl_service.specs.Meaning.{is_operation, is_partition, is_volume_type, max_id, named_verdict, of_entry, of_id, of_masked, page, told, verdict}
 use Rattle.vl_service.specs.Refusals as rule
@@ -34,14 +34,17 @@ look_told None = tt
 look_told (Some e) = tt
 
 pub named_look : (s : Location) (name : List ℕ) → IsLook (named_verdict s name)
-named_look s name = look_either (is_name name) (of_entry (entry_named s name) told) (Refuses rule.bad_name) (look_told (entry_named s name)) tt
+named_look s name =
+    look_either (is_name name) (of_entry (entry_named s name) told) (Refuses rule.bad_name) (look_told (entry_named s name)) tt
 
 pub by_id_look : (s : Location) (volume_type : ℤ) (id : ℕ) → IsLook (of_id s volume_type id told)
 by_id_look s volume_type id =
-    look_either (is_volume_type volume_type) (of_entry (entry_of_type s volume_type id) told) (Refuses rule.bad_volume_type) (look_told (entry_of_type s volume_type id)) tt
+    look_either (is_volume_type volume_type) (of_entry (entry_of_type s volume_type id) told) (Refuses rule.bad_volume_type)
+    (look_told (entry_of_type s volume_type id)) tt
 
 page_look : (s : Location) (after host : ℕ) (partition : ℤ) (locked : Bool) → IsLook (page s after host partition locked)
-page_look s after host partition locked = look_either (is_partition partition) (Answers (answer.Entries _)) (Refuses rule.bad_partition) tt tt
+page_look s after host partition locked =
+    look_either (is_partition partition) (Answers (answer.Entries _)) (Refuses rule.bad_partition) tt tt
 
 -- a call that is no write changes nothing
 pub reads_look : (s : Location) (now : ℕ) (c : VlCall) → is_write (call_kind c) ≡ false → IsLook (verdict s now (Some c))
@@ -84,7 +87,8 @@ unless_answers : (o : Option ℕ) (change : Change) → IsAnswer (entered_unless
 unless_answers None change = tt
 unless_answers (Some fault) change = tt
 
-id_answers : (s : Location) (volume_type : ℤ) (id : ℕ) (goes : VlEntry → Verdict) → ((e : VlEntry) → IsAnswer (goes e)) → IsAnswer (of_id s volume_type id goes)
+id_answers : (s : Location) (volume_type : ℤ) (id : ℕ) (goes : VlEntry → Verdict) → ((e : VlEntry) → IsAnswer (goes e))
+    → IsAnswer (of_id s volume_type id goes)
 id_answers s volume_type id goes each =
     either (is_volume_type volume_type) _ _ (entry_answers (entry_of_type s volume_type id) goes each) tt
 

@@ -2,7 +2,7 @@
 use Rattle.std.specs.Prelude.{◌≡◌, ◌≢◌, ℕ, ◌≤◌, List, length, Some, IsSome}
 use Rattle.db_image.specs.Standing.{IsMeantOver}
 use Rattle.db_image.specs.declared.services.CallReply.TheVariants.{Malformed}
-use Rattle.vldb_records.specs.Location.{Location}
+use Rattle.vldb_entries.specs.Location.{Location}
 use Rattle.vldb_records.specs.Records.{Holds}
 use Rattle.vl_database.specs.Service.{location_meaning, vl_database, vl_standing}
 use Rattle.vl_database.specs.Words.{vl_words}
@@ -29,7 +29,8 @@ HoldsOne = (image : List ℕ) (r s : Location) → Holds image r → Holds image
 
 -- Bytes that are a call are answered as a call, over every image.
 abbrev pub AnswersCalls : Type 0
-AnswersCalls = (image : List ℕ) (now : ℕ) (bytes : List ℕ) → IsSome (vl_database.writes bytes) → (vl_database.call image now bytes).reply ≢ Malformed
+AnswersCalls =
+    (image : List ℕ) (now : ℕ) (bytes : List ℕ) → IsSome (vl_database.writes bytes) → (vl_database.call image now bytes).reply ≢ Malformed
 
 -- What words name is a call.
 abbrev pub NamesCalls : Type 0

@@ -4,9 +4,10 @@ use Rattle.std.specs.Option.{option_map}
 use Rattle.db_image.specs.Database.{Database}
 use Rattle.db_image.specs.Meaning.{Meaning}
 use Rattle.db_image.specs.Standing.{Standing}
-use Rattle.vldb_records.specs.Location.{Location}
-use Rattle.vldb_records.specs.Records.{Holds, whole}
-use Rattle.vldb_records.specs.declared.layout.TheConstants.{HEAD_LEN}
+use Rattle.vldb_entries.specs.Location.{Location}
+use Rattle.vldb_entries.specs.Forms.{whole}
+use Rattle.vldb_records.specs.Records.{Holds}
+use Rattle.vldb_entries.specs.declared.layout.TheConstants.{HEAD_LEN}
 use Rattle.db_blocks.specs.declared.blocks.TheConstants.{BLOCK_LEN}
 use Rattle.vl_calls.specs.declared.calls.VlCall.{VlCall}
 use Rattle.vl_calls.specs.Calls.{call_kind}

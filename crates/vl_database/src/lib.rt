@@ -8,4 +8,4 @@ pub use laws::{
     an_image_holds_one_location, location_calls_are_answered, location_calls_are_meant,
     location_words_name_calls,
 };
-pub use service::VlService;
+pub use service::{VlService, serve_location};

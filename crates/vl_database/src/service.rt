@@ -1,19 +1,22 @@
 //! The location database as a service.
 #![tactic(auto, unfolding(vl_service::specs::Meaning::verdict))]
 
-ghost use Rattle.std.specs.Prelude.{◌≡◌, ◌≤◌, Some, IfSome, IfOk, IfErr, IsErrOf, false};
+ghost use Rattle.std.specs.Prelude.{◌≡◌, ◌≢◌, ◌≤◌, Some, IfSome, IfOk, IfErr, IsErrOf, false, true};
 ghost use Rattle.std.specs.Option.{option_map};
 ghost use Rattle.db_image.specs.Draft.{StaysAsItWas};
-ghost use Rattle.db_image.specs.Ends.{IsDecided};
+ghost use Rattle.db_image.specs.Ends.{EndsBy, IsDecided, IsShort, KeepsGrammar};
+ghost use Rattle.db_image.specs.Images.{OnlyReads};
 ghost use Rattle.db_blocks.specs.Ends.{OnlyDrafts};
 ghost use Rattle.vldb_records.specs.Ends.{HasItsCause};
-ghost use Rattle.vldb_records.specs.Location.{Location};
+ghost use Rattle.vldb_entries.specs.Location.{Location};
 ghost use Rattle.vldb_records.specs.Records.{Holds};
 ghost use Rattle.vl_calls.specs.Calls.{call_kind};
 ghost use Rattle.vl_calls.specs.Reading.{call_of};
 ghost use Rattle.vl_calls.specs.Writes.{is_write};
 ghost use Rattle.vl_service.specs.Meaning.{verdict};
 ghost use Rattle.vl_service.specs.Standing.{IsDone};
+ghost use Rattle.vl_database.specs.Costs.{CostsAsALookUp};
+ghost use Rattle.vl_database.specs.Service.{spelled_call, vl_database};
 
 use call_grammar::{bytes_fit, push_words};
 use db_blocks::BLOCK_LEN;
@@ -54,6 +57,7 @@ fn answer<I: ImageRead>(
     ensures fault { IfErr result (HasItsCause d.old.bytes) }
     ensures rests { is_write (call_kind call) ≡ false → StaysAsItWas d.old d.new }
     ensures frame { OnlyDrafts I.ImageRead d.old d.new (IsErrOf result RecordFault.DiskFault) }
+    ensures cost { CostsAsALookUp I.ImageRead (Some call) d.old d.new }
 {
     match call {
         VlCall::GetNewVolumeId { bump } => take_volume_ids(alloc, d, bump),
@@ -92,6 +96,38 @@ fn answer<I: ImageRead>(
     }
 }
 
+/// Makes a call on the location database at a moment, as `VlService` does. Where the image has the one chain of the name (the id) that
+/// getentrybyname (getentrybyid) looks for, the call asks the image for a word, the addresses and a block for each word of that chain at
+/// most.
+pub fn serve_location<I: ImageRead>(
+    alloc: Global,
+    image: &mut Draft<I>,
+    now: u32,
+    call: &[u8],
+) -> CallEnd
+    requires { image.old.len ≤ 16777216 }
+    ensures meant { IfSome image.old.bytes (λ bytes. (s : Location) → Holds bytes s
+        → EndsBy (vl_database.call bytes now call.now) result image.new.bytes) }
+    ensures grammar { KeepsGrammar (vl_database.writes call.now) result }
+    ensures rests { vl_database.writes call.now ≢ Some true → StaysAsItWas image.old image.new }
+    ensures short { IsShort result }
+    ensures longer { image.old.len ≤ image.new.len }
+    ensures layout { image.new.layout ≡ image.old.layout }
+    ensures reads { OnlyReads I.ImageRead image.old.image image.new.image (result ≡ CallEnd.DiskFault) }
+    ensures cost { CostsAsALookUp I.ImageRead (spelled_call call.now) image.old image.new }
+{
+    let Ok(read) = read_call(alloc, call) else {
+        return CallEnd::NoMemory;
+    };
+    let Some(asked) = read else {
+        return CallEnd::Malformed;
+    };
+    match answer(alloc, image, now, asked) {
+        Ok(end) => end,
+        Err(fault) => fault.into(),
+    }
+}
+
 /// The location database.
 #[derive(Drop)]
 pub struct VlService;
@@ -118,16 +154,7 @@ impl DraftService for VlService {
     }
 
     fn call<I: ImageRead>(alloc: Global, image: &mut Draft<I>, now: u32, call: &[u8]) -> CallEnd {
-        let Ok(read) = read_call(alloc, call) else {
-            return CallEnd::NoMemory;
-        };
-        let Some(asked) = read else {
-            return CallEnd::Malformed;
-        };
-        match answer(alloc, image, now, asked) {
-            Ok(end) => end,
-            Err(fault) => fault.into(),
-        }
+        serve_location(alloc, image, now, call)
     }
 
     fn draft<I: ImageRead>(alloc: Global, image: I) -> Draft<I> {

@@ -6,8 +6,8 @@ use Rattle.std.specs.Str.{bytes_eq}
 use Rattle.std.proofs.lemmas.Slice.Eq.{bytes_eq-Decides}
 use Rattle.std.proofs.lemmas.Bool.{false_from_ne_true}
 use Rattle.vl_calls.specs.declared.calls.GivenEntry.{GivenEntry}
-use Rattle.vldb_records.specs.declared.entries.VlEntry.{VlEntry}
-use Rattle.vldb_records.specs.Location.{Location, IsLocation, IsNamed, IsOfId, has_id, has_repeat, is_name, placed}
+use Rattle.vldb_entries.specs.declared.entries.VlEntry.{VlEntry}
+use Rattle.vldb_entries.specs.Location.{Location, IsLocation, IsNamed, IsOfId, has_id, has_repeat, is_name, placed}
 use Rattle.vldb_records.specs.Records.{Holds}
 use Rattle.vl_service.specs.Entering.{IsDecided, other_has_id, other_has_name, other_shares_id, own_fault, shared_fault}
 use Rattle.vl_service.specs.Meaning.{entries, entry_faults, first_fault, is_bad_entry, is_other}
@@ -64,7 +64,8 @@ faults_are s own e =
 
 -- ---- another entry
 
-only_named : (s : Location) (name : List ℕ) (found : Option VlEntry) → IsLocation s → IsNamed s name found → IsOnly s (λ f. bytes_eq f.name name) found
+only_named : (s : Location) (name : List ℕ) (found : Option VlEntry) → IsLocation s → IsNamed s name found
+    → IsOnly s (λ f. bytes_eq f.name name) found
 only_named s name None valid is =
     λ rw_id f at. false_from_ne_true (bytes_eq f.name name) (λ same. is rw_id f at ((bytes_eq-Decides f.name name).0 same))
 only_named s name (Some e) valid is = (
@@ -73,19 +74,23 @@ only_named s name (Some e) valid is = (
   λ rw_id f at same. valid.names rw_id e.rw f e at is.0 ((bytes_eq-Decides f.name name).0 same ∙ sym is.1),
 )
 
-pub name_found : (bytes : Option (List ℕ)) (own : ℕ) (name : List ℕ) (found : Option VlEntry) → IfSome bytes (λ image. (s : Location) → Holds image s → IsNamed s name found)
+pub name_found : (bytes : Option (List ℕ)) (own : ℕ) (name : List ℕ) (found : Option VlEntry)
+    → IfSome bytes (λ image. (s : Location) → Holds image s → IsNamed s name found)
     → IfSome bytes (λ image. (s : Location) → Holds image s → other_of own found ≡ other_has_name s own name)
 name_found None own name found is = tt
-name_found (Some image) own name found is = λ s holds. sym (other_meets s own (λ f. bytes_eq f.name name) found holds.valid (only_named s name found holds.valid (is s holds)))
+name_found (Some image) own name found is =
+    λ s holds. sym (other_meets s own (λ f. bytes_eq f.name name) found holds.valid (only_named s name found holds.valid (is s holds)))
 
 only_of_id : (s : Location) (id : ℕ) (found : Option VlEntry) → IsLocation s → IsOfId s id found → IsOnly s (has_id id) found
 only_of_id s id None valid is = is
 only_of_id s id (Some e) valid is = (is.0, is.1, λ rw_id f at has. valid.apart rw_id e.rw id f e at is.0 has is.1)
 
-pub id_found : (bytes : Option (List ℕ)) (own id : ℕ) (found : Option VlEntry) → IfSome bytes (λ image. (s : Location) → Holds image s → IsOfId s id found)
+pub id_found : (bytes : Option (List ℕ)) (own id : ℕ) (found : Option VlEntry)
+    → IfSome bytes (λ image. (s : Location) → Holds image s → IsOfId s id found)
     → IfSome bytes (λ image. (s : Location) → Holds image s → other_of own found ≡ other_has_id s own id)
 id_found None own id found is = tt
-id_found (Some image) own id found is = λ s holds. sym (other_meets s own (has_id id) found holds.valid (only_of_id s id found holds.valid (is s holds)))
+id_found (Some image) own id found is =
+    λ s holds. sym (other_meets s own (has_id id) found holds.valid (only_of_id s id found holds.valid (is s holds)))
 
 -- ---- one of three ids
 
@@ -104,13 +109,15 @@ three true false false true false false z = refl
 three true false false false x y z = refl
 
 any_three : (q a b c : VlEntry → Bool) (xs : List VlEntry)
-    → list_any (λ f. q f && (a f || b f || c f)) xs ≡ (list_any (λ f. q f && a f) xs || list_any (λ f. q f && b f) xs || list_any (λ f. q f && c f) xs)
+    → list_any (λ f. q f && (a f || b f || c f)) xs ≡ (list_any (λ f. q f && a f) xs || list_any (λ f. q f && b f) xs
+    || list_any (λ f. q f && c f) xs)
 any_three q a b c [] = refl
 any_three q a b c (x ∷ xs) =
     ap (λ (t : Bool). (q x && (a x || b x || c x)) || t) (any_three q a b c xs)
     ∙ three (q x) (a x) (b x) (c x) (list_any (λ f. q f && a f) xs) (list_any (λ f. q f && b f) xs) (list_any (λ f. q f && c f) xs)
 
-shares : (s : Location) (own : ℕ) (e : GivenEntry) → other_shares_id s own e ≡ (other_has_id s own e.rw || other_has_id s own e.ro || other_has_id s own e.backup)
+shares : (s : Location) (own : ℕ) (e : GivenEntry)
+    → other_shares_id s own e ≡ (other_has_id s own e.rw || other_has_id s own e.ro || other_has_id s own e.backup)
 shares s own e = any_three (is_other own) (has_id e.rw) (has_id e.ro) (has_id e.backup) (entries s)
 
 -- the three one after the other, each where those before it are no other entry's
@@ -127,7 +134,8 @@ pub shares_second : (bytes mid : Option (List ℕ)) (own : ℕ) (e : GivenEntry)
     → IfSome bytes (λ image. (s : Location) → Holds image s → true ≡ other_shares_id s own e)
 shares_second None mid own e same first second = tt
 shares_second (Some image) mid own e same first second = λ s holds.
-    let here = subst (λ (b : Option (List ℕ)). IfSome b (λ image. (s : Location) → Holds image s → true ≡ other_has_id s own e.ro)) same second in
+    let here = subst (λ (b : Option (List ℕ)). IfSome b (λ image. (s : Location) → Holds image s → true ≡ other_has_id s own e.ro)) same
+    second in
     sym (shares s own e ∙ ap (λ (b : Bool). b || other_has_id s own e.ro || other_has_id s own e.backup) (sym (first s holds))
     ∙ ap (λ (b : Bool). b || other_has_id s own e.backup) (sym (here s holds)))
 
@@ -138,16 +146,21 @@ pub shares_third : (bytes mid last : Option (List ℕ)) (own : ℕ) (e : GivenEn
     → IfSome bytes (λ image. (s : Location) → Holds image s → found ≡ other_shares_id s own e)
 shares_third None mid last own e found same again first second third = tt
 shares_third (Some image) mid last own e found same again first second third = λ s holds.
-    let at_ro = subst (λ (b : Option (List ℕ)). IfSome b (λ image. (s : Location) → Holds image s → false ≡ other_has_id s own e.ro)) same second in
-    let at_backup = subst (λ (b : Option (List ℕ)). IfSome b (λ image. (s : Location) → Holds image s → found ≡ other_has_id s own e.backup)) (again ∙ same) third in
+    let at_ro = subst (λ (b : Option (List ℕ)). IfSome b (λ image. (s : Location) → Holds image s → false ≡ other_has_id s own e.ro))
+    same second in
+    let at_backup = subst
+    (λ (b : Option (List ℕ)). IfSome b (λ image. (s : Location) → Holds image s → found ≡ other_has_id s own e.backup))
+    (again ∙ same) third in
     sym (shares s own e ∙ ap (λ (b : Bool). b || other_has_id s own e.ro || other_has_id s own e.backup) (sym (first s holds))
     ∙ ap (λ (b : Bool). b || other_has_id s own e.backup) (sym (at_ro s holds)) ∙ sym (at_backup s holds))
 
 -- the name first, then the ids
-pub name_shared : (bytes : Option (List ℕ)) (own : ℕ) (e : GivenEntry) → IfSome bytes (λ image. (s : Location) → Holds image s → true ≡ other_has_name s own e.name)
+pub name_shared : (bytes : Option (List ℕ)) (own : ℕ) (e : GivenEntry)
+    → IfSome bytes (λ image. (s : Location) → Holds image s → true ≡ other_has_name s own e.name)
     → IfSome bytes (λ image. (s : Location) → Holds image s → Some name_exists ≡ shared_fault s own e)
 name_shared None own e is = tt
-name_shared (Some image) own e is = λ s holds. ap (λ (b : Bool). cond b (Some name_exists) (cond (other_shares_id s own e) (Some id_exists) None)) (is s holds)
+name_shared (Some image) own e is =
+    λ s holds. ap (λ (b : Bool). cond b (Some name_exists) (cond (other_shares_id s own e) (Some id_exists) None)) (is s holds)
 
 pub id_shared : (bytes mid : Option (List ℕ)) (own : ℕ) (e : GivenEntry) (b : Bool) → mid ≡ bytes
     → IfSome bytes (λ image. (s : Location) → Holds image s → false ≡ other_has_name s own e.name)
@@ -165,14 +178,16 @@ pub own_refused : (bytes : Option (List ℕ)) (own : ℕ) (e : GivenEntry) (faul
     → IfSome bytes (λ image. (s : Location) → Holds image s → IsDecided s own e (Refused fault))
 own_refused None own e fault is = tt
 own_refused (Some image) own e fault is = λ s holds.
-    faults_are s own e ∙ ap (λ (o : Option ℕ). or_else o (or_else (shared_fault s own e) (size_fault (placed e.sites s.addresses)))) (sym is)
+    faults_are s own e ∙ ap (λ (o : Option ℕ). or_else o (or_else (shared_fault s own e) (size_fault (placed e.sites s.addresses))))
+    (sym is)
 
 pub shared_refused : (bytes : Option (List ℕ)) (own : ℕ) (e : GivenEntry) (fault : ℕ) → None ≡ own_fault e
     → IfSome bytes (λ image. (s : Location) → Holds image s → Some fault ≡ shared_fault s own e)
     → IfSome bytes (λ image. (s : Location) → Holds image s → IsDecided s own e (Refused fault))
 shared_refused None own e fault none is = tt
 shared_refused (Some image) own e fault none is = λ s holds.
-    faults_are s own e ∙ ap (λ (o : Option ℕ). or_else o (or_else (shared_fault s own e) (size_fault (placed e.sites s.addresses)))) (sym none)
+    faults_are s own e ∙ ap (λ (o : Option ℕ). or_else o (or_else (shared_fault s own e) (size_fault (placed e.sites s.addresses))))
+    (sym none)
     ∙ ap (λ (o : Option ℕ). or_else o (size_fault (placed e.sites s.addresses))) (sym (is s holds))
 
 -- the looks before the places, over the same bytes
@@ -182,24 +197,29 @@ pub record AreLooks (bytes mid : Option (List ℕ)) (own : ℕ) (e : GivenEntry)
   pub shared : IfSome bytes (λ image. (s : Location) → Holds image s → None ≡ shared_fault s own e)
   pub places : IfSome mid (λ image. (s : Location) → Holds image s → old ≡ s.addresses)
 
-looked : (image : List ℕ) (mid : Option (List ℕ)) (own : ℕ) (e : GivenEntry) (old : List ℕ) (s : Location) → AreLooks (Some image) mid own e old → Holds image s
+looked : (image : List ℕ) (mid : Option (List ℕ)) (own : ℕ) (e : GivenEntry) (old : List ℕ) (s : Location)
+    → AreLooks (Some image) mid own e old → Holds image s
     → (old ≡ s.addresses) × (first_fault (entry_faults s own e) ≡ size_fault (placed e.sites old))
 looked image mid own e old s looks holds =
-    let places = subst (λ (b : Option (List ℕ)). IfSome b (λ image. (s : Location) → Holds image s → old ≡ s.addresses)) looks.same looks.places in
+    let places = subst (λ (b : Option (List ℕ)). IfSome b (λ image. (s : Location) → Holds image s → old ≡ s.addresses)) looks.same
+    looks.places in
     let here = places s holds in (
       here,
-      faults_are s own e ∙ ap (λ (o : Option ℕ). or_else o (or_else (shared_fault s own e) (size_fault (placed e.sites s.addresses)))) (sym looks.none)
+      faults_are s own e ∙ ap (λ (o : Option ℕ). or_else o (or_else (shared_fault s own e) (size_fault (placed e.sites s.addresses))))
+          (sym looks.none)
           ∙ ap (λ (o : Option ℕ). or_else o (size_fault (placed e.sites s.addresses))) (sym (looks.shared s holds))
           ∙ ap (λ (a : List ℕ). size_fault (placed e.sites a)) (sym here),
     )
 
-pub size_refused : (bytes mid : Option (List ℕ)) (own : ℕ) (e : GivenEntry) (old : List ℕ) → AreLooks bytes mid own e old → None ≡ placed e.sites old
+pub size_refused : (bytes mid : Option (List ℕ)) (own : ℕ) (e : GivenEntry) (old : List ℕ) → AreLooks bytes mid own e old
+    → None ≡ placed e.sites old
     → IfSome bytes (λ image. (s : Location) → Holds image s → IsDecided s own e (Refused size_exceeded))
 size_refused None mid own e old looks none = tt
 size_refused (Some image) mid own e old looks none = λ s holds. (looked image mid own e old s looks holds).1 ∙ ap size_fault (sym none)
 
 pub enters : (bytes mid : Option (List ℕ)) (own : ℕ) (e : GivenEntry) (places : Places) → AreLooks bytes mid own e places.old
-    → Some places.new ≡ placed e.sites places.old → IfSome bytes (λ image. (s : Location) → Holds image s → IsDecided s own e (Enters places))
+    → Some places.new ≡ placed e.sites places.old
+    → IfSome bytes (λ image. (s : Location) → Holds image s → IsDecided s own e (Enters places))
 enters None mid own e places looks some = tt
 enters (Some image) mid own e places looks some = λ s holds.
     let l = looked image mid own e places.old s looks holds in (l.1 ∙ ap size_fault (sym some), l.0, sym some)

@@ -4,8 +4,8 @@ use Rattle.std.specs.Prelude.{option_to_list}
 use Rattle.std.specs.List.{flat_map, list_any, range_with_len}
 use Rattle.std.proofs.lemmas.Bool.{and_from, and_parts, cases_eq, cases_Bool, false_from_ne_true}
 use Rattle.std.proofs.lemmas.List.Folds.{list_any-append}
-use Rattle.vldb_records.specs.declared.entries.VlEntry.{VlEntry}
-use Rattle.vldb_records.specs.Location.{Location, IsLocation}
+use Rattle.vldb_entries.specs.declared.entries.VlEntry.{VlEntry}
+use Rattle.vldb_entries.specs.Location.{Location, IsLocation}
 use Rattle.vl_service.specs.Meaning.{entries_from, is_other}
 
 abbrev under : Location → ℕ → List VlEntry
@@ -13,7 +13,8 @@ under s = λ rw_id. option_to_list (s.entry rw_id)
 
 -- ---- a test that no entry meets
 
-one_fails : (test : VlEntry → Bool) (o : Option VlEntry) → ((f : VlEntry) → o ≡ Some f → test f ≡ false) → list_any test (option_to_list o) ≡ false
+one_fails : (test : VlEntry → Bool) (o : Option VlEntry) → ((f : VlEntry) → o ≡ Some f → test f ≡ false)
+    → list_any test (option_to_list o) ≡ false
 one_fails test None fails = refl
 one_fails test (Some f) fails = ap (λ (b : Bool). b || false) (fails f refl)
 
@@ -22,16 +23,19 @@ none_met : (s : Location) (test : VlEntry → Bool) (a n : ℕ) → ((rw_id : �
 none_met s test a zero fails = refl
 none_met s test a (suc n) fails =
     let rest = flat_map (under s) (range_with_len (a + 1) n) in
-    list_any-append test (under s a) rest ∙ ap (λ (b : Bool). b || list_any test rest) (one_fails test (s.entry a) (fails a)) ∙ none_met s test (a + 1) n fails
+    list_any-append test (under s a) rest ∙ ap (λ (b : Bool). b || list_any test rest) (one_fails test (s.entry a) (fails a))
+    ∙ none_met s test (a + 1) n fails
 
-pub none_meets : (s : Location) (test : VlEntry → Bool) (first count : ℕ) → ((rw_id : ℕ) (f : VlEntry) → s.entry rw_id ≡ Some f → test f ≡ false)
+pub none_meets : (s : Location) (test : VlEntry → Bool) (first count : ℕ)
+    → ((rw_id : ℕ) (f : VlEntry) → s.entry rw_id ≡ Some f → test f ≡ false)
     → list_any test (entries_from first count s) ≡ false
 unfolding entries_from
 none_meets s test first count fails = none_met s test first count fails
 
 -- ---- a test that an entry meets
 
-one_meets : (test : VlEntry → Bool) (o : Option VlEntry) (e : VlEntry) → o ≡ Some e → test e ≡ true → list_any test (option_to_list o) ≡ true
+one_meets : (test : VlEntry → Bool) (o : Option VlEntry) (e : VlEntry) → o ≡ Some e → test e ≡ true
+    → list_any test (option_to_list o) ≡ true
 one_meets test o e is met = ap (λ (x : Option VlEntry). list_any test (option_to_list x)) is ∙ ap (λ (b : Bool). b || false) met
 
 or_true : (b : Bool) → (b || true) ≡ true
@@ -47,10 +51,12 @@ one_met s test a (suc n) k e from below at met =
     ∙ ⊎_elim
     (λ (same : a ≡ k). ap (λ (b : Bool). b || list_any test rest) (one_meets test (s.entry a) e (ap s.entry same ∙ at) met))
     (λ (other : a ≢ k).
-    ap (λ (b : Bool). list_any test (under s a) || b) (one_met s test (a + 1) n k e (omega arith) (omega arith) at met) ∙ or_true (list_any test (under s a)))
+    ap (λ (b : Bool). list_any test (under s a) || b) (one_met s test (a + 1) n k e (omega arith) (omega arith) at met)
+    ∙ or_true (list_any test (under s a)))
     (cases_eq a k)
 
-pub some_meets : (s : Location) (test : VlEntry → Bool) (first count k : ℕ) (e : VlEntry) → first ≤ k → k < first + count → s.entry k ≡ Some e → test e ≡ true
+pub some_meets : (s : Location) (test : VlEntry → Bool) (first count k : ℕ) (e : VlEntry) → first ≤ k → k < first + count
+    → s.entry k ≡ Some e → test e ≡ true
     → list_any test (entries_from first count s) ≡ true
 unfolding entries_from
 some_meets s test first count k e from below at met = one_met s test first count k e from below at met
@@ -59,7 +65,8 @@ some_meets s test first count k e from below at met = one_met s test first count
 
 abbrev pub IsOnly : Location → (VlEntry → Bool) → Option VlEntry → Type 0
 IsOnly s test None = (rw_id : ℕ) (f : VlEntry) → s.entry rw_id ≡ Some f → test f ≡ false
-IsOnly s test (Some e) = (s.entry e.rw ≡ Some e) × (test e ≡ true) × ((rw_id : ℕ) (f : VlEntry) → s.entry rw_id ≡ Some f → test f ≡ true → rw_id ≡ e.rw)
+IsOnly s test (Some e) =
+    (s.entry e.rw ≡ Some e) × (test e ≡ true) × ((rw_id : ℕ) (f : VlEntry) → s.entry rw_id ≡ Some f → test f ≡ true → rw_id ≡ e.rw)
 
 abbrev pub other_of : (own : ℕ) → Option VlEntry → Bool
 other_of own None = false
@@ -79,7 +86,8 @@ other_meets s own test (Some e) valid is =
     let r = valid.records e.rw e is.0 in
     ⊎_elim
     (λ (other : is_other own e ≡ true).
-    some_meets s (λ f. is_other own f && test f) 1 2147483647 e.rw e (omega (arith, r.rw_low)) (omega (arith, r.rw)) is.0 (and_from (is_other own e) (test e) other is.1)
+    some_meets s (λ f. is_other own f && test f) 1 2147483647 e.rw e (omega (arith, r.rw_low)) (omega (arith, r.rw)) is.0
+    (and_from (is_other own e) (test e) other is.1)
     ∙ sym other)
     (λ (same : is_other own e ≡ false).
     none_meets s (λ f. is_other own f && test f) 1 2147483647

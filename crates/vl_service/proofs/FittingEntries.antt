@@ -3,10 +3,10 @@ use Rattle.std.proofs.Common.{◌≡◌, ℕ, zero, suc, ◌<◌, ◌≤◌, ◌
 use Rattle.std.specs.List.{All, list_all}
 use Rattle.std.proofs.lemmas.Bool.{and_from, and_parts, le-leb, leb-true, not-true, not_from_false}
 use Rattle.std.proofs.lemmas.List.Sums.{AllPass-from_list_all, list_all-from_AllPass}
-use Rattle.vldb_records.specs.declared.entries.VlEntry.{VlEntry}
-use Rattle.vldb_records.specs.declared.entries.VlSite.{VlSite}
-use Rattle.vldb_records.specs.Location.{IsRecord, IsSite, has_equal_ids, has_repeat, is_name}
-use Rattle.vldb_records.proofs.EntryAgain.{not_zero}
+use Rattle.vldb_entries.specs.declared.entries.VlEntry.{VlEntry}
+use Rattle.vldb_entries.specs.declared.entries.VlSite.{VlSite}
+use Rattle.vldb_entries.specs.Location.{IsRecord, IsSite, has_equal_ids, has_repeat, is_name}
+use Rattle.vldb_entries.proofs.EntryAgain.{not_zero}
 use Rattle.vl_service.specs.Fitting.{entry_fits, ids_fit, site_fits, sites_fit}
 
 above_zero : (n : ℕ) → not (eqb n 0) ≡ true → 0 < n
@@ -54,8 +54,10 @@ sites_fitting sites all = list_all-from_AllPass site_fits sites (λ k d within. 
 
 pub record_is : (e : VlEntry) → e.flags < 2 ^ 32 → e.lock_op < 2 ^ 32 → e.lock_moment < 2 ^ 32 → entry_fits e ≡ true → IsRecord e
 record_is e flags operation moment fits =
-    let p = four (is_name e.name) (ids_fit e.rw e.ro e.backup e.clone_id) (not (has_equal_ids e.rw e.ro e.backup)) (sites_fit e.sites) fits in
-    let last = and_parts (not (eqb e.rw 0) && leb e.rw 2147483647 && leb e.ro 2147483647 && leb e.backup 2147483647) (leb e.clone_id 2147483647) p.1 in
+    let p = four (is_name e.name) (ids_fit e.rw e.ro e.backup e.clone_id) (not (has_equal_ids e.rw e.ro e.backup))
+    (sites_fit e.sites) fits in
+    let last = and_parts (not (eqb e.rw 0) && leb e.rw 2147483647 && leb e.ro 2147483647 && leb e.backup 2147483647)
+    (leb e.clone_id 2147483647) p.1 in
     let ids = four (not (eqb e.rw 0)) (leb e.rw 2147483647) (leb e.ro 2147483647) (leb e.backup 2147483647) last.0 in
     let sites = and_parts (leb (length e.sites) 13 && list_all site_fits e.sites) (not (has_repeat e.sites)) p.3 in
     let counted = and_parts (leb (length e.sites) 13) (list_all site_fits e.sites) sites.0 in
@@ -81,7 +83,8 @@ record_fits e is =
     is.name
     (and_from (not (eqb e.rw 0) && leb e.rw 2147483647 && leb e.ro 2147483647 && leb e.backup 2147483647) (leb e.clone_id 2147483647)
     (four_from (not (eqb e.rw 0)) (leb e.rw 2147483647) (leb e.ro 2147483647) (leb e.backup 2147483647)
-    (not_from_false (eqb e.rw 0) (not_zero e.rw is.rw_low)) (le-leb e.rw 2147483647 is.rw) (le-leb e.ro 2147483647 is.ro) (le-leb e.backup 2147483647 is.backup))
+    (not_from_false (eqb e.rw 0) (not_zero e.rw is.rw_low)) (le-leb e.rw 2147483647 is.rw) (le-leb e.ro 2147483647 is.ro)
+    (le-leb e.backup 2147483647 is.backup))
     (le-leb e.clone_id 2147483647 is.clone))
     (not_from_false (has_equal_ids e.rw e.ro e.backup) is.ids)
     (and_from (leb (length e.sites) 13 && list_all site_fits e.sites) (not (has_repeat e.sites))

@@ -6,8 +6,8 @@ use Rattle.std.proofs.lemmas.Bool.{eqb-true, false_from_ne_true, ltb-false, or_p
 use Rattle.std.proofs.lemmas.Nat.{and_le_r}
 use Rattle.std.proofs.lemmas.List.Folds.{list_any_at}
 use Rattle.vl_calls.specs.declared.calls.GivenEntry.{GivenEntry}
-use Rattle.vldb_records.specs.declared.entries.VlSite.{VlSite}
-use Rattle.vldb_records.specs.Location.{IsSite, has_equal_ids, has_repeat, is_name}
+use Rattle.vldb_entries.specs.declared.entries.VlSite.{VlSite}
+use Rattle.vldb_entries.specs.Location.{IsSite, has_equal_ids, has_repeat, is_name}
 use Rattle.vl_service.specs.Entering.{CanBeStored}
 use Rattle.vl_service.specs.Meaning.{is_bad_entry}
 
@@ -16,7 +16,8 @@ is_not true none = refl
 is_not false none = absurd cc
 
 -- what no site meets, none of them does
-pub no_site : (test : VlSite → Bool) (sites : List VlSite) (k : ℕ) (d : VlSite) → list_any test sites ≡ false → k < length sites → test (get_or sites k d) ≡ false
+pub no_site : (test : VlSite → Bool) (sites : List VlSite) (k : ℕ) (d : VlSite) → list_any test sites ≡ false → k < length sites
+    → test (get_or sites k d) ≡ false
 no_site test sites k d none within =
     false_from_ne_true (test (get_or sites k d)) (λ met. let some = list_any_at test sites k d within met in absurd cc)
 
@@ -45,9 +46,11 @@ site_is site word off flagged =
       flags = omega (arith, flags);
     }
 
-pub sites_are : (sites : List VlSite) → list_any lacks_word sites ≡ false → list_any is_off sites ≡ false → list_any is_flagged sites ≡ false → All IsSite sites
+pub sites_are : (sites : List VlSite) → list_any lacks_word sites ≡ false → list_any is_off sites ≡ false
+    → list_any is_flagged sites ≡ false → All IsSite sites
 sites_are sites word off flagged = λ k d within.
-    site_is (get_or sites k d) (no_site lacks_word sites k d word within) (no_site is_off sites k d off within) (no_site is_flagged sites k d flagged within)
+    site_is (get_or sites k d) (no_site lacks_word sites k d word within) (no_site is_off sites k d off within)
+    (no_site is_flagged sites k d flagged within)
 
 pub can_be_stored : (e : GivenEntry) → is_name e.name ≡ true → length e.sites ≤ 13 → list_any lacks_word e.sites ≡ false
     → list_any is_off e.sites ≡ false → has_repeat e.sites ≡ false → is_bad_entry e ≡ false → CanBeStored e
@@ -65,7 +68,8 @@ can_be_stored e name count word off repeats bad operation moment op_low moment_l
     let q = or_parts _ _ p.0 in
     let r = or_parts _ _ q.0 in
     let t = or_parts low rw r.0 in
-    let kept : bit_and e.flags 28672 ≡ e.flags = eqb-true (bit_and e.flags 28672) e.flags (is_not (eqb (bit_and e.flags 28672) e.flags) second.1) in
+    let kept : bit_and e.flags 28672 ≡ e.flags = eqb-true (bit_and e.flags 28672) e.flags
+    (is_not (eqb (bit_and e.flags 28672) e.flags) second.1) in
     record {
       name = name;
       flags = omega (arith, kept, and_le_r e.flags 28672);

@@ -9,15 +9,22 @@ use Rattle.vl_calls.specs.Answers.{AnswerHasSpelling, answer_spelling}
 use Rattle.vl_calls.specs.Entries.{IsEntryText, entry_text, site_text}
 use Rattle.vl_calls.specs.declared.answers.VlAnswer.{VlAnswer}
 use Rattle.vl_calls.specs.declared.answers.VlAnswer.TheVariants as answer
-use Rattle.vldb_records.specs.declared.entries.VlEntry.{VlEntry}
-use Rattle.vldb_records.specs.declared.entries.VlSite.{VlSite}
+use Rattle.vldb_entries.specs.declared.entries.VlEntry.{VlEntry}
+use Rattle.vldb_entries.specs.declared.entries.VlSite.{VlSite}
 
 opaque_len : (bytes : List ℕ) → length (opaque bytes) ≤ length bytes + 7
 opaque_len bytes =
     let n = length bytes in
-    omega (arith, length-append (word n ++ bytes) (replicate (padding n) 0), length-append (word n) bytes, length-replicate {A = ℕ} (padding n) 0)
+    omega (
+      arith,
+      length-append (word n ++ bytes) (replicate (padding n) 0),
+      length-append (word n) bytes,
+      length-replicate {A = ℕ}
+          (padding n) 0,
+    )
 
-flat_len : {A : Type 0} (f : A → List ℕ) (most : ℕ) (xs : List A) → AllByRecursion (λ x. length (f x) ≤ most) xs → length (flat_map f xs) ≤ most * length xs
+flat_len : {A : Type 0} (f : A → List ℕ) (most : ℕ) (xs : List A) → AllByRecursion (λ x. length (f x) ≤ most) xs
+    → length (flat_map f xs) ≤ most * length xs
 flat_len f most [] all = omega arith
 flat_len f most (x ∷ xs) all =
     let first = all.0 in
@@ -26,13 +33,20 @@ flat_len f most (x ∷ xs) all =
 
 site_len : (site : VlSite) → length (site_text xdr_text site) ≤ 12
 unfolding site_text
-site_len site = omega (arith, length-append (word site.host ++ word site.partition) (word site.flags), length-append (word site.host) (word site.partition))
+site_len site =
+    omega (
+      arith,
+      length-append (word site.host ++ word site.partition) (word site.flags),
+      length-append (word site.host)
+          (word site.partition),
+    )
 
 sites_len : (sites : List VlSite) → AllByRecursion (λ site. length (site_text xdr_text site) ≤ 12) sites
 sites_len [] = tt
 sites_len (site ∷ sites) = (site_len site, sites_len sites)
 
-listed_len : {A : Type 0} (f : A → List ℕ) (most : ℕ) (xs : List A) → AllByRecursion (λ x. length (f x) ≤ most) xs → length (listed xdr_text f xs) ≤ 4 + most * length xs
+listed_len : {A : Type 0} (f : A → List ℕ) (most : ℕ) (xs : List A) → AllByRecursion (λ x. length (f x) ≤ most) xs
+    → length (listed xdr_text f xs) ≤ 4 + most * length xs
 listed_len f most xs all = omega (arith, length-append (word (length xs)) (flat_map f xs), flat_len f most xs all)
 
 entry_len : (e : VlEntry) → IsEntryText e → length (entry_text xdr_text e) ≤ 3354

@@ -9,10 +9,10 @@ use Rattle.std.proofs.lemmas.List.{get_or-set_other, get_or-set_same, length-set
 use Rattle.std.proofs.lemmas.List.Elements.{recursion_from_All}
 use Rattle.std.proofs.lemmas.List.Folds.{list_any_at}
 use Rattle.db_blocks.proofs.Maps.{test_other}
-use Rattle.vldb_records.specs.declared.entries.VlEntry.{VlEntry}
-use Rattle.vldb_records.specs.declared.entries.VlSite.{VlSite}
-use Rattle.vldb_records.specs.Location.{Location, IsLocation, relocated, relocated_site}
-use Rattle.vldb_records.proofs.Relocated.{is_at, place}
+use Rattle.vldb_entries.specs.declared.entries.VlEntry.{VlEntry}
+use Rattle.vldb_entries.specs.declared.entries.VlSite.{VlSite}
+use Rattle.vldb_entries.specs.Location.{Location, IsLocation, relocated, relocated_site}
+use Rattle.vldb_entries.proofs.Relocated.{is_at, place}
 use Rattle.vl_service.specs.Meaning.{entries, has_address, has_site_at, moved, with_moved}
 use Rattle.vl_service.proofs.Entered.{none_of}
 use Rattle.vl_service.proofs.Made.{CanMove}
@@ -42,7 +42,8 @@ is_move s old new valid has_old has_new = record {
   old_low = used_parts old s.addresses has_old;
   among = among_any s.addresses old (and_parts (not (eqb old 0)) (list_any (λ x. eqb x old) s.addresses) has_old).1;
   free = λ j below some same.
-      elsewhere s.addresses new j valid.places (second_false (not (eqb new 0)) (list_any (λ x. eqb x new) s.addresses) has_new (not_zero_met new some)) below same;
+      elsewhere s.addresses new j valid.places
+      (second_false (not (eqb new 0)) (list_any (λ x. eqb x new) s.addresses) has_new (not_zero_met new some)) below same;
 }
 
 at_old : (a : List ℕ) (old new : ℕ) → IsMove a old new → get_or (made a old new) (place a old) 0 ≡ new
@@ -70,7 +71,8 @@ once_moved a old new i j m once in_i in_j used same =
     let new_j : get_or b j 0 ≡ new = ap (λ (n : ℕ). get_or b n 0) j_is ∙ at_old a old new m in
     absurd (m.free i in_i (λ none. used (same ∙ new_j ∙ none)) (sym (at_other a old new i i_off) ∙ same ∙ new_j)))
     (λ (j_off : j ≢ k).
-    once i j in_i in_j (λ none. used (at_other a old new i i_off ∙ none)) (sym (at_other a old new i i_off) ∙ same ∙ at_other a old new j j_off))
+    once i j in_i in_j (λ none. used (at_other a old new i i_off ∙ none))
+    (sym (at_other a old new i i_off) ∙ same ∙ at_other a old new j j_off))
     (cases_eq j k))
     (cases_eq i k)
 
@@ -81,13 +83,15 @@ at_site a old host among_old among same =
 
 -- ---- sites
 
-site_moved : (a : List ℕ) (old new : ℕ) (site : VlSite) → IsMove a old new → Contains a site.host → relocated_site a (made a old new) site ≡ moved old new site
+site_moved : (a : List ℕ) (old new : ℕ) (site : VlSite) → IsMove a old new → Contains a site.host
+    → relocated_site a (made a old new) site ≡ moved old new site
 site_moved a old new site m among =
     let b = made a old new in
     ap (λ (h : ℕ). record site { host = h })
     (⊎_elim
     (λ (same : site.host ≡ old).
-    ap (λ (h : ℕ). get_or b (place a h) 0) same ∙ at_old a old new m ∙ sym (ap (λ (t : Bool). cond t new site.host) (eq-eqb site.host old same)))
+    ap (λ (h : ℕ). get_or b (place a h) 0) same ∙ at_old a old new m
+    ∙ sym (ap (λ (t : Bool). cond t new site.host) (eq-eqb site.host old same)))
     (λ (other : site.host ≢ old).
     at_other a old new (place a site.host) (λ same. other (at_site a old site.host m.among among same)) ∙ (is_at a site.host among).here
     ∙ sym (ap (λ (t : Bool). cond t new site.host) (test_other site.host old other)))
@@ -105,7 +109,8 @@ entry_moved : (s : Location) (old new rw_id : ℕ) (o : Option VlEntry) → IsLo
 entry_moved s old new rw_id None valid m at = refl
 entry_moved s old new rw_id (Some e) valid m at =
     ap (λ (sites : List VlSite). Some (record e { sites = sites }))
-    (sites_moved s.addresses old new e.sites m (recursion_from_All (λ site. Contains s.addresses site.host) e.sites (valid.hosts rw_id e at)))
+    (sites_moved s.addresses old new e.sites m
+    (recursion_from_All (λ site. Contains s.addresses site.host) e.sites (valid.hosts rw_id e at)))
 
 -- no entry has a site at an address that goes
 stays_used : (s : Location) (old new rw_id : ℕ) (e : VlEntry) (k : ℕ) (d : VlSite) → IsLocation s → IsMove s.addresses old new
@@ -119,7 +124,8 @@ stays_used s old new rw_id e k d valid m kept at within none =
     ⊎_elim
     (λ (same : place a site.host ≡ place a old).
     let gone : new ≡ 0 = sym (at_old a old new m) ∙ ap (λ (n : ℕ). get_or (made a old new) n 0) (sym same) ∙ none in
-    let fails = none_of s (has_site_at old) rw_id e valid (second_false (eqb new 0) (list_any (has_site_at old) (entries s)) kept (eq-eqb new 0 gone)) at in
+    let fails = none_of s (has_site_at old) rw_id e valid
+    (second_false (eqb new 0) (list_any (has_site_at old) (entries s)) kept (eq-eqb new 0 gone)) at in
     let met = list_any_at (λ x. eqb x.host old) e.sites k d within (eq-eqb site.host old (at_site a old site.host m.among among same)) in
     absurd cc)
     (λ (other : place a site.host ≢ place a old).
@@ -142,7 +148,8 @@ can_move s old new valid has_old has_new kept low =
       same = ap (λ (f : ℕ → Option VlEntry). record s { entry = f; addresses = b })
           (fun_ext (λ rw_id. entry_moved s old new rw_id (s.entry rw_id) valid m refl));
       differs = λ same.
-          let is : new ≡ old = sym (at_old a old new m) ∙ ap (λ (xs : List ℕ). get_or xs (place a old) 0) same ∙ (is_at a old m.among).here in
+          let is : new ≡ old = sym (at_old a old new m) ∙ ap (λ (xs : List ℕ). get_or xs (place a old) 0) same
+          ∙ (is_at a old m.among).here in
           let met : has_address s new ≡ true = ap (has_address s) is ∙ has_old in
           absurd cc;
     }

@@ -10,10 +10,10 @@ use Rattle.std.proofs.lemmas.List.Elements.{Contains-get_or, at_from_Contains, r
 use Rattle.std.proofs.lemmas.List.Folds.{Any-from_list_any, list_any_at}
 use Rattle.std.proofs.lemmas.List.Quantifiers.{position-Some}
 use Rattle.db_blocks.proofs.Maps.{some_same}
-use Rattle.vldb_records.specs.declared.entries.VlEntry.{VlEntry}
-use Rattle.vldb_records.specs.declared.entries.VlSite.{VlSite}
-use Rattle.vldb_records.specs.Location.{Location, IsLocation, MayBePlaces, place_host, placed, relocated, relocated_site, with_addresses, with_places}
-use Rattle.vldb_records.proofs.Relocated.{is_at, place}
+use Rattle.vldb_entries.specs.declared.entries.VlEntry.{VlEntry}
+use Rattle.vldb_entries.specs.declared.entries.VlSite.{VlSite}
+use Rattle.vldb_entries.specs.Location.{Location, IsLocation, MayBePlaces, place_host, placed, relocated, relocated_site, with_addresses, with_places}
+use Rattle.vldb_entries.proofs.Relocated.{is_at, place}
 
 -- the addresses of the places of a valid database
 pub record ArePlaces (addresses : List ℕ) : Type 0 where
@@ -38,7 +38,8 @@ pub not_none : (n : ℕ) → 0 < n → n ≡ 0 → ⊥
 not_none n low none = omega (arith, low, none)
 
 -- an address that is among them stays so
-still_among : (old new : List ℕ) (host : ℕ) → length old ≡ 255 → length new ≡ 255 → Keeps old new → IsServer host → Contains old host → Contains new host
+still_among : (old new : List ℕ) (host : ℕ) → length old ≡ 255 → length new ≡ 255 → Keeps old new → IsServer host → Contains old host
+    → Contains new host
 still_among old new host old_size new_size keeps is among =
     let at = at_from_Contains old host among in
     let here : get_or old at.0 0 ≡ host = at.2 0 in
@@ -60,15 +61,18 @@ among_any addresses host is =
 same_is_placed : (old : List ℕ) (host : ℕ) → ArePlaces old → list_any (λ a. eqb a host) old ≡ true → IsPlaced old old host
 same_is_placed old host are is = record { places = are; keeps = record { kept = λ j used. refl }; among = among_any old host is }
 
-pub word_set : (xs : List ℕ) (k v : ℕ) → AllByRecursion (λ n. n < 2 ^ 32) xs → v < 2 ^ 32 → AllByRecursion (λ n. n < 2 ^ 32) (slice_set xs k v)
+pub word_set : (xs : List ℕ) (k v : ℕ) → AllByRecursion (λ n. n < 2 ^ 32) xs → v < 2 ^ 32
+    → AllByRecursion (λ n. n < 2 ^ 32) (slice_set xs k v)
 word_set [] k v low is = tt
 word_set (x ∷ xs) zero v low is = (is, low.1)
 word_set (x ∷ xs) (suc k) v low is = (low.0, word_set xs k v low.1 is)
 
 -- no place has an address that is not among them
-pub elsewhere : (old : List ℕ) (host j : ℕ) → length old ≡ 255 → list_any (λ a. eqb a host) old ≡ false → j < 255 → get_or old j 0 ≡ host → ⊥
+pub elsewhere : (old : List ℕ) (host j : ℕ) → length old ≡ 255 → list_any (λ a. eqb a host) old ≡ false → j < 255 → get_or old j 0 ≡ host
+    → ⊥
 elsewhere old host j size none below same =
-    let found : list_any (λ a. eqb a host) old ≡ true = list_any_at (λ a. eqb a host) old j 0 (omega (arith, size, below)) (eq-eqb (get_or old j 0) host same) in
+    let found : list_any (λ a. eqb a host) old ≡ true = list_any_at (λ a. eqb a host) old j 0 (omega (arith, size, below))
+    (eq-eqb (get_or old j 0) host same) in
     absurd cc
 
 once_set : (old : List ℕ) (k host i j : ℕ) → ArePlaces old → k < 255 → list_any (λ a. eqb a host) old ≡ false → i < 255 → j < 255
@@ -90,7 +94,8 @@ once_set old k host i j are within none in_i in_j used same =
     (cases_eq j k))
     (cases_eq i k)
 
-new_is_placed : (old : List ℕ) (host k : ℕ) → ArePlaces old → IsServer host → list_any (λ a. eqb a host) old ≡ false → k < length old → get_or old k 0 ≡ 0
+new_is_placed : (old : List ℕ) (host k : ℕ) → ArePlaces old → IsServer host → list_any (λ a. eqb a host) old ≡ false → k < length old
+    → get_or old k 0 ≡ 0
     → IsPlaced old (slice_set old k host) host
 new_is_placed old host k are is none within free =
     let here : get_or (slice_set old k host) k 0 ≡ host = get_or-set_same old k host 0 within in
@@ -103,10 +108,13 @@ new_is_placed old host k are is none within free =
       keeps = record {
         kept = λ j used. get_or-set_other old k j host 0 (λ same. used (ap (λ (n : ℕ). get_or old n 0) same ∙ free));
       };
-      among = subst (Contains (slice_set old k host)) here (Contains-get_or (slice_set old k host) k 0 (omega (arith, within, length-set old k host)));
+      among =
+          subst (Contains (slice_set old k host)) here
+          (Contains-get_or (slice_set old k host) k 0 (omega (arith, within, length-set old k host)));
     }
 
-by_free : (old new : List ℕ) (host : ℕ) (o : Option ℕ) → ArePlaces old → IsServer host → list_any (λ a. eqb a host) old ≡ false → position (λ a. eqb a 0) old ≡ o
+by_free : (old new : List ℕ) (host : ℕ) (o : Option ℕ) → ArePlaces old → IsServer host → list_any (λ a. eqb a host) old ≡ false
+    → position (λ a. eqb a 0) old ≡ o
     → option_and_then (λ free. Some (slice_set old free host)) o ≡ Some new → IsPlaced old new host
 by_free old new host None are is none at e = absurd cc
 by_free old new host (Some k) are is none at e =
@@ -114,7 +122,8 @@ by_free old new host (Some k) are is none at e =
     subst (λ (x : List ℕ). IsPlaced old x host) (some_same e) (new_is_placed old host k are is none p.0 (eqb-true (get_or old k 0) 0 p.1))
 
 by_among : (old new : List ℕ) (host : ℕ) (b : Bool) → ArePlaces old → IsServer host → list_any (λ a. eqb a host) old ≡ b
-    → cond b (Some old) (option_and_then (λ free. Some (slice_set old free host)) (position (λ a. eqb a 0) old)) ≡ Some new → IsPlaced old new host
+    → cond b (Some old) (option_and_then (λ free. Some (slice_set old free host)) (position (λ a. eqb a 0) old)) ≡ Some new
+    → IsPlaced old new host
 by_among old new host true are is among e = subst (λ (x : List ℕ). IsPlaced old x host) (some_same e) (same_is_placed old host are among)
 by_among old new host false are is among e = by_free old new host (position (λ a. eqb a 0) old) are is among refl e
 
@@ -132,7 +141,8 @@ through : {X Y : Type 0} (f : X → Option Y) (o : Option X) (y : Y) → option_
 through f None y is = absurd cc
 through f (Some x) y is = (x, refl, is)
 
-pub sites_are_placed : (sites : List VlSite) (old new : List ℕ) → ArePlaces old → AllByRecursion (λ site. IsServer site.host) sites → placed sites old ≡ Some new
+pub sites_are_placed : (sites : List VlSite) (old new : List ℕ) → ArePlaces old → AllByRecursion (λ site. IsServer site.host) sites
+    → placed sites old ≡ Some new
     → ArePlaced old new sites
 unfolding placed
 sites_are_placed [] old new are servers e =
@@ -161,7 +171,8 @@ may_be_places s new valid are keeps = record {
       let site = get_or e.sites k d in
       let low = ((valid.records rw_id e at).sites k d within).low in
       let here = (is_at s.addresses site.host (valid.hosts rw_id e at k d within)).here in
-      not_none site.host low (sym here ∙ sym (keeps.kept (place s.addresses site.host) (λ free. not_none site.host low (sym here ∙ free))) ∙ none);
+      not_none site.host low
+      (sym here ∙ sym (keeps.kept (place s.addresses site.host) (λ free. not_none site.host low (sym here ∙ free))) ∙ none);
 }
 
 -- a site whose server keeps its place
@@ -170,7 +181,8 @@ site_same old new site keeps among low =
     let here = (is_at old site.host among).here in
     ap (λ (h : ℕ). record site { host = h }) (keeps.kept (place old site.host) (λ free. not_none site.host low (sym here ∙ free)) ∙ here)
 
-sites_same : (old new : List ℕ) (sites : List VlSite) → Keeps old new → AllByRecursion (λ site. Contains old site.host) sites → AllByRecursion (λ site. 0 < site.host) sites
+sites_same : (old new : List ℕ) (sites : List VlSite) → Keeps old new → AllByRecursion (λ site. Contains old site.host) sites
+    → AllByRecursion (λ site. 0 < site.host) sites
     → map (relocated_site old new) sites ≡ sites
 sites_same old new [] keeps among low = refl
 sites_same old new (site ∷ sites) keeps among low =
@@ -189,4 +201,5 @@ entry_same s new rw_id (Some e) valid keeps at =
 -- more addresses leave the entries
 pub places_same : (s : Location) (new : List ℕ) → IsLocation s → Keeps s.addresses new → with_places new s ≡ with_addresses new s
 places_same s new valid keeps =
-    ap (λ (f : ℕ → Option VlEntry). record s { entry = f; addresses = new }) (fun_ext (λ rw_id. entry_same s new rw_id (s.entry rw_id) valid keeps refl))
+    ap (λ (f : ℕ → Option VlEntry). record s { entry = f; addresses = new })
+    (fun_ext (λ rw_id. entry_same s new rw_id (s.entry rw_id) valid keeps refl))

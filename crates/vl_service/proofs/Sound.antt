@@ -12,9 +12,9 @@ use Rattle.vl_calls.specs.Calls.{HasItsBits}
 use Rattle.vl_calls.specs.Entries.{GivenHasItsBits, SiteHasItsBits}
 use Rattle.vl_calls.specs.Reading.{call_of}
 use Rattle.vl_calls.proofs.Taken.{read_alone}
-use Rattle.vldb_records.specs.declared.entries.VlEntry.{VlEntry}
-use Rattle.vldb_records.specs.declared.entries.VlSite.{VlSite}
-use Rattle.vldb_records.specs.Location.{Location, IsLocation, IsRecord, has_repeat, is_name, placed}
+use Rattle.vldb_entries.specs.declared.entries.VlEntry.{VlEntry}
+use Rattle.vldb_entries.specs.declared.entries.VlSite.{VlSite}
+use Rattle.vldb_entries.specs.Location.{Location, IsLocation, IsRecord, has_repeat, is_name, placed}
 use Rattle.vl_service.specs.Entering.{CanBeStored, IsThere, own_fault, shared_fault}
 use Rattle.vl_service.specs.Meaning.{Answers, Enter, Makes, Move, NextVolume, NoCall, Refuses, Verdict, address_changed, asked, entered, entered_unless, entries, entry_faults, entry_of_type, first_fault, has_address, has_site_at, is_bad_entry, is_operation, is_volume_type, leaves, lock_released, lock_set, locked_by, max_id, moment_left, named_verdict, new_volume_id, of_entry, of_id, of_masked, operation_left, page, replaced, told, verdict, with_lock}
 use Rattle.vl_service.specs.Refusals as rule
@@ -37,7 +37,8 @@ either : (s : Location) (b : Bool) (v w : Verdict) → (b ≡ true → IsSound s
 either s true v w here there = here refl
 either s false v w here there = there refl
 
-of_one : (s : Location) (o : Option VlEntry) (goes : VlEntry → Verdict) → ((e : VlEntry) → o ≡ Some e → IsSound s (goes e)) → IsSound s (of_entry o goes)
+of_one : (s : Location) (o : Option VlEntry) (goes : VlEntry → Verdict) → ((e : VlEntry) → o ≡ Some e → IsSound s (goes e))
+    → IsSound s (of_entry o goes)
 of_one s None goes so = tt
 of_one s (Some e) goes so = so e refl
 
@@ -51,7 +52,8 @@ pass : (b : Bool) (n : ℕ) (rest : Option ℕ) → cond b (Some n) rest ≡ Non
 pass true n rest is = absurd cc
 pass false n rest is = (refl, is)
 
-words_are : (sites : List VlSite) → list_any (λ site. eqb site.host 0) sites ≡ false → AllByRecursion SiteHasItsBits sites → list_any lacks_word sites ≡ false
+words_are : (sites : List VlSite) → list_any (λ site. eqb site.host 0) sites ≡ false → AllByRecursion SiteHasItsBits sites
+    → list_any lacks_word sites ≡ false
 words_are [] none bits = refl
 words_are (site ∷ sites) none bits =
     let p = or_parts (eqb site.host 0) (list_any (λ x. eqb x.host 0) sites) none in
@@ -75,7 +77,8 @@ site_bits : (e : GivenEntry) → GivenHasItsBits e → AllByRecursion SiteHasIts
 unfolding GivenHasItsBits
 site_bits e bits = bits.1.1.1.1.1.1.0
 
-placed_sound : (s : Location) (own operation moment : ℕ) (e : GivenEntry) (o : Option (List ℕ)) → IsLocation s → CanBeStored e → operation < 2 ^ 32 → moment < 2 ^ 32
+placed_sound : (s : Location) (own operation moment : ℕ) (e : GivenEntry) (o : Option (List ℕ)) → IsLocation s → CanBeStored e
+    → operation < 2 ^ 32 → moment < 2 ^ 32
     → IsThere own s → first_fault (entry_faults s own e) ≡ None → placed e.sites s.addresses ≡ o → size_fault o ≡ None
     → CanMake s (Enter own (with_lock operation moment e) (unwrap_or o s.addresses))
 placed_sound s own operation moment e None valid good op_low moment_low there fine is fits = absurd cc
@@ -83,17 +86,21 @@ placed_sound s own operation moment e (Some new) valid good op_low moment_low th
     let record_is = good operation moment op_low moment_low in
     record { good = record_is; there = there; enter = can_enter s own operation moment e new valid fine is record_is }
 
-put_sound : (s : Location) (own operation moment : ℕ) (e : GivenEntry) (o : Option ℕ) → IsLocation s → GivenHasItsBits e → operation < 2 ^ 32 → moment < 2 ^ 32
+put_sound : (s : Location) (own operation moment : ℕ) (e : GivenEntry) (o : Option ℕ) → IsLocation s → GivenHasItsBits e
+    → operation < 2 ^ 32 → moment < 2 ^ 32
     → IsThere own s → first_fault (entry_faults s own e) ≡ o → IsSound s (entered_unless o (entered s own operation moment e))
 put_sound s own operation moment e (Some fault) valid bits op_low moment_low there is = tt
 put_sound s own operation moment e None valid bits op_low moment_low there is =
-    let first = both_none (own_fault e) (or_else (shared_fault s own e) (size_fault (placed e.sites s.addresses))) (sym (faults_are s own e) ∙ is) in
+    let first = both_none (own_fault e) (or_else (shared_fault s own e) (size_fault (placed e.sites s.addresses)))
+    (sym (faults_are s own e) ∙ is) in
     let second = both_none (shared_fault s own e) (size_fault (placed e.sites s.addresses)) first.1 in
-    placed_sound s own operation moment e (placed e.sites s.addresses) valid (good_of e first.0 (site_bits e bits)) op_low moment_low there is refl second.1
+    placed_sound s own operation moment e (placed e.sites s.addresses) valid
+    (good_of e first.0 (site_bits e bits)) op_low moment_low there is refl second.1
 
 -- ---- another lock
 
-relocked : (e : VlEntry) (operation moment : ℕ) → IsRecord e → operation < 2 ^ 32 → moment < 2 ^ 32 → IsRecord (record e { lock_op = operation; lock_moment = moment })
+relocked : (e : VlEntry) (operation moment : ℕ) → IsRecord e → operation < 2 ^ 32 → moment < 2 ^ 32
+    → IsRecord (record e { lock_op = operation; lock_moment = moment })
 relocked e operation moment is op_low moment_low = record {
   name = is.name;
   flags = is.flags;
@@ -110,7 +117,8 @@ relocked e operation moment is op_low moment_low = record {
   lock_moment = moment_low;
 }
 
-lock_sound : (s : Location) (e : VlEntry) (operation moment : ℕ) → IsLocation s → s.entry e.rw ≡ Some e → operation < 2 ^ 32 → moment < 2 ^ 32
+lock_sound : (s : Location) (e : VlEntry) (operation moment : ℕ) → IsLocation s → s.entry e.rw ≡ Some e → operation < 2 ^ 32
+    → moment < 2 ^ 32
     → CanPut s e.rw (record e { lock_op = operation; lock_moment = moment }) s.addresses
 lock_sound s e operation moment valid there op_low moment_low =
     let may = may_lock s e operation moment valid there in
@@ -128,14 +136,16 @@ left_low : (b : Bool) (n : ℕ) → n < 2 ^ 32 → cond b n 0 < 2 ^ 32
 left_low true n low = low
 left_low false n low = omega arith
 
-is_there : (s : Location) (volume_type : ℤ) (id : ℕ) (e : VlEntry) → IsLocation s → entry_of_type s volume_type id ≡ Some e → IsSome (s.entry e.rw)
+is_there : (s : Location) (volume_type : ℤ) (id : ℕ) (e : VlEntry) → IsLocation s → entry_of_type s volume_type id ≡ Some e
+    → IsSome (s.entry e.rw)
 is_there s volume_type id e valid at = subst (λ (o : Option VlEntry). IsSome o) (sym (typed_there s volume_type id e valid at)) refl
 
 -- ---- one case a call
 
 next_sound : (s : Location) (bump : ℕ) → IsSound s (new_volume_id s bump)
 next_sound s bump =
-    either s (nat_lt 20 bump || nat_lt max_id (s.next_volume + bump)) (Refuses rule.bad_bump) (Makes (answer.Id s.next_volume) (NextVolume (s.next_volume + bump))) (λ is. tt)
+    either s (nat_lt 20 bump || nat_lt max_id (s.next_volume + bump)) (Refuses rule.bad_bump)
+    (Makes (answer.Id s.next_volume) (NextVolume (s.next_volume + bump))) (λ is. tt)
     (λ is. let p = or_parts (nat_lt 20 bump) (nat_lt max_id (s.next_volume + bump)) is in
     let low : s.next_volume + bump ≤ 2147483647 = ltb-false 2147483647 (s.next_volume + bump) p.1 in omega (arith, low))
 
@@ -152,12 +162,15 @@ named_sound s name = either s (is_name name) (of_entry _ told) (Refuses rule.bad
 
 by_id_sound : (s : Location) (volume_type : ℤ) (id : ℕ) → IsSound s (of_id s volume_type id told)
 by_id_sound s volume_type id =
-    either s (is_volume_type volume_type) (of_entry (entry_of_type s volume_type id) told) (Refuses rule.bad_volume_type) (λ is. told_sound s (entry_of_type s volume_type id)) (λ is. tt)
+    either s (is_volume_type volume_type) (of_entry (entry_of_type s volume_type id) told) (Refuses rule.bad_volume_type)
+    (λ is. told_sound s (entry_of_type s volume_type id)) (λ is. tt)
 
-masked_sound : (s : Location) (volume_type : ℤ) (id mask : ℕ) (goes : VlEntry → Verdict) → ((e : VlEntry) → entry_of_type s volume_type id ≡ Some e → IsSound s (goes e))
+masked_sound : (s : Location) (volume_type : ℤ) (id mask : ℕ) (goes : VlEntry → Verdict)
+    → ((e : VlEntry) → entry_of_type s volume_type id ≡ Some e → IsSound s (goes e))
     → IsSound s (of_masked s volume_type id mask goes)
 masked_sound s volume_type id mask goes so =
-    either s (not (is_volume_type volume_type)) (Refuses rule.bad_volume_type) (cond (nat_lt 3 mask) (Refuses rule.bad_release) (of_entry (entry_of_type s volume_type id) goes))
+    either s (not (is_volume_type volume_type)) (Refuses rule.bad_volume_type)
+    (cond (nat_lt 3 mask) (Refuses rule.bad_release) (of_entry (entry_of_type s volume_type id) goes))
     (λ is. tt) (λ is. either s (nat_lt 3 mask) (Refuses rule.bad_release) (of_entry (entry_of_type s volume_type id) goes) (λ is. tt)
     (λ is. of_one s (entry_of_type s volume_type id) goes so))
 
@@ -170,7 +183,8 @@ replace_sound s volume_type id mask e valid bits =
     (left_low (eqb (bit_and mask 2) 0) old.lock_op r.lock_op) (left_low (eqb (bit_and mask 1) 0) old.lock_moment r.lock_moment)
     (inr (is_there s volume_type id old valid at)) refl)
 
-release_sound : (s : Location) (volume_type : ℤ) (id mask : ℕ) → IsLocation s → IsSound s (of_masked s volume_type id mask (lock_released s mask))
+release_sound : (s : Location) (volume_type : ℤ) (id mask : ℕ) → IsLocation s
+    → IsSound s (of_masked s volume_type id mask (lock_released s mask))
 release_sound s volume_type id mask valid =
     masked_sound s volume_type id mask (lock_released s mask)
     (λ old at. let there = typed_there s volume_type id old valid at in
@@ -178,22 +192,27 @@ release_sound s volume_type id mask valid =
     lock_sound s old (operation_left mask old) (moment_left mask old) valid there
     (left_low (eqb (bit_and mask 2) 0) old.lock_op r.lock_op) (left_low (eqb (bit_and mask 1) 0) old.lock_moment r.lock_moment))
 
-set_sound : (s : Location) (volume_type : ℤ) (id operation now : ℕ) → IsLocation s → operation < 2 ^ 32 → now < 2 ^ 32 → IsSound s (lock_set s volume_type id operation now)
+set_sound : (s : Location) (volume_type : ℤ) (id operation now : ℕ) → IsLocation s → operation < 2 ^ 32 → now < 2 ^ 32
+    → IsSound s (lock_set s volume_type id operation now)
 set_sound s volume_type id operation now valid op_low now_low =
     let last = of_entry (entry_of_type s volume_type id) (locked_by s operation now) in
-    either s (not (is_volume_type volume_type)) (Refuses rule.bad_volume_type) (cond (not (is_operation operation)) (Refuses rule.bad_operation) last) (λ is. tt)
+    either s (not (is_volume_type volume_type)) (Refuses rule.bad_volume_type)
+    (cond (not (is_operation operation)) (Refuses rule.bad_operation) last) (λ is. tt)
     (λ is. either s (not (is_operation operation)) (Refuses rule.bad_operation) last (λ is. tt)
     (λ is. of_one s (entry_of_type s volume_type id) (locked_by s operation now)
-    (λ e at. either s (eqb e.lock_op 0) (Makes answer.Done (Enter e.rw (record e { lock_op = operation; lock_moment = now }) s.addresses)) (Refuses rule.entry_locked)
+    (λ e at. either s (eqb e.lock_op 0)
+    (Makes answer.Done (Enter e.rw (record e { lock_op = operation; lock_moment = now }) s.addresses)) (Refuses rule.entry_locked)
     (λ is. lock_sound s e operation now valid (typed_there s volume_type id e valid at) op_low now_low) (λ is. tt))))
 
 move_sound : (s : Location) (old new : ℕ) → IsLocation s → new < 2 ^ 32 → IsSound s (address_changed s old new)
 move_sound s old new valid low =
     let last = eqb new 0 && list_any (has_site_at old) (entries s) in
     let act = Makes answer.Done (Move old new) in
-    either s (not (has_address s old)) (Refuses rule.no_entry) (cond (has_address s new) (Refuses rule.bad_server) (cond last (Refuses rule.bad_entry) act)) (λ is. tt)
+    either s (not (has_address s old)) (Refuses rule.no_entry)
+    (cond (has_address s new) (Refuses rule.bad_server) (cond last (Refuses rule.bad_entry) act)) (λ is. tt)
     (λ has_old. either s (has_address s new) (Refuses rule.bad_server) (cond last (Refuses rule.bad_entry) act) (λ is. tt)
-    (λ has_new. either s last (Refuses rule.bad_entry) act (λ is. tt) (λ kept. can_move s old new valid (is_not (has_address s old) has_old) has_new kept low)))
+    (λ has_new. either s last (Refuses rule.bad_entry) act (λ is. tt)
+    (λ kept. can_move s old new valid (is_not (has_address s old) has_old) has_new kept low)))
 
 page_sound : (s : Location) (after host : ℕ) (partition : ℤ) (locked : Bool) → IsSound s (page s after host partition locked)
 page_sound s after host partition locked = either s _ (Answers (answer.Entries _)) (Refuses rule.bad_partition) (λ is. tt) (λ is. tt)
@@ -221,12 +240,14 @@ bytes_low [] all i = omega arith
 bytes_low (b ∷ bytes) all zero = ltb-true b 256 (and_parts (nat_lt b 256) (list_all (λ x. nat_lt x 256) bytes) all).0
 bytes_low (b ∷ bytes) all (suc i) = bytes_low bytes (and_parts (nat_lt b 256) (list_all (λ x. nat_lt x 256) bytes) all).1 i
 
-read_sound : (s : Location) (now : ℕ) (bytes : List ℕ) (o : Option VlCall) → IsLocation s → now < 2 ^ 32 → IsBytes bytes → call_of bytes ≡ o → IsSound s (verdict s now o)
+read_sound : (s : Location) (now : ℕ) (bytes : List ℕ) (o : Option VlCall) → IsLocation s → now < 2 ^ 32 → IsBytes bytes
+    → call_of bytes ≡ o → IsSound s (verdict s now o)
 unfolding verdict
 read_sound s now bytes None valid low are is = tt
 read_sound s now bytes (Some c) valid low are is = call_sound s now c valid low (read_alone bytes c are is).0.1
 
-within_sound : (s : Location) (now : ℕ) (bytes : List ℕ) (b : Bool) → IsLocation s → (nat_lt now 4294967296 && list_all (λ x. nat_lt x 256) bytes) ≡ b
+within_sound : (s : Location) (now : ℕ) (bytes : List ℕ) (b : Bool) → IsLocation s
+    → (nat_lt now 4294967296 && list_all (λ x. nat_lt x 256) bytes) ≡ b
     → IsSound s (verdict s now (cond b (call_of bytes) None))
 unfolding verdict
 within_sound s now bytes false valid is = tt

@@ -3,9 +3,9 @@ use Rattle.std.specs.Prelude.{ℕ, ◌≡◌, ◌<◌, ◌^◌, ◌==◌, ◌&&�
 use Rattle.std.specs.List.{list_any}
 use Rattle.std.specs.Str.{bytes_eq}
 use Rattle.vl_calls.specs.declared.calls.GivenEntry.{GivenEntry}
-use Rattle.vldb_records.specs.declared.entries.VlEntry.{VlEntry}
-use Rattle.vldb_records.specs.Location.{Location, IsRecord, MayBePlaces, MayEnter, has_id, has_repeat, is_name, placed, with_places}
-use Rattle.vldb_records.specs.Records.{after_insert, after_replace, after_set_places}
+use Rattle.vldb_entries.specs.declared.entries.VlEntry.{VlEntry}
+use Rattle.vldb_entries.specs.Location.{Location, IsRecord, MayBePlaces, MayEnter, has_id, has_repeat, is_name, placed, with_places}
+use Rattle.vldb_records.specs.Changes.{after_insert, after_replace, after_set_places}
 use Rattle.vl_service.specs.Meaning.{entries, entry_faults, first_fault, is_bad_entry, is_other, shares_id, with_lock}
 use Rattle.vl_service.specs.Refusals as rule
 use Rattle.vl_service.specs.declared.deciding.Decision.{Decision}

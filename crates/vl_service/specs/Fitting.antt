@@ -1,9 +1,9 @@
 -- The tests of an entry that is to be stored.
 use Rattle.std.specs.Prelude.{ℕ, ◌==◌, ◌&&◌, Bool, not, List, length, nat_le}
 use Rattle.std.specs.List.{list_all}
-use Rattle.vldb_records.specs.declared.entries.VlEntry.{VlEntry}
-use Rattle.vldb_records.specs.declared.entries.VlSite.{VlSite}
-use Rattle.vldb_records.specs.Location.{is_name, has_equal_ids, has_repeat}
+use Rattle.vldb_entries.specs.declared.entries.VlEntry.{VlEntry}
+use Rattle.vldb_entries.specs.declared.entries.VlSite.{VlSite}
+use Rattle.vldb_entries.specs.Location.{is_name, has_equal_ids, has_repeat}
 
 -- its server is a word other than 0, its partition and its flags are bytes
 abbrev pub site_fits : VlSite → Bool

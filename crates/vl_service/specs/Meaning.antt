@@ -6,9 +6,9 @@ use Rattle.std.specs.Str.{bytes_eq}
 use Rattle.db_image.specs.declared.services.CallReply.{CallReply}
 use Rattle.db_image.specs.declared.services.CallReply.TheVariants as reply
 use Rattle.db_image.specs.Meaning.{Meaning}
-use Rattle.vldb_records.specs.declared.entries.VlEntry.{VlEntry}
-use Rattle.vldb_records.specs.declared.entries.VlSite.{VlSite}
-use Rattle.vldb_records.specs.Location.{Location, first_location, is_name, has_repeat, has_id, has_equal_ids, placed, with_entered, without_entry, with_addresses, with_next_volume}
+use Rattle.vldb_entries.specs.declared.entries.VlEntry.{VlEntry}
+use Rattle.vldb_entries.specs.declared.entries.VlSite.{VlSite}
+use Rattle.vldb_entries.specs.Location.{Location, first_location, is_name, has_repeat, has_id, has_equal_ids, placed, with_entered, without_entry, with_addresses, with_next_volume}
 use Rattle.vl_calls.specs.declared.answers.VlAnswer.{VlAnswer}
 use Rattle.vl_calls.specs.declared.answers.VlAnswer.TheVariants as answer
 use Rattle.vl_calls.specs.declared.calls.GivenEntry.{GivenEntry}
@@ -46,7 +46,8 @@ entry_named s name = first_to max_id (λ e. bytes_eq e.name name) s
 
 -- 0 read-write, 1 read-only, 2 backup, -1 any of the three
 abbrev pub is_volume_type : ℤ → Bool
-is_volume_type volume_type = int_eq volume_type (negsuc 0) || int_eq volume_type (pos 0) || int_eq volume_type (pos 1) || int_eq volume_type (pos 2)
+is_volume_type volume_type =
+    int_eq volume_type (negsuc 0) || int_eq volume_type (pos 0) || int_eq volume_type (pos 1) || int_eq volume_type (pos 2)
 
 -- an entry has this id as its id of a type; the id 0 is no entry's
 abbrev pub is_of_type : ℤ → ℕ → VlEntry → Bool
@@ -213,7 +214,8 @@ is_operation operation = operation == 0x10 || operation == 0x20 || operation == 
 
 abbrev pub locked_by : Location → (operation now : ℕ) → VlEntry → Verdict
 locked_by s operation now e =
-    if e.lock_op == 0 then Makes answer.Done (Enter e.rw (record e { lock_op = operation; lock_moment = now }) s.addresses) else Refuses rule.entry_locked
+    if e.lock_op == 0 then Makes answer.Done
+    (Enter e.rw (record e { lock_op = operation; lock_moment = now }) s.addresses) else Refuses rule.entry_locked
 
 abbrev pub lock_set : Location → ℤ → ℕ → (operation now : ℕ) → Verdict
 lock_set s volume_type id operation now =
@@ -222,7 +224,8 @@ lock_set s volume_type id operation now =
     else of_entry (entry_of_type s volume_type id) (locked_by s operation now)
 
 abbrev pub lock_released : Location → (mask : ℕ) → VlEntry → Verdict
-lock_released s mask e = Makes answer.Done (Enter e.rw (record e { lock_op = operation_left mask e; lock_moment = moment_left mask e }) s.addresses)
+lock_released s mask e =
+    Makes answer.Done (Enter e.rw (record e { lock_op = operation_left mask e; lock_moment = moment_left mask e }) s.addresses)
 
 -- a site of this server, 0 for any, and this partition, -1 for any
 abbrev pub is_site : (host : ℕ) → (partition : ℤ) → VlSite → Bool

@@ -1,7 +1,7 @@
 -- What is decided of another address of a server.
 use Rattle.std.specs.Prelude.{ℕ, ◌≡◌}
 use Rattle.vl_calls.specs.declared.answers.VlAnswer.TheVariants as answer
-use Rattle.vldb_records.specs.Location.{Location}
+use Rattle.vldb_entries.specs.Location.{Location}
 use Rattle.vl_service.specs.Meaning.{Makes, Move, Refuses, address_changed, with_place_of}
 use Rattle.vl_service.specs.declared.moving.Movement.{Movement}
 use Rattle.vl_service.specs.declared.moving.Movement.TheVariants as movement

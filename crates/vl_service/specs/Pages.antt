@@ -1,9 +1,9 @@
 -- A page of the entries that a call lists, by the records' listings.
 use Rattle.std.specs.Prelude.{ℕ, ℤ, pos, negsuc, Bool, List, take, filter, Some, None}
-use Rattle.vldb_records.specs.declared.entries.VlEntry.{VlEntry}
+use Rattle.vldb_entries.specs.declared.entries.VlEntry.{VlEntry}
 use Rattle.vldb_records.specs.declared.listings.Listing.{Listing}
 use Rattle.vldb_records.specs.Listing.{is_listed_above}
-use Rattle.vldb_records.specs.Location.{Location}
+use Rattle.vldb_entries.specs.Location.{Location}
 use Rattle.vl_service.specs.Meaning.{entries}
 
 -- what a call asks for: the partition -1 is any

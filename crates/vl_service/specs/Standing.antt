@@ -3,8 +3,8 @@ use Rattle.std.specs.Prelude.{ℕ, ◌≡◌, ◌==◌, List, Option, Some, if�
 use Rattle.std.specs.Str.{bytes_eq}
 use Rattle.db_image.specs.Ends.{end_of}
 use Rattle.db_image.specs.declared.draft_services.CallEnd.{CallEnd}
-use Rattle.vldb_records.specs.Location.{Location}
-use Rattle.vldb_records.specs.Records.{after_insert, after_remove, after_replace, after_set_next, after_set_places}
+use Rattle.vldb_entries.specs.Location.{Location}
+use Rattle.vldb_records.specs.Changes.{after_insert, after_remove, after_replace, after_set_next, after_set_places}
 use Rattle.vl_service.specs.Meaning.{Change, NextVolume, Enter, Leave, Move, Verdict, Makes, reply_by, with_place_of}
 
 -- with these addresses; an image that has them stays as it is

@@ -1,8 +1,14 @@
 -- The location database that an image tells, whatever it holds.
 use Rattle.std.specs.Prelude.{ℕ, ◌==◌, List, Option, Some, None, if◌then◌else◌}
-use Rattle.vldb_records.specs.declared.entries.VlEntry.{VlEntry}
-use Rattle.vldb_records.specs.Location.{Location}
-use Rattle.vldb_records.specs.Records.{addresses_in, block_at, block_of_id, blocks_in, entry_in, next_in}
+use Rattle.db_blocks.specs.Blocks.{first_block}
+use Rattle.vldb_entries.specs.declared.entries.VlEntry.{VlEntry}
+use Rattle.vldb_entries.specs.declared.layout.TheConstants.{HEAD_LEN}
+use Rattle.vldb_entries.specs.Forms.{addresses_in, block_at, blocks_in, entry_in, has_id_in, next_in}
+use Rattle.vldb_entries.specs.Location.{Location}
+
+-- the first block that is an entry's of this id
+abbrev pub block_of_id : (id : ℕ) → List ℕ → ℕ
+block_of_id id image = first_block HEAD_LEN (has_id_in id) image
 
 -- an entry under its own read-write id
 abbrev pub own_entry : (rw : ℕ) → VlEntry → Option VlEntry

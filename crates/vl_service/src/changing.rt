@@ -3,7 +3,7 @@ ghost use Rattle.std.specs.Prelude.{◌≡◌, ◌+◌, ◌<◌, ◌≤◌, ◌^
 ghost use Rattle.db_image.specs.Ends.{IsDecided};
 ghost use Rattle.db_blocks.specs.Ends.{OnlyDrafts};
 ghost use Rattle.vldb_records.specs.Ends.{HasItsCause};
-ghost use Rattle.vldb_records.specs.Location.{Location};
+ghost use Rattle.vldb_entries.specs.Location.{Location};
 ghost use Rattle.vldb_records.specs.Records.{Holds};
 ghost use Rattle.vl_service.specs.Meaning.{leaves, max_id, new_volume_id, of_id};
 ghost use Rattle.vl_service.specs.Standing.{IsDone};

@@ -2,7 +2,7 @@
 ghost use Rattle.std.specs.Prelude.{◌≡◌, ◌<◌, ◌^◌, IfSome, IfOk, IfErr, IsErrOf};
 ghost use Rattle.db_blocks.specs.Ends.{OnlyLooks};
 ghost use Rattle.vldb_records.specs.Ends.{HasItsCause};
-ghost use Rattle.vldb_records.specs.Location.{Location};
+ghost use Rattle.vldb_entries.specs.Location.{Location};
 ghost use Rattle.vldb_records.specs.Records.{Holds};
 ghost use Rattle.vl_service.specs.Entering.{IsDecided, IsFit, shared_fault};
 
@@ -13,7 +13,8 @@ use crate::rules::{ID_EXISTS, NAME_EXISTS, SIZE_EXCEEDED};
 use db_image::{Draft, ImageRead, RecordFault};
 use std::alloc::Global;
 use vl_calls::GivenEntry;
-use vldb_records::{PLACES, addresses};
+use vldb_entries::PLACES;
+use vldb_records::addresses;
 
 /// The addresses of the servers by their places, as they are and as they are to be.
 #[derive(Clone, Copy)]

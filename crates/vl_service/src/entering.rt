@@ -4,7 +4,7 @@ ghost use Rattle.db_image.specs.Ends.{IsDecided, end_of};
 ghost use Rattle.db_image.specs.Images.{IsOfImage};
 ghost use Rattle.db_blocks.specs.Ends.{Becomes, OnlyDrafts};
 ghost use Rattle.vldb_records.specs.Ends.{HasCauseWhere, HasItsCause};
-ghost use Rattle.vldb_records.specs.Location.{IsRecord, Location};
+ghost use Rattle.vldb_entries.specs.Location.{IsRecord, Location};
 ghost use Rattle.vldb_records.specs.Records.{Holds};
 ghost use Rattle.vl_service.specs.Entering.{IsThere, MayPut, MayStore, moved, stored};
 ghost use Rattle.vl_service.specs.Meaning.{Answers, created, entered, entered_unless, entry_faults, first_fault, of_masked, replaced, reply_by, with_lock};
@@ -18,7 +18,8 @@ use crate::rules::{BAD_RELEASE, BAD_VOLUME_TYPE, NO_ENTRY};
 use db_image::{CallEnd, Draft, ImageRead, RecordFault};
 use std::alloc::Global;
 use vl_calls::{GivenEntry, VlAnswer};
-use vldb_records::{VlEntry, insert, replace, set_addresses};
+use vldb_entries::VlEntry;
+use vldb_records::{insert, replace, set_addresses};
 
 /// Gives the places their new addresses, where these are others.
 fn set_places<I: ImageRead>(

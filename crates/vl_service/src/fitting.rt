@@ -1,11 +1,11 @@
 //! Whether an entry may be stored.
 ghost use Rattle.std.specs.Prelude.{◌≡◌};
 ghost use Rattle.std.specs.List.{list_all, list_any};
-ghost use Rattle.vldb_records.specs.Location.{has_repeat, repeats};
+ghost use Rattle.vldb_entries.specs.Location.{has_repeat, repeats};
 ghost use Rattle.vl_service.specs.Fitting.{entry_fits, ids_fit, site_fits, sites_fit};
 
 use crate::changing::MAX_VOLUME;
-use vldb_records::{VlEntry, VlSite, has_equal_ids, is_name, repeats};
+use vldb_entries::{VlEntry, VlSite, has_equal_ids, is_name, repeats};
 
 /// The most sites of an entry that is stored.
 pub(crate) const MAX_STORED: usize = 13;

@@ -10,7 +10,7 @@ use crate::rules::{
     BAD_ENTRY, BAD_NAME, BAD_PARTITION, BAD_SERVER, NO_REPLICA, REPEATED_REPLICA, REPLICAS_FULL,
 };
 use vl_calls::GivenEntry;
-use vldb_records::{VlSite, has_equal_ids, is_name};
+use vldb_entries::{VlSite, has_equal_ids, is_name};
 
 /// The flags that an entry may have: which of its volumes exist.
 const ENTRY_FLAGS: u32 = 0x7000;

@@ -3,8 +3,9 @@ ghost use Rattle.std.specs.Prelude.{◌≡◌, ◌==◌, ◌≤◌, Some, IfSome
 ghost use Rattle.db_image.specs.Ends.{IsDecided, end_of};
 ghost use Rattle.db_blocks.specs.Ends.{Becomes, OnlyDrafts};
 ghost use Rattle.vldb_records.specs.Ends.{HasCauseWhere, HasItsCause};
-ghost use Rattle.vldb_records.specs.Location.{Location};
-ghost use Rattle.vldb_records.specs.Records.{Holds, after_replace};
+ghost use Rattle.vldb_entries.specs.Location.{Location};
+ghost use Rattle.vldb_records.specs.Changes.{after_replace};
+ghost use Rattle.vldb_records.specs.Records.{Holds};
 ghost use Rattle.vl_service.specs.Meaning.{Answers, is_operation, lock_released, lock_set, moment_left, of_masked, operation_left, reply_by};
 ghost use Rattle.vl_service.specs.Standing.{IsDone};
 ghost use Rattle.vl_calls.specs.declared.answers.VlAnswer.TheVariants as answer;
@@ -15,7 +16,8 @@ use crate::rules::{BAD_OPERATION, BAD_RELEASE, BAD_VOLUME_TYPE, ENTRY_LOCKED, NO
 use db_image::{CallEnd, Draft, ImageRead, RecordFault};
 use std::alloc::Global;
 use vl_calls::VlAnswer;
-use vldb_records::{VlEntry, replace};
+use vldb_entries::VlEntry;
+use vldb_records::replace;
 
 /// Whether an entry may be locked for an operation: move, release, backup, delete (and a change of sites) or dump.
 fn is_operation(operation: u32) -> bool

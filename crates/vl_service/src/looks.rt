@@ -1,11 +1,15 @@
 //! The calls of the location database that look for an entry, over a draft.
-ghost use Rattle.std.specs.Prelude.{◌≡◌, ◌==◌, ◌<◌, ◌≤◌, ◌^◌, Some, IfSome, IfOk, IfErr, IsErrOf, filter, length, not};
+ghost use Rattle.std.specs.Prelude.{◌≡◌, ◌==◌, ◌<◌, ◌≤◌, ◌^◌, false, Some, IfSome, IfOk, IfErr, IsErrOf, filter, length, not};
 ghost use Rattle.db_image.specs.Ends.{IsDecided, end_of};
 ghost use Rattle.db_blocks.specs.Ends.{OnlyLooks};
+ghost use Rattle.db_chains.specs.Ends.{CostsAtMost};
+ghost use Rattle.vldb_chains.specs.Keys.{id_chain, name_chain};
+ghost use Rattle.vldb_chains.specs.Places.{id_links, name_links};
 ghost use Rattle.vldb_records.specs.Ends.{HasItsCause};
-ghost use Rattle.vldb_records.specs.Location.{Location, IsSmall};
+ghost use Rattle.vldb_entries.specs.Location.{Location, IsSmall, is_name};
 ghost use Rattle.vldb_records.specs.Records.{Holds};
 ghost use Rattle.vl_calls.specs.Answers.{AnswerHasSpelling};
+ghost use Rattle.vl_service.specs.Costs.{CostsOneChain};
 ghost use Rattle.vl_service.specs.Meaning.{Answers, entry_of_type, is_of_type, is_volume_type, named_verdict, of_entry, of_id, reply_by, told, used};
 ghost use Rattle.vl_calls.specs.declared.limits.TheConstants.{MAX_HOSTS};
 ghost use Rattle.vl_calls.specs.declared.answers.VlAnswer.TheVariants as answer;
@@ -16,7 +20,8 @@ use db_image::{CallEnd, Draft, ImageRead, RecordFault};
 use std::alloc::Global;
 use ubik_types::NoMemory;
 use vl_calls::{Hosts, VlAnswer, spell_answer};
-use vldb_records::{PLACES, VlEntry, addresses, find_id, find_name, is_name};
+use vldb_entries::{PLACES, VlEntry, is_name};
+use vldb_records::{addresses, find_id, find_name};
 
 /// Tells an answer.
 pub(crate) fn tell(alloc: Global, answer: &VlAnswer) -> Result<CallEnd, NoMemory>
@@ -40,7 +45,8 @@ fn tell_entry(alloc: Global, found: Option<VlEntry>) -> Result<CallEnd, NoMemory
     }
 }
 
-/// Tells the entry of a name.
+/// Tells the entry of a name. Where the image has the one chain of the name, it asks for a word, the addresses and a block for each word of
+/// that chain at most; to refuse bytes that are no name it asks for nothing.
 pub fn entry_by_name<I: ImageRead>(
     alloc: Global,
     d: &mut Draft<I>,
@@ -52,6 +58,8 @@ pub fn entry_by_name<I: ImageRead>(
     ensures short { IfOk result IsDecided }
     ensures fault { IfErr result (HasItsCause d.old.bytes) }
     ensures frame { OnlyLooks I.ImageRead d.old d.new (IsErrOf result RecordFault.DiskFault) }
+    ensures cost { CostsOneChain I.ImageRead name_links (name_chain name.now) d.old d.new }
+    ensures free { is_name name.now ≡ false → CostsAtMost I.ImageRead 0 d.old d.new }
 {
     if !is_name(name) {
         return Ok(CallEnd::Rule(BAD_NAME));
@@ -96,6 +104,7 @@ pub(crate) fn find_typed<I: ImageRead>(
     ensures small { IfOk result (λ found. IfSome found IsSmall) }
     ensures fault { IfErr result (HasItsCause d.old.bytes) }
     ensures frame { OnlyLooks I.ImageRead d.old d.new (IsErrOf result RecordFault.DiskFault) }
+    ensures cost { CostsOneChain I.ImageRead id_links (id_chain id) d.old d.new }
 {
     match find_id(alloc, d, id)? {
         Some(entry) => {
@@ -109,7 +118,8 @@ pub(crate) fn find_typed<I: ImageRead>(
     }
 }
 
-/// Tells the entry that has an id as its id of a type.
+/// Tells the entry that has an id as its id of a type. Where the image has the one chain of the id, it asks for a word, the addresses and a
+/// block for each word of that chain at most; to refuse what is no type it asks for nothing.
 pub fn entry_by_id<I: ImageRead>(
     alloc: Global,
     d: &mut Draft<I>,
@@ -122,6 +132,8 @@ pub fn entry_by_id<I: ImageRead>(
     ensures short { IfOk result IsDecided }
     ensures fault { IfErr result (HasItsCause d.old.bytes) }
     ensures frame { OnlyLooks I.ImageRead d.old d.new (IsErrOf result RecordFault.DiskFault) }
+    ensures cost { CostsOneChain I.ImageRead id_links (id_chain id) d.old d.new }
+    ensures free { is_volume_type volume_type ≡ false → CostsAtMost I.ImageRead 0 d.old d.new }
 {
     if !is_volume_type(volume_type) {
         return Ok(CallEnd::Rule(BAD_VOLUME_TYPE));

@@ -4,7 +4,7 @@ ghost use Rattle.std.specs.List.{list_any};
 ghost use Rattle.db_image.specs.Ends.{IsDecided};
 ghost use Rattle.db_blocks.specs.Ends.{OnlyDrafts, OnlyLooks};
 ghost use Rattle.vldb_records.specs.Ends.{HasItsCause};
-ghost use Rattle.vldb_records.specs.Location.{Location};
+ghost use Rattle.vldb_entries.specs.Location.{Location};
 ghost use Rattle.vldb_records.specs.Records.{Holds};
 ghost use Rattle.vl_service.specs.Meaning.{address_changed, entries, has_site_at, with_place_of};
 ghost use Rattle.vl_service.specs.Moving.{IsMovement};
@@ -16,7 +16,8 @@ use crate::rules::{BAD_ENTRY, BAD_SERVER, NO_ENTRY};
 use db_image::{CallEnd, Draft, ImageRead, RecordFault};
 use std::alloc::Global;
 use vl_calls::VlAnswer;
-use vldb_records::{Listing, PLACES, addresses, first_listed, set_addresses};
+use vldb_entries::PLACES;
+use vldb_records::{Listing, addresses, first_listed, set_addresses};
 
 /// Whether an address is a server's; 0 is none's.
 fn has_address(addresses: &[u32; PLACES], host: u32) -> bool

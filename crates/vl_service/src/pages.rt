@@ -1,10 +1,13 @@
 //! The call that lists entries by where they lie, over a draft.
-ghost use Rattle.std.specs.Prelude.{◌≡◌, ◌<◌, ◌≤◌, ◌^◌, IfSome, IfOk, IfErr, IsErrOf, length};
+ghost use Rattle.std.specs.Prelude.{◌≡◌, ◌+◌, ◌*◌, ◌<◌, ◌≤◌, ◌^◌, IfSome, IfOk, IfErr, IsErrOf, length};
 ghost use Rattle.std.specs.List.{AllByRecursion};
 ghost use Rattle.db_image.specs.Ends.{IsDecided, end_of};
 ghost use Rattle.db_blocks.specs.Ends.{OnlyLooks};
+ghost use Rattle.db_blocks.specs.declared.blocks.TheConstants.{BLOCK_LEN};
+ghost use Rattle.db_chains.specs.Ends.{CostsAtMost};
+ghost use Rattle.vldb_entries.specs.declared.layout.TheConstants.{ADDRESSES_LEN};
 ghost use Rattle.vldb_records.specs.Ends.{HasItsCause};
-ghost use Rattle.vldb_records.specs.Location.{Location, IsSmall};
+ghost use Rattle.vldb_entries.specs.Location.{Location, IsSmall};
 ghost use Rattle.vldb_records.specs.Records.{Holds};
 ghost use Rattle.vl_calls.specs.declared.limits.TheConstants.{MAX_PAGE};
 ghost use Rattle.vl_service.specs.Meaning.{is_partition, page, reply_by};
@@ -55,13 +58,15 @@ fn listed<I: ImageRead>(
     ensures count { IfOk result (λ found. length found ≤ MAX_PAGE) }
     ensures fault { IfErr result (HasItsCause d.old.bytes) }
     ensures frame { OnlyLooks I.ImageRead d.old d.new (IsErrOf result RecordFault.DiskFault) }
+    ensures cost { CostsAtMost I.ImageRead (ADDRESSES_LEN + d.old.len + BLOCK_LEN * MAX_PAGE) d.old d.new }
 {
     let entries = first_listed(alloc, d, listing, after, MAX_PAGE as usize)?;
     Ok(Items::new(entries))
 }
 
 /// Tells the first hundred entries with a read-write id above one and a site of a server, 0 for any, on a partition, -1 for any;
-/// where `locked`, only entries that are.
+/// where `locked`, only entries that are. It is one pass over the blocks: it asks for the addresses, for each byte of the image once, and for a
+/// hundred blocks more at most.
 pub fn list_entries<I: ImageRead>(
     alloc: Global,
     d: &mut Draft<I>,
@@ -76,6 +81,7 @@ pub fn list_entries<I: ImageRead>(
     ensures short { IfOk result IsDecided }
     ensures fault { IfErr result (HasItsCause d.old.bytes) }
     ensures frame { OnlyLooks I.ImageRead d.old d.new (IsErrOf result RecordFault.DiskFault) }
+    ensures cost { CostsAtMost I.ImageRead (ADDRESSES_LEN + d.old.len + BLOCK_LEN * MAX_PAGE) d.old d.new }
 {
     if !is_partition(partition) {
         return Ok(CallEnd::Rule(BAD_PARTITION));

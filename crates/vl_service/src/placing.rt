@@ -1,9 +1,9 @@
 //! The places of the servers' addresses.
 ghost use Rattle.std.specs.Prelude.{◌≡◌, ◌==◌, ◌<◌, IfSome};
 ghost use Rattle.std.specs.List.{list_any, position};
-ghost use Rattle.vldb_records.specs.Location.{place_host, placed};
+ghost use Rattle.vldb_entries.specs.Location.{place_host, placed};
 
-use vldb_records::{PLACES, VlSite};
+use vldb_entries::{PLACES, VlSite};
 
 /// Whether an address is among them.
 pub(crate) fn is_among(addresses: &[u32; PLACES], host: u32) -> bool
@@ -37,7 +37,7 @@ fn place_host(mut addresses: [u32; PLACES], host: u32) -> Option<[u32; PLACES]>
 }
 
 /// The addresses with those of the sites' servers among them, if there are places for them.
-#[tactic(auto, unfolding(vldb_records::specs::Location::placed))]
+#[tactic(auto, unfolding(vldb_entries::specs::Location::placed))]
 pub(crate) fn placed(addresses: [u32; PLACES], sites: &[VlSite]) -> Option<[u32; PLACES]>
     ensures { result ≡ placed sites.now addresses }
 {

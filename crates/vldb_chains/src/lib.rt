@@ -1,4 +1,4 @@
-//! The chains of the location database: by names, by the three kinds of ids, and of its free blocks. It does not use them yet.
+//! The chains of the location database: by names, by the three kinds of ids, and of its free blocks.
 #![tactic(auto)]
 
 mod keys;

@@ -1,103 +1,220 @@
--- The image after a change holds the database after it.
-use Rattle.std.proofs.Common.{◌≡◌, ◌≢◌, ℕ, ◌+◌, ◌*◌, ◌<◌, ◌≤◌, ◌^◌, Bool, true, false, not, ◌&&◌, ◌||◌, eqb, List, [], ◌∷◌, ◌++◌, Option, Some, None, length, take, drop, refl, sym, ap, subst, ◌∙◌, ⊎_elim, append_assoc, inl, inr, arith}
+-- The image after another next volume id or other addresses holds the database after it.
+use Rattle.std.proofs.Common.{◌≡◌, ℕ, ◌+◌, ◌-◌, ◌*◌, ◌/◌, ◌%◌, ◌<◌, ◌≤◌, ◌^◌, ◌⊎◌, inl, inr, ⊎_elim, true, false, eqb, List, [], ◌∷◌, ◌++◌, Option, Some, None, length, take, drop, refl, sym, ap, subst, ◌∙◌, append_assoc, arith}
 use Rattle.std.specs.List.{flat_map}
 use Rattle.std.specs.Option.{option_map}
-use Rattle.std.proofs.lemmas.List.{drop_at, length-append, take_at}
-use Rattle.std.proofs.lemmas.Bool.{cases_eq, cases_lt, cases_Bool, eqb-true, eq-eqb, lt-ltb, le-ltb}
+use Rattle.std.proofs.lemmas.Bool.{cases_Bool, eqb-true}
+use Rattle.std.proofs.lemmas.List.{drop_at, length-append, length-take-le, take_at}
 use Rattle.ubik_types.specs.Image.{changed}
 use Rattle.ubik_types.specs.declared.images.Change.TheVariants.{Put}
-use Rattle.db_blocks.specs.Blocks.{block_count, block_in, block_place, with_block, word_at}
-use Rattle.db_blocks.specs.Bytes.{word, words, zeros}
-use Rattle.db_blocks.proofs.BlockPlaces.{IsPut, IsHeadPut, add_block, head_put, laid, put_block}
-use Rattle.db_blocks.proofs.FirstBlocks.{first_met, first_not, first_within}
-use Rattle.db_blocks.proofs.Maps.{AreBlocks, IsAlone, IsContent, IsForm, IsMap, IsStep, blocks_read, blocks_same, blocks_set, some_same, under_same, under_other}
-use Rattle.db_blocks.proofs.Scanned.{count_is}
-use Rattle.vldb_records.specs.declared.entries.VlEntry.{VlEntry}
-use Rattle.vldb_records.specs.Location.{Location, IsLocation, IsRecord, MayBePlaces, MayEnter, has_id, relocated, with_entered, with_next_volume, with_places, without_entry}
-use Rattle.vldb_records.specs.Records.{Holds, IsBlockOf, IsLaidOut, addresses_in, after_insert, after_remove, after_replace, after_set_next, after_set_places, block_of, block_of_id, blocks_in, has_id_in, head_of, is_free, kind_of, next_block, next_in, whole, with_count}
-use Rattle.vldb_records.proofs.EntryAgain.{kind_again, length-block, not_zero, rw_again}
-use Rattle.vldb_records.proofs.HeadRead.{addresses_of, length-words, length-zeros, next_of, whole_same}
-use Rattle.vldb_records.proofs.Locations.{each_without, location_entered, location_next, location_without}
-use Rattle.vldb_records.proofs.Relocated.{location_places, same_block}
-use Rattle.vldb_records.proofs.Lookups.{block_entry, id_again, id_kind, zero_kind}
-
-abbrev key : VlEntry → ℕ
-key e = e.rw
-
-abbrev Blocks : List ℕ → (ℕ → Option VlEntry) → (image : List ℕ) → (count : ℕ) → Type 0
-Blocks addresses entry image count = AreBlocks 3132 key (block_of addresses) entry image count
-
-zeros_len : length (zeros 192) ≡ 192
-unfolding zeros
-zeros_len = refl
-
-not_free : (e : VlEntry) (addresses : List ℕ) → block_of addresses e ≡ zeros 192 → ⊥
-not_free e addresses free = let one = sym (kind_again addresses e) ∙ ap kind_of free ∙ zero_kind in absurd (omega (arith, one))
-
-form_of : (addresses : List ℕ) → IsForm key (block_of addresses) IsRecord
-form_of addresses = record {
-  apart = λ e f is_e is_f same. sym (rw_again addresses e (omega (arith, is_e.rw))) ∙ ap (λ (b : List ℕ). word_at b 8) same ∙ rw_again addresses f (omega (arith, is_f.rw));
-  full = λ e is free. not_free e addresses free;
-}
-
-map_of : (s : Location) → IsLocation s → IsMap key IsRecord s.entry
-map_of s valid = record { ids = valid.ids; each = valid.records }
-
-blocks_of_laid : (image : List ℕ) (s : Location) → IsLaidOut image s → Blocks s.addresses s.entry image (blocks_in image)
-blocks_of_laid image s is = record {
-  blocks = λ k below. ⊎_elim
-      (λ (free : block_in 3132 image k ≡ zeros 192). inl free)
-      (λ (of : (e : VlEntry) × IsBlockOf s e (block_in 3132 image k)). inr (of.0, of.1.0, of.1.1))
-      (is.blocks k below);
-  only = is.only;
-  one = λ j k e in_j in_k at is_j is_k. is.one j k e in_j in_k (at, is_j) (at, is_k);
-}
-
-laid_from : (image : List ℕ) (m : ℕ) (s : Location) → length image ≡ block_place 3132 m → take 3132 image ≡ head_of s m → Blocks s.addresses s.entry image m
-    → IsLaidOut image s
-laid_from image m s size head are =
-    let count : blocks_in image ≡ m = count_is 3132 image m size in
-    record {
-      size = size ∙ ap (block_place 3132) (sym count);
-      head = head ∙ ap (head_of s) (sym count);
-      blocks = λ k below. ⊎_elim
-          (λ (free : block_in 3132 image k ≡ zeros 192). inl free)
-          (λ (of : (e : VlEntry) × (s.entry e.rw ≡ Some e) × (block_in 3132 image k ≡ block_of s.addresses e)). inr (of.0, (of.1, of.2)))
-          (are.blocks k (omega (arith, below, count)));
-      only = λ rw_id e at. let o = are.only rw_id e at in (o.0, omega (arith, o.1, count), o.2);
-      one = λ j k e in_j in_k at_j at_k. are.one j k e (omega (arith, in_j, count)) (omega (arith, in_k, count)) at_j.0 at_j.1 at_k.1;
-    }
+use Rattle.db_blocks.specs.Blocks.{word_at}
+use Rattle.db_blocks.specs.Bytes.{number_word, word, words, zeros}
+use Rattle.db_blocks.proofs.BlockPlaces.{head_put, laid}
+use Rattle.db_blocks.proofs.Maps.{some_same}
+use Rattle.db_chains.proofs.Bytes.{put_stays, word_stays}
+use Rattle.vldb_chains.specs.Keys.{id_key, name_key}
+use Rattle.vldb_chains.specs.Places.{id_links, name_links}
+use Rattle.vldb_entries.specs.declared.entries.VlEntry.{VlEntry}
+use Rattle.vldb_entries.specs.Location.{Location, IsLocation, MayBePlaces, relocated, with_next_volume, with_places}
+use Rattle.vldb_entries.specs.Forms.{block_at, block_of, blocks_in, head_of, next_in, whole}
+use Rattle.vldb_records.specs.Changes.{after_set_next, after_set_places}
+use Rattle.vldb_entries.proofs.HeadRead.{length-words, length-zeros, whole_same}
+use Rattle.vldb_entries.proofs.Locations.{location_next}
+use Rattle.vldb_entries.proofs.Relocated.{location_places, same_block}
+use Rattle.vldb_records.specs.Records.{Holds, IsBlockOf, IsFree, IsIdWord, IsLaidOut, IsNameWord, IsNumberOf, id_of, id_place, name_place, unlinked, unlinked_head}
+use Rattle.vldb_records.proofs.HeadTold.{laid_next}
+use Rattle.vldb_records.proofs.HeadSet.{free_same, ids_are, name_are, unlinked_laid, visits_same}
 
 -- an image that holds a database is not empty, read whole
-whole_of_laid : (image : List ℕ) (s : Location) → IsLaidOut image s → whole image ≡ image
-whole_of_laid image s lies = whole_same image (omega (arith, lies.size))
+pub holds_from : (image : List ℕ) (s : Location) → IsLocation s → IsLaidOut image s → Holds image s
+holds_from image s valid laid_out =
+    let same : whole image ≡ image = whole_same image (omega (arith, laid_out.size)) in
+    record { valid = valid; laid = subst (λ (i : List ℕ). IsLaidOut i s) (sym same) laid_out }
 
-holds_from : (image : List ℕ) (s : Location) → IsLocation s → IsLaidOut image s → Holds image s
-holds_from image s valid lies = record { valid = valid; laid = subst (λ (i : List ℕ). IsLaidOut i s) (sym (whole_of_laid image s lies)) lies }
+-- ---- bytes laid in the head, which stand in no chain
 
-places_of : (image : List ℕ) (s : Location) → Holds image s → addresses_in (whole image) ≡ s.addresses
-places_of image s holds = addresses_of (whole image) s (blocks_in (whole image)) holds.laid.head holds.valid.places holds.valid.words
+record IsHeadSet (old new made : List ℕ) : Type 0 where
+  size : length new ≡ length old
+  count : blocks_in new ≡ blocks_in old
+  head : unlinked_head (take 3132 new) ≡ made
+  same : (k : ℕ) → k < blocks_in old → block_at new k ≡ block_at old k
+  free : word_at new 16 ≡ word_at old 16
+  firsts : (p : ℕ) → 1084 ≤ p → p + 4 ≤ 3132 → word_at new p ≡ word_at old p
 
--- ---- words of the head
+head_set : (old : List ℕ) (s : Location) (bytes : List ℕ) (p : ℕ) (made : List ℕ) → IsLaidOut old s → (p + length bytes ≤ 16) ⊎ (20 ≤ p)
+    → p + length bytes ≤ 1084 → laid (head_of s (blocks_in old)) p bytes ≡ made → IsHeadSet old (changed old (Put p bytes)) made
+head_set old s bytes p made lies beside within is =
+    let head = take 3132 old in
+    let long : 3132 ≤ length old = omega (arith, lies.size) in
+    let put = head_put 3132 old bytes head (laid head p bytes) p (blocks_in old) lies.size (omega arith) refl refl in
+    let stays = put_stays old bytes p (omega arith) in
+    record {
+      size = put.size;
+      count = ap (λ (n : ℕ). (n - 3132) / 192) put.size;
+      head = ap unlinked_head put.front ∙ unlinked_laid head bytes p (length-take-le 3132 old long) beside within
+          ∙ ap (λ (h : List ℕ). laid h p bytes) lies.head ∙ is;
+      same = put.others;
+      free = word_stays p (length bytes) 16 old (changed old (Put p bytes)) stays (omega arith)
+          (⊎_elim (λ (a : p + length bytes ≤ 16). inr a) (λ (b : 20 ≤ p). inl b) beside);
+      firsts = λ q from below. word_stays p (length bytes) q old (changed old (Put p bytes)) stays (omega arith) (inr (omega arith));
+    }
 
-count_head : (s : Location) (old new : ℕ) → laid (head_of s old) 12 (word new) ≡ head_of s new
-unfolding laid head_of words
-count_head s old new = refl
+-- ---- the same entries, read otherwise
 
-put_count : (image : List ℕ) (s : Location) (old new n : ℕ) → length image ≡ block_place 3132 n → take 3132 image ≡ head_of s old
-    → IsHeadPut 3132 image (with_count new image) (head_of s new)
-put_count image s old new n size is = head_put 3132 image (word new) (head_of s old) (head_of s new) 12 n size (omega arith) is (count_head s old new)
+-- the entries of one state are those of another one, each read in this way
+record ReadsAs (s t : Location) (f : VlEntry → VlEntry) : Type 0 where
+  own : (e : VlEntry) → (f e).rw ≡ e.rw
+  name : (e : VlEntry) → (f e).name ≡ e.name
+  ids : (kind : ℕ) (e : VlEntry) → id_of kind (f e) ≡ id_of kind e
+  there : (rw_id : ℕ) (e : VlEntry) → s.entry rw_id ≡ Some e → t.entry rw_id ≡ Some (f e)
+  back : (rw_id : ℕ) (y : VlEntry) → t.entry rw_id ≡ Some y → (e : VlEntry) × (s.entry rw_id ≡ Some e) × (y ≡ f e)
+  form : (rw_id : ℕ) (e : VlEntry) → s.entry rw_id ≡ Some e → block_of t.addresses (f e) ≡ block_of s.addresses e
+
+block_there : (s t : Location) (f : VlEntry → VlEntry) (old new : List ℕ) (e : VlEntry) → ReadsAs s t f → new ≡ old → IsBlockOf s e old
+    → IsBlockOf t (f e) new
+block_there s t f old new e reads same is =
+    (ap t.entry (reads.own e) ∙ reads.there e.rw e is.0, ap unlinked same ∙ is.1 ∙ sym (reads.form e.rw e is.0))
+
+block_back : (s t : Location) (f : VlEntry → VlEntry) (old new : List ℕ) (y : VlEntry) → ReadsAs s t f → new ≡ old → IsBlockOf t y new
+    → (e : VlEntry) × (y ≡ f e) × IsBlockOf s e old
+block_back s t f old new y reads same is =
+    let b = reads.back y.rw y is.0 in
+    let own : b.0.rw ≡ y.rw = sym (reads.own b.0) ∙ ap (λ (x : VlEntry). x.rw) (sym b.2) in
+    let at : s.entry b.0.rw ≡ Some b.0 = ap s.entry own ∙ b.1 in (
+      b.0,
+      b.2,
+      (at, ap unlinked (sym same) ∙ is.1 ∙ ap (block_of t.addresses) b.2 ∙ reads.form b.0.rw b.0 at),
+    )
+
+number_there : (s t : Location) (f : VlEntry → VlEntry) (old new head : List ℕ) (n : ℕ) (e : VlEntry) → ReadsAs s t f
+    → IsHeadSet old new head
+    → IsNumberOf s old n e → IsNumberOf t new n (f e)
+number_there s t f old new head n e reads set is = record {
+  some = is.some;
+  within = omega (arith, is.within, set.count);
+  block = block_there s t f (block_at old (n - 1)) (block_at new (n - 1)) e reads (set.same (n - 1) (omega
+      (arith, is.some, is.within))) is.block;
+}
+
+number_back : (s t : Location) (f : VlEntry → VlEntry) (old new head : List ℕ) (n : ℕ) (y : VlEntry) → ReadsAs s t f
+    → IsHeadSet old new head
+    → IsNumberOf t new n y → (e : VlEntry) × (y ≡ f e) × IsNumberOf s old n e
+number_back s t f old new head n y reads set is =
+    let less : n - 1 < blocks_in old = omega (arith, is.some, is.within, set.count) in
+    let b = block_back s t f (block_at old (n - 1)) (block_at new (n - 1)) y reads (set.same (n - 1) less) is.block in
+    (b.0, b.1, record { some = is.some; within = omega (arith, is.within, set.count); block = b.2 })
+
+name_there : (s t : Location) (f : VlEntry → VlEntry) (old new head : List ℕ) (key w : ℕ) → ReadsAs s t f → IsHeadSet old new head
+    → IsNameWord s old key w → IsNameWord t new key w
+name_there s t f old new head key w reads set is = record {
+  entry = f is.entry;
+  number = number_there s t f old new head w is.entry reads set is.number;
+  keyed = ap name_key (reads.name is.entry) ∙ is.keyed;
+}
+
+name_back : (s t : Location) (f : VlEntry → VlEntry) (old new head : List ℕ) (key w : ℕ) → ReadsAs s t f → IsHeadSet old new head
+    → IsNameWord t new key w → IsNameWord s old key w
+name_back s t f old new head key w reads set is =
+    let b = number_back s t f old new head w is.entry reads set is.number in record {
+      entry = b.0;
+      number = b.2;
+      keyed = ap name_key (sym (reads.name b.0) ∙ ap (λ (x : VlEntry). x.name) (sym b.1)) ∙ is.keyed;
+    }
+
+id_there : (s t : Location) (f : VlEntry → VlEntry) (old new head : List ℕ) (key w : ℕ) → ReadsAs s t f → IsHeadSet old new head
+    → IsIdWord s old key w → IsIdWord t new key w
+id_there s t f old new head key w reads set is =
+    let same = reads.ids (w % 4) is.entry in record {
+      entry = f is.entry;
+      number = number_there s t f old new head (w / 4) is.entry reads set is.number;
+      kind = is.kind;
+      some = λ none. is.some (sym same ∙ none);
+      keyed = ap id_key same ∙ is.keyed;
+    }
+
+id_back : (s t : Location) (f : VlEntry → VlEntry) (old new head : List ℕ) (key w : ℕ) → ReadsAs s t f → IsHeadSet old new head
+    → IsIdWord t new key w → IsIdWord s old key w
+id_back s t f old new head key w reads set is =
+    let b = number_back s t f old new head (w / 4) is.entry reads set is.number in
+    let same : id_of (w % 4) b.0 ≡ id_of (w % 4) is.entry =
+    sym (reads.ids (w % 4) b.0) ∙ ap (λ (x : VlEntry). id_of (w % 4) x) (sym b.1) in record {
+      entry = b.0;
+      number = b.2;
+      kind = is.kind;
+      some = λ none. is.some (sym same ∙ none);
+      keyed = ap id_key same ∙ is.keyed;
+    }
+
+-- two entries that are read alike stand under one read-write id
+one_read : (s t : Location) (f : VlEntry → VlEntry) (old : List ℕ) (j k : ℕ) (a b y : VlEntry) → ReadsAs s t f → IsLaidOut old s
+    → j < blocks_in old
+    → k < blocks_in old → y ≡ f a → y ≡ f b → IsBlockOf s a (block_at old j) → IsBlockOf s b (block_at old k) → j ≡ k
+one_read s t f old j k a b y reads lies in_j in_k is_a is_b at_j at_k =
+    let own : a.rw ≡ b.rw = sym (reads.own a) ∙ ap (λ (x : VlEntry). x.rw) (sym is_a ∙ is_b) ∙ reads.own b in
+    let same : b ≡ a = some_same (sym at_k.0 ∙ ap s.entry (sym own) ∙ at_j.0) in
+    lies.one j k a in_j in_k at_j (subst (λ (x : VlEntry). IsBlockOf s x (block_at old k)) same at_k)
+
+head_laid : (old new : List ℕ) (s t : Location) (f : VlEntry → VlEntry) → ReadsAs s t f → IsLaidOut old s
+    → IsHeadSet old new (head_of t (blocks_in old)) → IsLaidOut new t
+head_laid old new s t f reads lies set =
+    let head = head_of t (blocks_in old) in
+    let less : (k : ℕ) → k < blocks_in new → k < blocks_in old = λ k below. omega (arith, below, set.count) in record {
+      size = set.size ∙ lies.size ∙ ap (λ (n : ℕ). 3132 + 192 * n) (sym set.count);
+      head = set.head ∙ ap (head_of t) (sym set.count);
+      blocks = λ k below. ⊎_elim
+          (λ (free : IsFree (block_at old k)). inl (subst IsFree (sym (set.same k (less k below))) free))
+          (λ (is : (e : VlEntry) × IsBlockOf s e (block_at old k)).
+          inr (f is.0, block_there s t f (block_at old k) (block_at new k) is.0 reads (set.same k (less k below)) is.1))
+          (lies.blocks k (less k below));
+      only = λ rw_id y at.
+          let b = reads.back rw_id y at in
+          let o = lies.only rw_id b.0 b.1 in (
+            o.0,
+            omega (arith, o.1, set.count),
+            subst (λ (x : VlEntry). IsBlockOf t x (block_at new o.0)) (sym b.2)
+                (block_there s t f (block_at old o.0) (block_at new o.0) b.0 reads (set.same o.0 o.1) o.2),
+          );
+      one = λ j k y in_j in_k is_j is_k.
+          let a = block_back s t f (block_at old j) (block_at new j) y reads (set.same j (less j in_j)) is_j in
+          let b = block_back s t f (block_at old k) (block_at new k) y reads (set.same k (less k in_k)) is_k in
+          one_read s t f old j k a.0 b.0 y reads lies (less j in_j) (less k in_k) a.1 b.1 a.2 b.2;
+      names = λ key low. visits_same name_links old new (name_place key) (IsNameWord s old key)
+          (IsNameWord t new key) name_are refl set.size
+          (set.firsts (name_place key) (omega arith) (omega arith)) set.same
+          (λ w is. name_there s t f old new head key w reads set is) (λ w is. name_back s t f old new head key w reads set is)
+          (lies.names key low);
+      ids = λ key low. visits_same id_links old new (id_place key) (IsIdWord s old key) (IsIdWord t new key) ids_are refl set.size
+          (set.firsts (id_place key) (omega arith) (omega arith)) set.same
+          (λ w is. id_there s t f old new head key w reads set is) (λ w is. id_back s t f old new head key w reads set is)
+          (lies.ids key low);
+      unused = λ k y below is kind low gone.
+          let b = block_back s t f (block_at old k) (block_at new k) y reads (set.same k (less k below)) is in
+          ap (λ (x : List ℕ). word_at x (40 + 4 * kind)) (set.same k (less k below))
+          ∙ lies.unused k b.0 (less k below) b.2 kind low (sym (reads.ids kind b.0) ∙ ap (λ (x : VlEntry). id_of kind x) (sym b.1) ∙ gone);
+      free = free_same old new set.size set.free set.same lies.free;
+    }
+
+-- ---- the next volume id
 
 next_head : (s : Location) (id n : ℕ) → laid (head_of s n) 8 (word id) ≡ head_of (with_next_volume id s) n
 unfolding laid head_of words
 next_head s id n = refl
 
-next_set : (image : List ℕ) (s : Location) (id : ℕ) → IsLaidOut image s → IsLaidOut (changed image (Put 8 (word id))) (with_next_volume id s)
+next_reads : (s : Location) (id : ℕ) → ReadsAs s (with_next_volume id s) (λ e. e)
+next_reads s id = record {
+  own = λ e. refl;
+  name = λ e. refl;
+  ids = λ kind e. refl;
+  there = λ rw_id e at. at;
+  back = λ rw_id y at. (y, at, refl);
+  form = λ rw_id e at. refl;
+}
+
+next_set : (image : List ℕ) (s : Location) (id : ℕ) → IsLaidOut image s
+    → IsLaidOut (changed image (Put 8 (word id))) (with_next_volume id s)
 next_set image s id lies =
-    let n = blocks_in image in
-    let put = head_put 3132 image (word id) (head_of s n) (head_of (with_next_volume id s) n) 8 n lies.size (omega arith) lies.head (next_head s id n) in
-    laid_from (changed image (Put 8 (word id))) n (with_next_volume id s) (put.size ∙ lies.size) put.front
-    (blocks_same 3132 key (block_of s.addresses) s.entry image (changed image (Put 8 (word id))) n put.others (blocks_of_laid image s lies))
+    head_laid image (changed image (Put 8 (word id))) s (with_next_volume id s) (λ e. e) (next_reads s id) lies
+    (head_set image s (word id) 8 (head_of (with_next_volume id s) (blocks_in image)) lies (inl (omega arith)) (omega arith)
+    (next_head s id (blocks_in image)))
 
 next_own : (s : Location) (n : ℕ) → head_of s n ≡ head_of (with_next_volume s.next_volume s) n
 unfolding head_of
@@ -105,15 +222,17 @@ next_own s n = refl
 
 next_kept : (image : List ℕ) (s : Location) (id : ℕ) → IsLaidOut image s → s.next_volume ≡ id → IsLaidOut image (with_next_volume id s)
 next_kept image s id lies same =
-    laid_from image (blocks_in image) (with_next_volume id s) lies.size
-    (lies.head ∙ next_own s (blocks_in image) ∙ ap (λ (n : ℕ). head_of (with_next_volume n s) (blocks_in image)) same) (blocks_of_laid image s lies)
+    let own = lies.head ∙ next_own s (blocks_in image) ∙ ap (λ (n : ℕ). head_of (with_next_volume n s) (blocks_in image)) same in
+    head_laid image image s (with_next_volume id s) (λ e. e) (next_reads s id) lies
+    record { size = refl; count = refl; head = own; same = λ k below. refl; free = refl; firsts = λ p from below. refl }
 
-pub holds_next : (image : List ℕ) (s : Location) (id : ℕ) → Holds image s → id < 2 ^ 32 → Holds (after_set_next id image) (with_next_volume id s)
+pub holds_next : (image : List ℕ) (s : Location) (id : ℕ) → Holds image s → id < 2 ^ 32
+    → Holds (after_set_next id image) (with_next_volume id s)
 unfolding after_set_next
 holds_next image s id holds low =
     let old = whole image in
     let valid = location_next s id holds.valid low in
-    let told : next_in old ≡ s.next_volume = next_of old s (blocks_in old) holds.laid.head holds.valid.next in
+    let told : next_in old ≡ s.next_volume = laid_next image s holds in
     ⊎_elim
     (λ (same : eqb (next_in old) id ≡ true).
     rw same (record { valid = valid; laid = next_kept old s id holds.laid (sym told ∙ eqb-true (next_in old) id same) }))
@@ -121,282 +240,53 @@ holds_next image s id holds low =
     rw other (holds_from (changed old (Put 8 (word id))) (with_next_volume id s) valid (next_set old s id holds.laid)))
     (cases_Bool (eqb (next_in old) id))
 
--- ---- an entry comes in
-
-step_in : (image block : List ℕ) (k n : ℕ) → length image ≡ block_place 3132 n → length block ≡ 192 → k < n
-    → IsStep 3132 image (with_block 3132 k block image) n k n block
-step_in image block k n size len below = record {
-  counted = count_is 3132 image n size;
-  put = put_block 3132 image block k n size len below;
-  below = below;
-  kept = omega arith;
-  only = λ j less other. less;
-}
-
-step_end : (image block : List ℕ) (n : ℕ) → length image ≡ block_place 3132 n → length block ≡ 192
-    → IsStep 3132 image (with_block 3132 n block image) n n (n + 1) block
-step_end image block n size len = record {
-  counted = count_is 3132 image n size;
-  put = add_block 3132 image block n size len;
-  below = omega arith;
-  kept = omega arith;
-  only = λ j less other. omega arith;
-}
-
-content_of : (addresses : List ℕ) (e : VlEntry) → IsRecord e → IsContent key (block_of addresses) IsRecord e.rw (Some e) (block_of addresses e)
-content_of addresses e is = record {
-  none = λ h. absurd cc;
-  some = λ f h. let same : e ≡ f = some_same h in subst (λ (x : VlEntry). (x.rw ≡ e.rw) × IsRecord x × (block_of addresses e ≡ block_of addresses x)) same (refl, is, refl);
-}
-
-no_content : (addresses : List ℕ) (x : ℕ) → IsContent key (block_of addresses) IsRecord x None (zeros 192)
-no_content addresses x = record { none = λ h. refl; some = λ f h. absurd cc }
-
-not_true : {P : Type 0} (b : Bool) → b ≡ true → b ≡ false → P
-not_true b t f = absurd cc
-
-has_own : (a b c : ℕ) → 0 < a → (not (eqb a 0) && (eqb a a || eqb b a || eqb c a)) ≡ true
-has_own a b c low = let z = not_zero a low in let t = eq-eqb a a refl in rw (z, t) refl
-
--- an entry has its own read-write id
-own_id : (e : VlEntry) → IsRecord e → has_id e.rw e ≡ true
-own_id e is = has_own e.rw e.ro e.backup is.rw_low
-
--- no other entry has the read-write id of one that may come in
-new_under : (s : Location) (own : ℕ) (e f : VlEntry) → IsLocation s → IsRecord e → MayEnter own e s → (without_entry own s).entry e.rw ≡ Some f → ⊥
-new_under s own e f valid is may at =
-    each_without s own (λ b g. b ≡ e.rw → ⊥)
-    (λ b g there other same.
-    let own_g : g.rw ≡ e.rw = valid.ids b g there ∙ same in
-    let has : has_id e.rw g ≡ true = subst (λ (n : ℕ). has_id n g ≡ true) own_g (own_id g (valid.records b g there)) in
-    not_true (has_id e.rw g) has (may.ids b e.rw g there other (own_id e is)))
-    e.rw f at refl
-
-alone_new : (s : Location) (own : ℕ) (e : VlEntry) (image : List ℕ) (n k : ℕ) → IsLocation s → IsRecord e → MayEnter own e s
-    → (k < n → block_in 3132 image k ≡ zeros 192) → IsAlone 3132 key (block_of s.addresses) (without_entry own s).entry image n k e.rw
-alone_new s own e image n k valid is may free = record {
-  here = λ below. inl (free below);
-  others = λ f at. absurd (new_under s own e f valid is may at);
-}
-
-entered_blocks : (s : Location) (own : ℕ) (e : VlEntry) (image new : List ℕ) (n k m : ℕ) → IsLocation s → IsRecord e → MayEnter own e s
-    → Blocks s.addresses (without_entry own s).entry image n → IsStep 3132 image new n k m (block_of s.addresses e) → (k < n → block_in 3132 image k ≡ zeros 192)
-    → Blocks s.addresses (with_entered own e s).entry new m
-entered_blocks s own e image new n k m valid is may are next free =
-    blocks_set 3132 key (block_of s.addresses) IsRecord (without_entry own s).entry image new n k m e.rw (block_of s.addresses e) (Some e)
-    (form_of s.addresses) (map_of (without_entry own s) (location_without s own valid)) are next (alone_new s own e image n k valid is may free) (content_of s.addresses e is)
-
-none_at : (o : Option VlEntry) → ((e : VlEntry) → o ≡ Some e → ⊥) → None ≡ option_map (λ e. e) o
-none_at None never = refl
-none_at (Some e) never = absurd (never e refl)
-
-same_option : (o : Option VlEntry) → o ≡ option_map (λ e. e) o
-same_option None = refl
-same_option (Some e) = refl
-
--- no entry stands under 0
-without_none : (s : Location) → IsLocation s → (rw_id : ℕ) → (without_entry 0 s).entry rw_id ≡ option_map (λ e. e) (s.entry rw_id)
-without_none s valid rw_id =
-    ⊎_elim
-    (λ (zero_id : rw_id ≡ 0).
-    under_same 0 rw_id None s.entry zero_id
-    ∙ none_at (s.entry rw_id) (λ e at. let r = valid.records rw_id e at in absurd (omega (arith, r.rw_low, valid.ids rw_id e at, zero_id))))
-    (λ (other : rw_id ≢ 0). under_other 0 rw_id None s.entry other ∙ same_option (s.entry rw_id))
-    (cases_eq rw_id 0)
-
-blocks_without_none : (s : Location) (image : List ℕ) (n : ℕ) → IsLocation s → Blocks s.addresses s.entry image n → Blocks s.addresses (without_entry 0 s).entry image n
-blocks_without_none s image n valid are =
-    blocks_read 3132 key (block_of s.addresses) (block_of s.addresses) (λ e. e) s.entry (without_entry 0 s).entry image n (λ e. refl) (without_none s valid) (λ id e at. refl) are
-
-head_entered : (s : Location) (own : ℕ) (e : VlEntry) (n : ℕ) → head_of s n ≡ head_of (with_entered own e s) n
-unfolding head_of
-head_entered s own e n = refl
-
-head_without : (s : Location) (gone n : ℕ) → head_of s n ≡ head_of (without_entry gone s) n
-unfolding head_of
-head_without s gone n = refl
-
-inserted_in : (old : List ℕ) (s : Location) (e : VlEntry) (k : ℕ) → IsLaidOut old s → IsLocation s → IsRecord e → MayEnter 0 e s → k < blocks_in old
-    → block_in 3132 old k ≡ zeros 192 → IsLaidOut (with_block 3132 k (block_of s.addresses e) old) (with_entered 0 e s)
-inserted_in old s e k lies valid is may below free =
-    let n = blocks_in old in
-    let next = step_in old (block_of s.addresses e) k n lies.size (length-block s.addresses e is) below in
-    let are = blocks_without_none s old n valid (blocks_of_laid old s lies) in
-    laid_from (with_block 3132 k (block_of s.addresses e) old) n (with_entered 0 e s) next.put.size (next.put.front ∙ lies.head ∙ head_entered s 0 e n)
-    (entered_blocks s 0 e old (with_block 3132 k (block_of s.addresses e) old) n k n valid is may are next (λ less. free))
-
-inserted_end : (old : List ℕ) (s : Location) (e : VlEntry) → IsLaidOut old s → IsLocation s → IsRecord e → MayEnter 0 e s
-    → IsLaidOut (with_count (blocks_in old + 1) (with_block 3132 (blocks_in old) (block_of s.addresses e) old)) (with_entered 0 e s)
-inserted_end old s e lies valid is may =
-    let n = blocks_in old in
-    let mid = with_block 3132 n (block_of s.addresses e) old in
-    let next = step_end old (block_of s.addresses e) n lies.size (length-block s.addresses e is) in
-    let are = blocks_without_none s old n valid (blocks_of_laid old s lies) in
-    let blocks = entered_blocks s 0 e old mid n n (n + 1) valid is may are next (λ less. absurd (omega arith)) in
-    let put = put_count mid s n (n + 1) (n + 1) next.put.size (next.put.front ∙ lies.head) in
-    let count = count_is 3132 mid (n + 1) next.put.size in
-    laid_from (with_count (n + 1) mid) (n + 1) (with_entered 0 e s) (put.size ∙ next.put.size) (put.front ∙ head_entered s 0 e (n + 1))
-    (blocks_same 3132 key (block_of s.addresses) (with_entered 0 e s).entry mid (with_count (n + 1) mid) (n + 1) (λ j less. put.others j (omega (arith, less, count))) blocks)
-
--- a free block is zero
-free_zero : (old : List ℕ) (s : Location) (k : ℕ) → IsLaidOut old s → k < blocks_in old → is_free (block_in 3132 old k) ≡ true → block_in 3132 old k ≡ zeros 192
-free_zero old s k lies below free =
-    ⊎_elim
-    (λ (zero_block : block_in 3132 old k ≡ zeros 192). zero_block)
-    (λ (of : (e : VlEntry) × IsBlockOf s e (block_in 3132 old k)).
-    let kind = eqb-true (kind_of (block_in 3132 old k)) 0 free in
-    absurd (omega (arith, kind, ap kind_of of.1.1, kind_again s.addresses of.0)))
-    (lies.blocks k below)
-
-pub holds_inserted : (image : List ℕ) (s : Location) (e : VlEntry) → Holds image s → IsRecord e → MayEnter 0 e s → Holds (after_insert e image) (with_entered 0 e s)
-unfolding after_insert
-holds_inserted image s e holds is may =
-    let old = whole image in
-    let k = next_block old in
-    let n = blocks_in old in
-    let places = places_of image s holds in
-    let within : k ≤ 0 + n = first_within (λ j. is_free (block_in 3132 old j)) 0 n in
-    let valid = location_entered s 0 e holds.valid is may in
-    ⊎_elim
-    (λ (below : k < n).
-    let free = first_met (λ j. is_free (block_in 3132 old j)) 0 n (omega arith) in
-    rw (lt-ltb k n below, places) (holds_from (with_block 3132 k (block_of s.addresses e) old) (with_entered 0 e s) valid
-    (inserted_in old s e k holds.laid holds.valid is may below (free_zero old s k holds.laid below free))))
-    (λ (last : n ≤ k).
-    let same : k ≡ n = omega arith in
-    rw (le-ltb k n last, places) (subst (λ (j : ℕ). Holds (with_count (j + 1) (with_block 3132 j (block_of s.addresses e) old)) (with_entered 0 e s)) (sym same)
-    (holds_from (with_count (n + 1) (with_block 3132 n (block_of s.addresses e) old)) (with_entered 0 e s) valid (inserted_end old s e holds.laid holds.valid is may))))
-    (cases_lt k n)
-
--- ---- the block of a read-write id
-
-pub record IsOwn (image : List ℕ) (s : Location) (own : ℕ) : Type 0 where
-  pub below : block_of_id own (whole image) < blocks_in (whole image)
-  pub alone : IsAlone 3132 key (block_of s.addresses) s.entry (whole image) (blocks_in (whole image)) (block_of_id own (whole image)) own
-
-own_block : (image : List ℕ) (s : Location) (own k : ℕ) (f : VlEntry) → Holds image s → s.entry own ≡ Some f → k < blocks_in (whole image)
-    → has_id_in own (block_in 3132 (whole image) k) ≡ true → block_in 3132 (whole image) k ≡ block_of s.addresses f
-own_block image s own k f holds at below met =
-    let e = block_entry (whole image) s k holds.laid below (id_kind own (block_in 3132 (whole image) k) met) in
-    let has : has_id own e.0 ≡ true = sym (id_again s own e.0.rw e.0 image holds e.1.0) ∙ ap (has_id_in own) (sym e.1.1) ∙ met in
-    let own_f : has_id own f ≡ true = subst (λ (n : ℕ). has_id n f ≡ true) (holds.valid.ids own f at) (own_id f (holds.valid.records own f at)) in
-    let same : e.0.rw ≡ own = holds.valid.apart e.0.rw own own e.0 f e.1.0 at has own_f in
-    e.1.1 ∙ ap (block_of s.addresses) (some_same (sym e.1.0 ∙ ap s.entry same ∙ at))
-
-pub is_own : (image : List ℕ) (s : Location) (own : ℕ) (f : VlEntry) → Holds image s → s.entry own ≡ Some f → IsOwn image s own
-is_own image s own f holds at =
-    let old = whole image in
-    let n = blocks_in old in
-    let k = block_of_id own old in
-    let o = holds.laid.only own f at in
-    let own_f : has_id own f ≡ true = subst (λ (i : ℕ). has_id i f ≡ true) (holds.valid.ids own f at) (own_id f (holds.valid.records own f at)) in
-    let has : has_id_in own (block_in 3132 old o.0) ≡ true = ap (has_id_in own) o.2 ∙ id_again s own own f image holds at ∙ own_f in
-    let below : k < n = ⊎_elim
-    (λ (less : k < n). less)
-    (λ (last : n ≤ k).
-    let fails = first_not (λ j. has_id_in own (block_in 3132 old j)) 0 n o.0 (omega arith) (omega (arith, last, o.1)) in
-    not_true (has_id_in own (block_in 3132 old o.0)) has fails)
-    (cases_lt k n) in
-    let met : has_id_in own (block_in 3132 old k) ≡ true = first_met (λ j. has_id_in own (block_in 3132 old j)) 0 n (omega (arith, below)) in
-    let here = own_block image s own k f holds at below met in
-    let under : f.rw ≡ own = holds.valid.ids own f at in
-    record {
-      below = below;
-      alone = record {
-        here = λ less. inr (f, ap s.entry under ∙ at, here, under);
-        others = λ e other. (below, here ∙ ap (block_of s.addresses) (some_same (sym at ∙ other)));
-      };
-    }
-
--- ---- one entry less
-
-gone_blocks : (image : List ℕ) (s : Location) (own : ℕ) → Holds image s → IsOwn image s own
-    → IsStep 3132 (whole image) (with_block 3132 (block_of_id own (whole image)) (zeros 192) (whole image)) (blocks_in (whole image)) (block_of_id own (whole image)) (blocks_in (whole image)) (zeros 192)
-    → Blocks s.addresses (without_entry own s).entry (with_block 3132 (block_of_id own (whole image)) (zeros 192) (whole image)) (blocks_in (whole image))
-gone_blocks image s own holds of next =
-    let old = whole image in
-    let k = block_of_id own old in
-    blocks_set 3132 key (block_of s.addresses) IsRecord s.entry old (with_block 3132 k (zeros 192) old) (blocks_in old) k (blocks_in old) own (zeros 192) None
-    (form_of s.addresses) (map_of s holds.valid) (blocks_of_laid old s holds.laid) next of.alone (no_content s.addresses own)
-
-pub holds_removed : (image : List ℕ) (s : Location) (own : ℕ) (f : VlEntry) → Holds image s → s.entry own ≡ Some f → Holds (after_remove own image) (without_entry own s)
-unfolding after_remove
-holds_removed image s own f holds at =
-    let old = whole image in
-    let k = block_of_id own old in
-    let n = blocks_in old in
-    let of = is_own image s own f holds at in
-    let next = step_in old (zeros 192) k n holds.laid.size zeros_len of.below in
-    holds_from (with_block 3132 k (zeros 192) old) (without_entry own s) (location_without s own holds.valid)
-    (laid_from (with_block 3132 k (zeros 192) old) n (without_entry own s) next.put.size (next.put.front ∙ holds.laid.head ∙ head_without s own n)
-    (gone_blocks image s own holds of next))
-
--- ---- another entry in the place of one
-
--- a block that is laid in place of one that was just freed
-step_again : (old mid new block : List ℕ) (n k : ℕ) → IsStep 3132 old mid n k n (zeros 192) → IsPut 3132 k block old new n → IsStep 3132 mid new n k n block
-step_again old mid new block n k first put =
-    let count : block_count 3132 mid ≡ n = count_is 3132 mid n first.put.size in
-    record {
-      counted = count;
-      put = record {
-        size = put.size;
-        front = put.front ∙ sym first.put.front;
-        here = put.here;
-        others = λ j less other. put.others j (omega (arith, less, count, first.counted)) other ∙ sym (first.put.others j (omega (arith, less, count, first.counted)) other);
-      };
-      below = first.below;
-      kept = omega arith;
-      only = λ j less other. less;
-    }
-
-pub holds_replaced : (image : List ℕ) (s : Location) (own : ℕ) (e f : VlEntry) → Holds image s → IsRecord e → s.entry own ≡ Some f → MayEnter own e s
-    → Holds (after_replace own e image) (with_entered own e s)
-unfolding after_replace
-holds_replaced image s own e f holds is at may =
-    let old = whole image in
-    let k = block_of_id own old in
-    let n = blocks_in old in
-    let block = block_of s.addresses e in
-    let of = is_own image s own f holds at in
-    let mid = with_block 3132 k (zeros 192) old in
-    let first = step_in old (zeros 192) k n holds.laid.size zeros_len of.below in
-    let put = put_block 3132 old block k n holds.laid.size (length-block s.addresses e is) of.below in
-    let next = step_again old mid (with_block 3132 k block old) block n k first put in
-    let are = entered_blocks s own e mid (with_block 3132 k block old) n k n holds.valid is may (gone_blocks image s own holds of first) next (λ less. first.put.here) in
-    rw (places_of image s holds) (holds_from (with_block 3132 k block old) (with_entered own e s) (location_entered s own e holds.valid is may)
-    (laid_from (with_block 3132 k block old) n (with_entered own e s) put.size (put.front ∙ holds.laid.head ∙ head_entered s own e n) are))
-
 -- ---- other addresses of the places
 
 length-words_of : (xs : List ℕ) → length (words xs) ≡ 4 * length xs
 unfolding words
 length-words_of xs = length-words xs
 
-places_head : (s : Location) (new : List ℕ) (n : ℕ) → length s.addresses ≡ 255 → length new ≡ 255 → laid (head_of s n) 64 (words new) ≡ head_of (with_places new s) n
+places_head : (s : Location) (new : List ℕ) (n : ℕ) → length s.addresses ≡ 255 → length new ≡ 255
+    → laid (head_of s n) 64 (words new) ≡ head_of (with_places new s) n
 unfolding laid head_of words
 places_head s new n old_size new_size =
-    let numbers : List ℕ = flat_map word (0x564C4442 ∷ 1 ∷ s.next_volume ∷ n ∷ []) in
+    let numbers : List ℕ = flat_map word (0x564C4442 ∷ 1 ∷ s.next_volume ∷ []) ++ number_word n in
     let front : List ℕ = numbers ++ zeros 48 in
     let was : List ℕ = flat_map word s.addresses in
     let is : List ℕ = flat_map word new in
     let behind : List ℕ = zeros 2048 in
     let size : length front ≡ 64 = omega (arith, length-append numbers (zeros 48), length-zeros 48) in
-    let taken : take 64 ((front ++ was) ++ behind) ≡ front = ap (take 64) (append_assoc front was behind) ∙ take_at front (was ++ behind) 64 size in
+    let taken : take 64 ((front ++ was) ++ behind) ≡ front =
+    ap (take 64) (append_assoc front was behind) ∙ take_at front (was ++ behind) 64 size in
     let dropped : drop (64 + length is) ((front ++ was) ++ behind) ≡ behind =
-    drop_at (front ++ was) behind (64 + length is) (omega (arith, length-append front was, length-words s.addresses, length-words new)) in
-    ap (λ (x : List ℕ). (x ++ is) ++ drop (64 + length is) ((front ++ was) ++ behind)) taken ∙ ap (λ (x : List ℕ). (front ++ is) ++ x) dropped
+    drop_at (front ++ was) behind (64 + length is)
+    (omega (arith, length-append front was, length-words s.addresses, length-words new)) in
+    ap (λ (x : List ℕ). (x ++ is) ++ drop (64 + length is) ((front ++ was) ++ behind)) taken
+    ∙ ap (λ (x : List ℕ). (front ++ is) ++ x) dropped
 
-pub holds_places : (image : List ℕ) (s : Location) (new : List ℕ) → Holds image s → MayBePlaces new s → Holds (after_set_places new image) (with_places new s)
+mapped : (f : VlEntry → VlEntry) (o : Option VlEntry) (y : VlEntry) → option_map f o ≡ Some y → (e : VlEntry) × (o ≡ Some e) × (y ≡ f e)
+mapped f None y is = absurd cc
+mapped f (Some e) y is = (e, refl, sym (some_same is))
+
+places_reads : (s : Location) (new : List ℕ) → IsLocation s → MayBePlaces new s → ReadsAs s (with_places new s) (relocated s.addresses new)
+places_reads s new valid may = record {
+  own = λ e. refl;
+  name = λ e. refl;
+  ids = λ kind e. refl;
+  there = λ rw_id e at. ap (option_map (relocated s.addresses new)) at;
+  back = λ rw_id y at. mapped (relocated s.addresses new) (s.entry rw_id) y at;
+  form = λ rw_id e at. same_block s new rw_id e valid may at;
+}
+
+pub holds_places : (image : List ℕ) (s : Location) (new : List ℕ) → Holds image s → MayBePlaces new s
+    → Holds (after_set_places new image) (with_places new s)
 unfolding after_set_places
 holds_places image s new holds may =
     let old = whole image in
-    let n = blocks_in old in
     let made = changed old (Put 64 (words new)) in
-    let put = head_put 3132 old (words new) (head_of s n) (head_of (with_places new s) n) 64 n holds.laid.size (omega (arith, length-words_of new, may.places)) holds.laid.head
-    (places_head s new n holds.valid.places may.places) in
-    holds_from made (with_places new s) (location_places s new holds.valid may)
-    (laid_from made n (with_places new s) (put.size ∙ holds.laid.size) put.front
-    (blocks_read 3132 key (block_of s.addresses) (block_of new) (relocated s.addresses new) s.entry (with_places new s).entry made n (λ e. refl) (λ id. refl)
-    (λ id e at. same_block s new id e holds.valid may at)
-    (blocks_same 3132 key (block_of s.addresses) s.entry old made n put.others (blocks_of_laid old s holds.laid))))
+    let t = with_places new s in
+    let len : length (words new) ≡ 1020 = omega (arith, length-words_of new, may.places) in
+    holds_from made t (location_places s new holds.valid may)
+    (head_laid old made s t (relocated s.addresses new) (places_reads s new holds.valid may) holds.laid
+    (head_set old s (words new) 64 (head_of t (blocks_in old)) holds.laid (inr (omega arith)) (omega arith)
+    (places_head s new (blocks_in old) holds.valid.places may.places)))

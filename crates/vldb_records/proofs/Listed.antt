@@ -1,5 +1,5 @@
 -- What a scan for listed entries found is what the database has.
-use Rattle.std.proofs.Common.{◌≡◌, ℕ, zero, suc, ◌+◌, ◌<◌, ◌≤◌, Bool, true, eqb, ltb, List, [], ◌∷◌, Option, Some, None, IfSome, Result, Ok, Err, IfErr, length, map, take, refl, sym, ap, subst, ◌∙◌, inl, arith}
+use Rattle.std.proofs.Common.{◌≡◌, ℕ, zero, suc, ◌+◌, ◌^◌, ◌<◌, ◌≤◌, Bool, true, eqb, ltb, List, [], ◌∷◌, Option, Some, None, IfSome, Result, Ok, Err, IfErr, length, map, take, refl, sym, ap, subst, ◌∙◌, inl, arith}
 use Rattle.std.specs.List.{AllByRecursion}
 use Rattle.std.proofs.lemmas.Bool.{and_from, and_parts, eqb-true, false_from_ne_true, lt-ltb, ltb-true}
 use Rattle.db_blocks.specs.Ascending.{AreGood, ascending, first_blocks, numbers_met}
@@ -8,20 +8,39 @@ use Rattle.db_image.specs.declared.faults.RecordFault.TheVariants.{DiskFault, Ba
 use Rattle.db_blocks.specs.Blocks.{IsWhole}
 use Rattle.db_blocks.specs.Ends.{HasCause}
 use Rattle.db_blocks.proofs.Order.{AreApart, IsOrder, order_behind, order_least, order_of}
-use Rattle.vldb_records.specs.declared.entries.VlEntry.{VlEntry}
+use Rattle.vldb_entries.specs.declared.entries.VlEntry.{VlEntry}
 use Rattle.vldb_records.specs.declared.listings.Listing.{Listing}
 use Rattle.vldb_records.specs.Listing.{AreListed, IsNextListed, is_listed, is_listed_above, is_listed_in, rw_in}
-use Rattle.vldb_records.specs.Location.{Location, IsSmall, first_location}
-use Rattle.vldb_records.specs.Records.{Holds, block_at, block_of, blocks_in, entry_in, kind_of, whole}
-use Rattle.vldb_records.proofs.EntryAgain.{entry_again, kind_again, rw_again}
-use Rattle.vldb_records.proofs.HeadRead.{length-head, whole_empty}
-use Rattle.vldb_records.proofs.Lookups.{block_entry, entry_small}
+use Rattle.vldb_entries.specs.Location.{Location, IsSmall, first_location}
+use Rattle.vldb_entries.specs.Forms.{block_at, block_of, blocks_in, entry_in, kind_of, whole}
+use Rattle.vldb_records.specs.Records.{Holds, unlinked}
+use Rattle.vldb_entries.proofs.EntryAgain.{entry_again, entry_small, kind_again, rw_again}
+use Rattle.vldb_entries.proofs.HeadRead.{length-head, whole_empty}
+use Rattle.vldb_records.proofs.Fields.{block_len, entry_stays, number_stays}
+use Rattle.vldb_records.proofs.Lookups.{block_entry}
+
+-- a block is listed as it is without its words of chains
+listed_stays : (l : Listing) (after : ℕ) (addresses block : List ℕ) → length block ≡ 192
+    → is_listed_in l after addresses block ≡ is_listed_in l after addresses (unlinked block)
+listed_stays l after addresses block size =
+    rw (number_stays block 0 size (omega arith), entry_stays addresses block size) refl
 
 -- an entry's block is listed as the entry is
-listed_again : (s : Location) (l : Listing) (after rw_id : ℕ) (e : VlEntry) (image : List ℕ) → Holds image s → s.entry rw_id ≡ Some e
-    → is_listed_in l after s.addresses (block_of s.addresses e) ≡ is_listed_above l after e
-listed_again s l after rw_id e image holds at =
-    rw (kind_again s.addresses e, entry_again s.addresses e (holds.valid.records rw_id e at) (holds.valid.hosts rw_id e at)) refl
+listed_again : (s : Location) (l : Listing) (after rw_id k : ℕ) (e : VlEntry) (image : List ℕ) → Holds image s → s.entry rw_id ≡ Some e
+    → k < blocks_in (whole image) → unlinked (block_at (whole image) k) ≡ block_of s.addresses e
+    → is_listed_in l after s.addresses (block_at (whole image) k) ≡ is_listed_above l after e
+listed_again s l after rw_id k e image holds at below is =
+    listed_stays l after s.addresses (block_at (whole image) k) (block_len (whole image) k holds.laid.size below)
+    ∙ ap (is_listed_in l after s.addresses) is
+    ∙ rw (kind_again s.addresses e, entry_again s.addresses e (holds.valid.records rw_id e at) (holds.valid.hosts rw_id e at)) refl
+
+-- the read-write id in an entry's block
+rw_there : (s : Location) (k : ℕ) (e : VlEntry) (image : List ℕ) → Holds image s → e.rw < 2 ^ 32
+    → k < blocks_in (whole image) → unlinked (block_at (whole image) k) ≡ block_of s.addresses e
+    → rw_in (block_at (whole image) k) ≡ e.rw
+rw_there s k e image holds low below is =
+    number_stays (block_at (whole image) k) 8 (block_len (whole image) k holds.laid.size below) (omega arith)
+    ∙ ap rw_in is ∙ rw_again s.addresses e low
 
 -- the scan's test and key of a block
 abbrev test_of : Location → Listing → (after : ℕ) → List ℕ → ℕ → Bool
@@ -46,16 +65,16 @@ block_found image s l after rw_id f holds at more listed =
       o.0,
       record {
         below = o.1;
-        meets = ap (is_listed_in l after s.addresses) o.2 ∙ listed_again s l after rw_id f image holds at
+        meets = listed_again s l after rw_id o.0 f image holds at o.1 o.2.1
             ∙ and_from (ltb after f.rw) (is_listed l f) (lt-ltb after f.rw (omega (arith, own, more))) listed;
-        key = ap rw_in o.2 ∙ rw_again s.addresses f (omega (arith, valid.rw)) ∙ own;
+        key = rw_there s o.0 f image holds (omega (arith, valid.rw)) o.1 o.2.1 ∙ own;
       },
     )
 
 -- the entry that is read of a block is the database's
 record IsRead (s : Location) (l : Listing) (after : ℕ) (image : List ℕ) (k : ℕ) (e : VlEntry) : Type 0 where
   there : s.entry e.rw ≡ Some e
-  block : block_at (whole image) k ≡ block_of s.addresses e
+  block : unlinked (block_at (whole image) k) ≡ block_of s.addresses e
   key : key_of image k ≡ e.rw
   above : after < e.rw
   listed : is_listed l e ≡ true
@@ -69,14 +88,16 @@ read_at image s l after k holds below met =
     (entry_in s.addresses block)) met).0 in
     let o = block_entry (whole image) s k holds.laid below kind in
     let valid = holds.valid.records o.0.rw o.0 o.1.0 in
-    let same : entry_in s.addresses block ≡ o.0 = ap (entry_in s.addresses) o.1.1
+    let size = block_len (whole image) k holds.laid.size below in
+    let same : entry_in s.addresses block ≡ o.0 =
+    entry_stays s.addresses block size ∙ ap (entry_in s.addresses) o.1.1
     ∙ entry_again s.addresses o.0 valid (holds.valid.hosts o.0.rw o.0 o.1.0) in
-    let is = sym (listed_again s l after o.0.rw o.0 image holds o.1.0) ∙ ap (is_listed_in l after s.addresses) (sym o.1.1) ∙ met in
+    let is = sym (listed_again s l after o.0.rw k o.0 image holds o.1.0 below o.1.1) ∙ met in
     let parts = and_parts (ltb after o.0.rw) (is_listed l o.0) is in
     subst (λ (x : VlEntry). IsRead s l after image k x) (sym same) (record {
       there = o.1.0;
       block = o.1.1;
-      key = ap rw_in o.1.1 ∙ rw_again s.addresses o.0 (omega (arith, valid.rw));
+      key = rw_there s k o.0 image holds (omega (arith, valid.rw)) below o.1.1;
       above = ltb-true after o.0.rw parts.0;
       listed = parts.1;
     })

@@ -1,5 +1,5 @@
+pub mod Changes
 pub mod Ends
 pub mod Listing
-pub mod Location
 pub mod Records
 pub mod Sought

@@ -1,13 +1,13 @@
 -- Which entries a listing names.
 use Rattle.std.specs.Prelude.{ℕ, zero, suc, ◌≡◌, ◌<◌, ◌≤◌, ◌==◌, ◌&&◌, ◌||◌, Bool, true, false, not, nat_lt, List, [], ◌∷◌, Option, Some, None}
 use Rattle.std.specs.List.{list_any}
-use Rattle.vldb_records.specs.declared.entries.VlEntry.{VlEntry}
-use Rattle.vldb_records.specs.declared.entries.VlSite.{VlSite}
+use Rattle.vldb_entries.specs.declared.entries.VlEntry.{VlEntry}
+use Rattle.vldb_entries.specs.declared.entries.VlSite.{VlSite}
 use Rattle.vldb_records.specs.declared.listings.Listing.{Listing}
 use Rattle.db_blocks.specs.Blocks.{word_at}
-use Rattle.vldb_records.specs.declared.layout.TheConstants.{RW_AT}
-use Rattle.vldb_records.specs.Location.{Location}
-use Rattle.vldb_records.specs.Records.{entry_in, kind_of}
+use Rattle.vldb_entries.specs.declared.layout.TheConstants.{RW_AT}
+use Rattle.vldb_entries.specs.Location.{Location}
+use Rattle.vldb_entries.specs.Forms.{entry_in, kind_of}
 
 -- on a partition, none for any
 abbrev pub is_on : Option ℕ → VlSite → Bool

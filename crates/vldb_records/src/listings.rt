@@ -1,24 +1,27 @@
 //! Entries, found by where they lie and whether they are locked.
-ghost use Rattle.std.specs.Prelude.{◌≡◌, ◌+◌, ◌<◌, ◌≤◌, ◌^◌, ℕ, Bool, List, IfSome, IfOk, IfErr, IsErrOf, length, map, min, not, ◌==◌};
+ghost use Rattle.std.specs.Prelude.{◌≡◌, ◌+◌, ◌*◌, ◌<◌, ◌≤◌, ◌^◌, ℕ, Bool, List, IfSome, IfOk, IfErr, IsErrOf, length, map, min, not, ◌==◌};
 ghost use Rattle.std.specs.List.{AllByRecursion, list_any, range_with_len};
 ghost use Rattle.db_blocks.specs.Ascending.{first_blocks};
 ghost use Rattle.db_blocks.specs.Blocks.{word_at};
 ghost use Rattle.db_blocks.specs.Ends.{OnlyLooks};
+ghost use Rattle.db_blocks.specs.declared.blocks.TheConstants.{BLOCK_LEN};
+ghost use Rattle.db_chains.specs.Ends.{CostsAtMost};
 ghost use Rattle.vldb_records.specs.Ends.{HasItsCause};
 ghost use Rattle.vldb_records.specs.Listing.{AreListed, is_listed_in, is_listed_site, is_on, rw_in};
-ghost use Rattle.vldb_records.specs.Location.{Location, IsSmall};
-ghost use Rattle.vldb_records.specs.Records.{Holds, entry_in, kind_of, site_in, whole};
-ghost use Rattle.vldb_records.specs.declared.layout.TheConstants.{COUNT_AT, HEAD_LEN, RW_AT, SITES_FIELD};
+ghost use Rattle.vldb_entries.specs.Location.{Location, IsSmall};
+ghost use Rattle.vldb_entries.specs.Forms.{entry_in, kind_of, site_in, whole};
+ghost use Rattle.vldb_records.specs.Records.{Holds};
+ghost use Rattle.vldb_entries.specs.declared.layout.TheConstants.{ADDRESSES_LEN, COUNT_AT, HEAD_LEN, RW_AT, SITES_FIELD};
 
-use crate::blocks::{entry_in, kind_of, site_in};
-use crate::entries::{VlEntry, VlSite};
-use crate::forms::ENTRY;
 use crate::heads::addresses;
-use crate::layout::{COUNT_AT, HEAD_LEN, LOCK_OP_AT, PLACES, RW_AT, SITES_FIELD};
 use db_blocks::{Block, Keyed, scan_first, word_at};
 use db_image::{Draft, ImageRead, RecordFault};
 use std::alloc::Global;
 use ubik_types::NoMemory;
+use vldb_entries::{
+    COUNT_AT, ENTRY, HEAD_LEN, LOCK_OP_AT, PLACES, RW_AT, SITES_FIELD, VlEntry, VlSite, entry_in,
+    kind_of, site_in,
+};
 
 /// Which entries are listed: those with a site of a server on a partition.
 #[derive(Clone, Copy)]
@@ -83,7 +86,7 @@ impl<'a> Keyed for Listed<'a> {
         true
     }
 
-    #[tactic(auto, unfolding(crate::specs::Records::entry_in))]
+    #[tactic(auto, unfolding(vldb_entries::specs::Forms::entry_in))]
     fn is_met(&self, block: &Block) -> bool {
         kind_of(block) == ENTRY
             && (self.after < word_at(block, RW_AT)
@@ -109,6 +112,7 @@ fn find_listed<I: ImageRead>(
     ensures few { IfOk result (λ blocks. length blocks.items ≤ most) }
     ensures fault { IfErr result (HasItsCause d.old.bytes) }
     ensures frame { OnlyLooks I.ImageRead d.old d.new (IsErrOf result RecordFault.DiskFault) }
+    ensures cost { CostsAtMost I.ImageRead (d.old.len + BLOCK_LEN * most) d.old d.new }
 {
     if d.len() == 0 {
         return Ok(Vec::new(alloc));
@@ -132,7 +136,8 @@ fn entries_in(
     Ok(entries)
 }
 
-/// The first so many listed entries with a read-write id above one, ascending by it.
+/// The first so many listed entries with a read-write id above one, ascending by it, in one pass over the blocks: it asks for the addresses, for
+/// each byte of the image once, and for the blocks that it lists.
 pub fn first_listed<I: ImageRead>(
     alloc: Global,
     d: &mut Draft<I>,
@@ -146,6 +151,7 @@ pub fn first_listed<I: ImageRead>(
     ensures few { IfOk result (λ found. length found.items ≤ most) }
     ensures fault { IfErr result (HasItsCause d.old.bytes) }
     ensures frame { OnlyLooks I.ImageRead d.old d.new (IsErrOf result RecordFault.DiskFault) }
+    ensures cost { CostsAtMost I.ImageRead (ADDRESSES_LEN + d.old.len + BLOCK_LEN * most) d.old d.new }
 {
     let addresses = addresses(d)?;
     let wanted = Listed {

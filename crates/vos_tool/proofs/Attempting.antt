@@ -44,21 +44,26 @@ ran_attempts m s s1 e e1 (Err WriteFault) ran = absurd ran.quiet
 ran_attempts m s s1 e e1 (Err NoMemory) ran = record { went = broke_attempts m s e e1 ran.went; quiet = tt }
 
 -- the lock was released, or that was tried
-pub ran_gives_up : (id : ℕ) (why : Refusal) (s s1 : Asker) (e e1 : List Exchange) (r : Result (Unit {0}) Stop) → Ran (releases_lock id) s s1 e e1 r
+pub ran_gives_up : (id : ℕ) (why : Refusal) (s s1 : Asker) (e e1 : List Exchange) (r : Result (Unit {0}) Stop)
+    → Ran (releases_lock id) s s1 e e1 r
     → r ≢ Err NoMemory → Ran (gives_up id why) s s1 e e1 (Err (Refused why))
 unfolding gives_up
 ran_gives_up id why s s1 e e1 (Ok x) ran some =
     let end : Result (Unit {0}) Stop = Ok x in
-    ran_then (λ (any : Result (Unit {0}) Stop). stops (Refused why)) end refl (ran_attempts (releases_lock id) s s1 e e1 end ran) (ran_still s1 e1 (Err (Refused why)) tt)
+    ran_then (λ (any : Result (Unit {0}) Stop). stops (Refused why)) end refl (ran_attempts (releases_lock id) s s1 e e1 end ran)
+    (ran_still s1 e1 (Err (Refused why)) tt)
 ran_gives_up id why s s1 e e1 (Err (Refused other)) ran some =
     let end : Result (Unit {0}) Stop = Err (Refused other) in
-    ran_then (λ (any : Result (Unit {0}) Stop). stops (Refused why)) end refl (ran_attempts (releases_lock id) s s1 e e1 end ran) (ran_still s1 e1 (Err (Refused why)) tt)
+    ran_then (λ (any : Result (Unit {0}) Stop). stops (Refused why)) end refl (ran_attempts (releases_lock id) s s1 e e1 end ran)
+    (ran_still s1 e1 (Err (Refused why)) tt)
 ran_gives_up id why s s1 e e1 (Err NoServer) ran some =
     let end : Result (Unit {0}) Stop = Err NoServer in
-    ran_then (λ (any : Result (Unit {0}) Stop). stops (Refused why)) end refl (ran_attempts (releases_lock id) s s1 e e1 end ran) (ran_still s1 e1 (Err (Refused why)) tt)
+    ran_then (λ (any : Result (Unit {0}) Stop). stops (Refused why)) end refl (ran_attempts (releases_lock id) s s1 e e1 end ran)
+    (ran_still s1 e1 (Err (Refused why)) tt)
 ran_gives_up id why s s1 e e1 (Err OutcomeUnknown) ran some =
     let end : Result (Unit {0}) Stop = Err OutcomeUnknown in
-    ran_then (λ (any : Result (Unit {0}) Stop). stops (Refused why)) end refl (ran_attempts (releases_lock id) s s1 e e1 end ran) (ran_still s1 e1 (Err (Refused why)) tt)
+    ran_then (λ (any : Result (Unit {0}) Stop). stops (Refused why)) end refl (ran_attempts (releases_lock id) s s1 e e1 end ran)
+    (ran_still s1 e1 (Err (Refused why)) tt)
 ran_gives_up id why s s1 e e1 (Err WriteFault) ran some = absurd ran.quiet
 ran_gives_up id why s s1 e e1 (Err NoMemory) ran some = absurd (some refl)
 
@@ -66,18 +71,21 @@ pub short_gives_up : (id : ℕ) (why : Refusal) (s s1 : Asker) (e e1 : List Exch
     → Ran (gives_up id why) s s1 e e1 (Err NoMemory)
 unfolding gives_up
 short_gives_up id why s s1 e e1 ran =
-    ran_stops (λ (any : Result (Unit {0}) Stop). stops (Refused why)) NoMemory refl (ran_attempts (releases_lock id) s s1 e e1 (Err NoMemory) ran)
+    ran_stops (λ (any : Result (Unit {0}) Stop). stops (Refused why)) NoMemory refl
+    (ran_attempts (releases_lock id) s s1 e e1 (Err NoMemory) ran)
 
 abbrev replace_call : ℕ → GivenEntry → Course (Unit {0})
 replace_call id given = asks_done (call.ReplaceEntry id any_type given WHOLE_LOCK)
 
 -- the entry was replaced
-pub ran_replaced : (id : ℕ) (given : GivenEntry) (s s1 : Asker) (e e1 : List Exchange) (x : Unit {0}) → Ran (replace_call id given) s s1 e e1 (Ok x)
+pub ran_replaced : (id : ℕ) (given : GivenEntry) (s s1 : Asker) (e e1 : List Exchange) (x : Unit {0})
+    → Ran (replace_call id given) s s1 e e1 (Ok x)
     → Ran (replaces id given) s s1 e e1 (Ok x)
 unfolding replaces
 ran_replaced id given s s1 e e1 x ran =
     let end : Result (Unit {0}) Stop = Ok x in
-    ran_then (λ (any : Result (Unit {0}) Stop). after_replace id any) end refl (ran_attempts (replace_call id given) s s1 e e1 end ran) (ran_still s1 e1 (Ok x) tt)
+    ran_then (λ (any : Result (Unit {0}) Stop). after_replace id any) end refl (ran_attempts (replace_call id given) s s1 e e1 end ran)
+    (ran_still s1 e1 (Ok x) tt)
 
 -- that was refused
 pub ran_refused : (id : ℕ) (given : GivenEntry) (s s1 s2 : Asker) (e e1 e2 : List Exchange) (why : Refusal) (r : Result (Unit {0}) Stop)
@@ -85,19 +93,24 @@ pub ran_refused : (id : ℕ) (given : GivenEntry) (s s1 s2 : Asker) (e e1 e2 : L
 unfolding replaces
 ran_refused id given s s1 s2 e e1 e2 why r ran given_up =
     let end : Result (Unit {0}) Stop = Err (Refused why) in
-    ran_then (λ (any : Result (Unit {0}) Stop). after_replace id any) end refl (ran_attempts (replace_call id given) s s1 e e1 end ran) given_up
+    ran_then (λ (any : Result (Unit {0}) Stop). after_replace id any) end refl
+    (ran_attempts (replace_call id given) s s1 e e1 end ran) given_up
 
 -- it ended otherwise
-pub ran_unreplaced : (id : ℕ) (given : GivenEntry) (s s1 : Asker) (e e1 : List Exchange) (why : Stop) → Ran (replace_call id given) s s1 e e1 (Err why)
+pub ran_unreplaced : (id : ℕ) (given : GivenEntry) (s s1 : Asker) (e e1 : List Exchange) (why : Stop)
+    → Ran (replace_call id given) s s1 e e1 (Err why)
     → ((refusal : Refusal) → why ≡ Refused refusal → ⊥) → Ran (replaces id given) s s1 e e1 (Err why)
 unfolding replaces
 ran_unreplaced id given s s1 e e1 (Refused refusal) ran other = absurd (other refusal refl)
 ran_unreplaced id given s s1 e e1 NoServer ran other =
     let end : Result (Unit {0}) Stop = Err NoServer in
-    ran_then (λ (any : Result (Unit {0}) Stop). after_replace id any) end refl (ran_attempts (replace_call id given) s s1 e e1 end ran) (ran_still s1 e1 (Err NoServer) tt)
+    ran_then (λ (any : Result (Unit {0}) Stop). after_replace id any) end refl (ran_attempts (replace_call id given) s s1 e e1 end ran)
+    (ran_still s1 e1 (Err NoServer) tt)
 ran_unreplaced id given s s1 e e1 OutcomeUnknown ran other =
     let end : Result (Unit {0}) Stop = Err OutcomeUnknown in
-    ran_then (λ (any : Result (Unit {0}) Stop). after_replace id any) end refl (ran_attempts (replace_call id given) s s1 e e1 end ran) (ran_still s1 e1 (Err OutcomeUnknown) tt)
+    ran_then (λ (any : Result (Unit {0}) Stop). after_replace id any) end refl (ran_attempts (replace_call id given) s s1 e e1 end ran)
+    (ran_still s1 e1 (Err OutcomeUnknown) tt)
 ran_unreplaced id given s s1 e e1 WriteFault ran other = absurd ran.quiet
 ran_unreplaced id given s s1 e e1 NoMemory ran other =
-    ran_stops (λ (any : Result (Unit {0}) Stop). after_replace id any) NoMemory refl (ran_attempts (replace_call id given) s s1 e e1 (Err NoMemory) ran)
+    ran_stops (λ (any : Result (Unit {0}) Stop). after_replace id any) NoMemory refl
+    (ran_attempts (replace_call id given) s s1 e e1 (Err NoMemory) ran)

@@ -4,8 +4,8 @@ use Rattle.std.specs.List.{list_all}
 use Rattle.std.proofs.lemmas.Bool.Decides.{nat_tests}
 use Rattle.vl_calls.specs.Entries.{IsGiven}
 use Rattle.vl_calls.specs.declared.calls.GivenEntry.{GivenEntry}
-use Rattle.vldb_records.specs.declared.entries.VlEntry.{VlEntry}
-use Rattle.vldb_records.specs.declared.entries.VlSite.{VlSite}
+use Rattle.vldb_entries.specs.declared.entries.VlEntry.{VlEntry}
+use Rattle.vldb_entries.specs.declared.entries.VlSite.{VlSite}
 use Rattle.vos_tool.specs.Adding.{new_entry}
 use Rattle.vos_tool.specs.Answers.{IsEntry, is_site}
 use Rattle.vos_tool.specs.Changing.{entry_with}

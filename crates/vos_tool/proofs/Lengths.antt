@@ -10,16 +10,28 @@ use Rattle.vl_calls.specs.Entries.{IsGiven, given_text, site_text}
 use Rattle.vl_calls.specs.declared.calls.GivenEntry.{GivenEntry}
 use Rattle.vl_calls.specs.declared.calls.VlCall.{VlCall}
 use Rattle.vl_calls.specs.declared.calls.VlCall.TheVariants as call
-use Rattle.vldb_records.specs.declared.entries.VlSite.{VlSite}
+use Rattle.vldb_entries.specs.declared.entries.VlSite.{VlSite}
 
 opaque_len : (bytes : List ℕ) → length (opaque bytes) ≤ length bytes + 7
 opaque_len bytes =
     let n = length bytes in
-    omega (arith, length-append (word n ++ bytes) (replicate (padding n) 0), length-append (word n) bytes, length-replicate {A = ℕ} (padding n) 0)
+    omega (
+      arith,
+      length-append (word n ++ bytes) (replicate (padding n) 0),
+      length-append (word n) bytes,
+      length-replicate {A = ℕ}
+          (padding n) 0,
+    )
 
 site_len : (site : VlSite) → length (site_text xdr_text site) ≤ 12
 unfolding site_text
-site_len site = omega (arith, length-append (word site.host ++ word site.partition) (word site.flags), length-append (word site.host) (word site.partition))
+site_len site =
+    omega (
+      arith,
+      length-append (word site.host ++ word site.partition) (word site.flags),
+      length-append (word site.host)
+          (word site.partition),
+    )
 
 sites_len : (sites : List VlSite) → length (flat_map (site_text xdr_text) sites) ≤ 12 * length sites
 sites_len [] = omega arith

@@ -38,7 +38,8 @@ place_is p s i j is =
     ap (λ (n : ℕ). to n p.partition) (or_else (address_at s i) p.host 0 is.0)
     ∙ ap (λ (n : ℕ). to (host_at s i) n) (or_else (partition_at s j) p.partition 0 is.1)
 
-filter_is : (f : SiteFilter) (s : List Slot) (i j : ℕ) → IsFilter f s i j → f ≡ record { server = address_at s i; partition = partition_at s j }
+filter_is : (f : SiteFilter) (s : List Slot) (i j : ℕ) → IsFilter f s i j
+    → f ≡ record { server = address_at s i; partition = partition_at s j }
 filter_is f s i j is =
     let to : Option ℕ → Option ℕ → SiteFilter = λ server partition. record { server = server; partition = partition } in
     ap (λ (o : Option ℕ). to o f.partition) is.0 ∙ ap (λ (o : Option ℕ). to (address_at s i) o) is.1
@@ -109,7 +110,8 @@ low_within : (low high : ℕ) (found : Option ℕ)
 low_within low high None = tt
 low_within low high (Some n) = tested (leb low n && leb n high) n high (leb low n) refl
 
-low_new : (s : List Slot) (i : ℕ) (word : Option (List ℕ)) → IfSome (option_and_then (number_within 1 2147483645) word) (λ n. n ≤ 2147483645)
+low_new : (s : List Slot) (i : ℕ) (word : Option (List ℕ))
+    → IfSome (option_and_then (number_within 1 2147483645) word) (λ n. n ≤ 2147483645)
 low_new s i None = tt
 low_new s i (Some word) = low_within 1 2147483645 (number_of word)
 

@@ -22,11 +22,13 @@ short name course low = rw (is_low (length name) low) refl
 long : {A : Type 0} (name : List ℕ) (course : Course A) → 255 < length name → stops (Refused Malformed) ≡ if_callable name course
 long name course high = rw (is_high (length name) high) refl
 
-pub ran_short : {A : Type 0} (name : List ℕ) (course : Course A) (s s1 : Asker) (e e1 : List Exchange) (r : Result A Stop) → length name ≤ 255
+pub ran_short : {A : Type 0} (name : List ℕ) (course : Course A) (s s1 : Asker) (e e1 : List Exchange) (r : Result A Stop)
+    → length name ≤ 255
     → Ran course s s1 e e1 r → Ran (if_callable name course) s s1 e e1 r
 ran_short name course s s1 e e1 r low ran = ran_as course (if_callable name course) (short name course low) ran
 
 pub ran_long : {A : Type 0} (name : List ℕ) (course : Course A) (s : Asker) (e : List Exchange) → 255 < length name
     → Ran (if_callable name course) s s e e (Err (Refused Malformed))
 ran_long {A = A} name course s e high =
-    ran_as (stops {A = A} (Refused Malformed)) (if_callable name course) (long name course high) (ran_still s e (Err (Refused Malformed)) tt)
+    ran_as (stops {A = A} (Refused Malformed)) (if_callable name course) (long name course high)
+    (ran_still s e (Err (Refused Malformed)) tt)

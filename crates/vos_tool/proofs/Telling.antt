@@ -18,7 +18,8 @@ started : (item : Course (List ℕ)) (s : Asker) (e : List Exchange) (out : Opti
 started item s e out = under_start (course_of item) s e out
 
 -- its calls came to no text
-pub told_end : (item : Course (List ℕ)) (s s1 : Asker) (e e1 : List Exchange) (out : Option (List ℕ)) (why : Stop) (r : Result (Unit {0}) Stop)
+pub told_end : (item : Course (List ℕ)) (s s1 : Asker) (e e1 : List Exchange) (out : Option (List ℕ)) (why : Stop)
+    (r : Result (Unit {0}) Stop)
     → Ran item s s1 e e1 (Err why) → IsErrAnd r (λ (x : Stop). x ≡ why) → ToldSome (course_of item) s e e1 out out r
 told_end item s s1 e e1 out why r ran end = record {
   now = s1;
@@ -26,7 +27,8 @@ told_end item s s1 e e1 out why r ran end = record {
 }
 
 -- the text was written, or a front of it
-pub told_text : (item : Course (List ℕ)) (s s1 : Asker) (e e1 : List Exchange) (out out1 : Option (List ℕ)) (text : List ℕ) (r : Result (Unit {0}) Stop)
+pub told_text : (item : Course (List ℕ)) (s s1 : Asker) (e e1 : List Exchange) (out out1 : Option (List ℕ)) (text : List ℕ)
+    (r : Result (Unit {0}) Stop)
     → Ran item s s1 e e1 (Ok text) → Says r out out1 text → ToldSome (course_of item) s e e1 out out1 r
 told_text item s s1 e e1 out out1 text (Ok x) ran says_so = record {
   now = s1;

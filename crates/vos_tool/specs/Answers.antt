@@ -1,8 +1,8 @@
 -- What counts as an answer to a call. The limits are those of the location database (own).
 use Rattle.std.specs.Prelude.{◌≡◌, ℕ, ◌+◌, ◌&&◌, nat_le, nat_lt, Bool, true, if◌then◌else◌, List, [], ◌∷◌, length, Option, Some, None, option_and_then}
 use Rattle.std.specs.List.{list_all}
-use Rattle.vldb_records.specs.declared.entries.VlEntry.{VlEntry}
-use Rattle.vldb_records.specs.declared.entries.VlSite.{VlSite}
+use Rattle.vldb_entries.specs.declared.entries.VlEntry.{VlEntry}
+use Rattle.vldb_entries.specs.declared.entries.VlSite.{VlSite}
 use Rattle.vl_calls.specs.declared.answers.AnswerKind.TheVariants as tells
 use Rattle.vl_calls.specs.declared.answers.VlAnswer.{VlAnswer}
 use Rattle.vl_calls.specs.declared.answers.VlAnswer.TheVariants as answer

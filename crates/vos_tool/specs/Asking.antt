@@ -3,7 +3,7 @@ use Rattle.std.specs.Prelude.{ℕ, List, Option}
 use Rattle.vl_calls.specs.Calls.{call_kind, spelling}
 use Rattle.vl_calls.specs.declared.calls.VlCall.{VlCall}
 use Rattle.vl_calls.specs.Writes.{is_write}
-use Rattle.vldb_records.specs.declared.entries.VlEntry.{VlEntry}
+use Rattle.vldb_entries.specs.declared.entries.VlEntry.{VlEntry}
 use Rattle.tool_base.specs.Asking.{asks_call}
 use Rattle.tool_base.specs.Course.{Course}
 use Rattle.vos_tool.specs.Answers.{done_in, entry_in, hosts_in, id_in, page_in}

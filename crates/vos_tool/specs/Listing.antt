@@ -7,7 +7,7 @@ use Rattle.afs_commands.specs.declared.places.Style.{Style}
 use Rattle.vl_calls.specs.declared.calls.VlCall.{VlCall}
 use Rattle.vl_calls.specs.declared.calls.VlCall.TheVariants as call
 use Rattle.vl_calls.specs.declared.limits.TheConstants.{MAX_PAGE}
-use Rattle.vldb_records.specs.declared.entries.VlEntry.{VlEntry}
+use Rattle.vldb_entries.specs.declared.entries.VlEntry.{VlEntry}
 use Rattle.tool_base.specs.Course.{◌>>=◌, Course, gives}
 use Rattle.tool_base.specs.Texts.{joined}
 use Rattle.vos_tool.specs.Asking.{asks_page}

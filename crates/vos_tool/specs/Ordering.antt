@@ -2,7 +2,7 @@
 use Rattle.std.specs.Prelude.{Bool, if◌then◌else◌, List, [], ◌∷◌}
 use Rattle.std.specs.Cmp.Lexicographic.{slice_cmp}
 use Rattle.std.specs.Ordering.{is_lt, nat_cmp}
-use Rattle.vldb_records.specs.declared.entries.VlEntry.{VlEntry}
+use Rattle.vldb_entries.specs.declared.entries.VlEntry.{VlEntry}
 
 -- an element goes behind those that come before it, and before all others
 unfoldable pub put_in : {X : Type 0} → (X → X → Bool) → X → List X → List X

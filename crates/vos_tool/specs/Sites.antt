@@ -1,6 +1,6 @@
 -- Sites of an entry, added, taken away and moved.
 use Rattle.std.specs.Prelude.{ℕ, ◌==◌, ◌&&◌, Bool, List, [], ◌∷◌, ◌++◌, position, remove, slice_get, slice_set, Option, Some, option_map, option_and_then}
-use Rattle.vldb_records.specs.declared.entries.VlSite.{VlSite}
+use Rattle.vldb_entries.specs.declared.entries.VlSite.{VlSite}
 use Rattle.vos_tool.specs.Texts.{has_flag}
 use Rattle.afs_commands.specs.declared.places.Place.{Place}
 use Rattle.vos_tool.specs.declared.places.TheConstants.{READ_ONLY, READ_WRITE}

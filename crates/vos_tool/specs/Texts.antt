@@ -3,8 +3,8 @@ use Rattle.std.specs.Prelude.{ℕ, ◌+◌, ◌-◌, ◌/◌, ◌%◌, ◌==◌,
 use Rattle.std.specs.Fmt.{decimal}
 use Rattle.std.specs.List.{flat_map}
 use Rattle.tool_base.specs.Texts.{at_left, joined}
-use Rattle.vldb_records.specs.declared.entries.VlEntry.{VlEntry}
-use Rattle.vldb_records.specs.declared.entries.VlSite.{VlSite}
+use Rattle.vldb_entries.specs.declared.entries.VlEntry.{VlEntry}
+use Rattle.vldb_entries.specs.declared.entries.VlSite.{VlSite}
 use Rattle.afs_commands.specs.declared.places.Place.{Place}
 
 abbrev pub line_end : List ℕ
@@ -13,7 +13,8 @@ line_end = 10 ∷ []
 -- a dotted address
 unfoldable pub dotted : ℕ → List ℕ
 dotted host =
-    decimal (host / 16777216) ++ codes "." ++ decimal (host / 65536 % 256) ++ codes "." ++ decimal (host / 256 % 256) ++ codes "." ++ decimal (host % 256)
+    decimal (host / 16777216) ++ codes "." ++ decimal (host / 65536 % 256) ++ codes "." ++ decimal (host / 256 % 256) ++ codes "."
+    ++ decimal (host % 256)
 
 -- the letters of a partition, 0 to 255: one for the first 26, then two
 abbrev pub letters : ℕ → List ℕ

@@ -2,7 +2,7 @@
 use Rattle.std.specs.Prelude.{ℕ, ℤ, neg_ℤ, pos, nat_le, if◌then◌else◌, List, length, Option, Some, None}
 use Rattle.script_words.specs.Numbers.{number_within}
 use Rattle.vl_calls.specs.declared.calls.VlCall.TheVariants as call
-use Rattle.vldb_records.specs.declared.entries.VlEntry.{VlEntry}
+use Rattle.vldb_entries.specs.declared.entries.VlEntry.{VlEntry}
 use Rattle.tool_base.specs.Course.{◌>>=◌, Course, gives, stops}
 use Rattle.tool_base.specs.declared.stops.Refusal.TheVariants.{Malformed}
 use Rattle.tool_base.specs.declared.stops.Stop.TheVariants.{Refused}

@@ -13,7 +13,7 @@ use std::alloc::Global;
 use tool_base::{Client, Refusal, Stop, joined, number_text};
 use ubik_types::{Bytes, NoMemory, bytes_of};
 use vl_calls::{GivenEntry, VlCall};
-use vldb_records::{VlSite, sites_of};
+use vldb_entries::{VlSite, sites_of};
 
 /// How many ids a volume has: read-write, read-only, backup.
 pub const NEW_IDS: u32 = 3;

@@ -2,14 +2,14 @@
 ghost use Rattle.std.specs.Prelude.{◌≡◌, ℕ, List, [], Option, IfOk, IfSome, length, true};
 ghost use Rattle.std.specs.List.{list_all};
 ghost use Rattle.vl_calls.specs.declared.answers.VlAnswer.{VlAnswer};
-ghost use Rattle.vldb_records.specs.declared.entries.VlEntry.{VlEntry};
+ghost use Rattle.vldb_entries.specs.declared.entries.VlEntry.{VlEntry};
 ghost use Rattle.vos_tool.specs.Answers.{IsAnyDone, IsEntry, IsId, IsPage, ascend, done_in, entry_in, hosts_in, id_in, if_good, is_entry, is_page, is_site, page_in};
 
 use std::alloc::Global;
 use tool_base::Reads;
 use ubik_types::NoMemory;
 use vl_calls::{CallKind, Entries, Hosts, VlAnswer, read_answer};
-use vldb_records::{VlEntry, VlSite};
+use vldb_entries::{VlEntry, VlSite};
 
 /// The most bytes of the name of a volume.
 pub const MAX_NAME: usize = 64;

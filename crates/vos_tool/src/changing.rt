@@ -18,7 +18,7 @@ use std::alloc::Global;
 use tool_base::{Client, Refusal, Stop, joined};
 use ubik_types::{Bytes, NoMemory};
 use vl_calls::{GivenEntry, VlCall};
-use vldb_records::VlEntry;
+use vldb_entries::VlEntry;
 
 /// `addsite`, `remsite`, `changeloc`: the text, once the entry of the volume has other sites.
 pub fn change<L: Link>(

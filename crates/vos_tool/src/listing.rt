@@ -16,7 +16,7 @@ use std::alloc::Global;
 use tool_base::{Client, Stop, joined};
 use ubik_types::{Bytes, NoMemory};
 use vl_calls::Entries;
-use vldb_records::VlEntry;
+use vldb_entries::VlEntry;
 
 /// Which entries are listed: those that have a site of this host (0 for any) on this partition (-1 for any), and of
 /// these all or only the locked ones.

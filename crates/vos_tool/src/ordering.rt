@@ -3,7 +3,7 @@ ghost use Rattle.std.specs.Prelude.{◌≡◌, IfOk};
 ghost use Rattle.vos_tool.specs.Ordering.{by_name};
 
 use ubik_types::NoMemory;
-use vldb_records::VlEntry;
+use vldb_entries::VlEntry;
 
 /// The entries in the order of their names' bytes; those of equal names keep their order.
 pub fn by_name(entries: Vec<VlEntry>) -> Result<Vec<VlEntry>, NoMemory>

@@ -13,7 +13,7 @@ use io_base::Link;
 use tool_base::{Client, Stop};
 use ubik_types::NoMemory;
 use vl_calls::{Entries, MAX_PAGE, VlCall};
-use vldb_records::VlEntry;
+use vldb_entries::VlEntry;
 
 /// More pages than there are: each has an id of its own.
 pub const MOST_PAGES: u32 = u32::MAX;

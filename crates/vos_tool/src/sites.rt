@@ -7,7 +7,7 @@ use afs_commands::Place;
 use call_grammar::Items;
 use std::alloc::Global;
 use ubik_types::NoMemory;
-use vldb_records::{SiteList, VlSite};
+use vldb_entries::{SiteList, VlSite};
 
 /// What is refused where a site is not there (VL_NOREPSERVER).
 pub const NO_SUCH_SITE: u32 = 363_533;

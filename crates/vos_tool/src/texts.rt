@@ -10,7 +10,7 @@ use afs_commands::Place;
 use std::alloc::Global;
 use tool_base::{at_left, joined, number_text};
 use ubik_types::{Bytes, NoMemory, bytes_of};
-use vldb_records::{VlEntry, VlSite};
+use vldb_entries::{VlEntry, VlSite};
 
 /// How many places the text of an id has.
 const ID_PLACES: usize = 10;

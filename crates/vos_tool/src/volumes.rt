@@ -12,7 +12,7 @@ use io_base::Link;
 use tool_base::{Client, Refusal, Stop};
 use ubik_types::bytes_of;
 use vl_calls::VlCall;
-use vldb_records::VlEntry;
+use vldb_entries::VlEntry;
 
 /// The type of a volume that any of an entry's three ids fits.
 pub const ANY_TYPE: i32 = -1;

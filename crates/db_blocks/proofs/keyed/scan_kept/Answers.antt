@@ -42,5 +42,6 @@ returns-clause-found g c =
 
 pub returns-clause-within : goal.returns-clause-within
 returns-clause-within g c =
-    keeping_within g.I.ImageRead c.args.d.now c.loop-number.d _ c.loop-number.kept.items c.in_ok-count.count c.loop-number.number c.args.d.now.len
+    keeping_within g.I.ImageRead c.args.d.now c.loop-number.d _ c.loop-number.kept.items c.in_ok-count.count c.loop-number.number
+    c.args.d.now.len
     (sym c.len.ensures.size ∙ c.in_ok-count.ensures.count) c.loop-number.invariant

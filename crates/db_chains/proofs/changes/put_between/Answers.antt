@@ -6,7 +6,7 @@ use Rattle.db_chains.specs.Ends.{HasSome}
 use Rattle.db_chains.specs.Walks.{IsBad}
 use Rattle.db_chains.proofs.Clauses.{bytes_stop, between_put}
 use Rattle.db_chains.proofs.Ended.{bad_cause}
-use Rattle.db_chains.proofs.Results.{after_looks, err_so, image_cause, of_image, ok_both, ok_so}
+use Rattle.db_chains.proofs.Results.{after_looks, err_so, image_cause, of_image, ok_so}
 use Rattle.db_chains.proofs.changes.put_between.Goals as goal
 
 pub returns-in_err-stop-clause-fault : goal.returns-in_err-stop-clause-fault
@@ -24,10 +24,10 @@ returns-clause-bytes g c =
 
 pub returns-clause-chain : goal.returns-clause-chain
 returns-clause-chain g c =
-    ok_both c.put_in.result _ _ _ c.put_in.ensures.bytes c.put_in.ensures.small
+    ok_so c.put_in.result _ _ c.put_in.ensures.bytes
     (between_put c.args.d.now.bytes c.walk.new.d.bytes c.put_in.new.d.bytes c.args.links c.args.at c.args.d.now.len c.args.word
     c.in_ok-stop.stop
-    c.requires.links c.requires.apart c.walk.ensures.told c.requires.at (omega arith) c.in_ok-stop.ensures.stop
+    c.requires.links c.requires.apart c.walk.ensures.told c.requires.at c.in_ok-stop.ensures.stop
     c.walk.ensures.frame.looks.same.bytes)
 
 pub returns-clause-bad : goal.returns-clause-bad

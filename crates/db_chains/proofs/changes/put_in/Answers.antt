@@ -1,6 +1,7 @@
-use Rattle.std.proofs.Common.{length, ◌∙◌, ap}
+use Rattle.std.proofs.Common.{length, ◌∙◌, ap, sym, arith}
 use Rattle.std.specs.Option.{option_map}
 use Rattle.std.proofs.lemmas.Result.{err_from_is_err_and}
+use Rattle.db_blocks.proofs.Numbers.{number_fits}
 use Rattle.db_chains.proofs.Clauses.{bytes_put_in}
 use Rattle.db_chains.proofs.Results.{ok_so, two_puts}
 use Rattle.db_chains.proofs.changes.put_in.Goals as goal
@@ -15,7 +16,8 @@ returns-clause-bytes g c =
     ok_so c.put-2.result _ _ c.put-2.ensures.bytes
     (bytes_put_in c.args.d.now.bytes c.put.new.self.bytes c.put-2.new.self.bytes c.args.links c.args.at c.args.word c.in_ok-next.next
     c.next_place-place.result c.to_be_bytes.result c.to_be_bytes-2.result c.in_ok-next.ensures.word c.next_place-place.ensures
-    c.to_be_bytes.ensures c.to_be_bytes-2.ensures
+    (c.to_be_bytes.ensures ∙ sym (number_fits c.in_ok-next.next (omega arith)))
+    (c.to_be_bytes-2.ensures ∙ sym (number_fits c.args.word (omega arith)))
     (c.in_ok-put.ensures.bytes ∙ ap (option_map _) c.read_word.ensures.frame.looks.same.bytes))
 
 pub returns-clause-frame : goal.returns-clause-frame

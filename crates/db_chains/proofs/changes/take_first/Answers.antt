@@ -1,6 +1,4 @@
-use Rattle.std.proofs.Common.{ℕ, ◌^◌, ◌<◌, IfSome, subst, ◌∙◌, arith}
-use Rattle.db_blocks.specs.Blocks.{word_at}
-use Rattle.db_chains.specs.Links.{next_place}
+use Rattle.std.proofs.Common.{◌∙◌, arith}
 use Rattle.std.proofs.lemmas.Result.{err_from_is_err_and}
 use Rattle.db_chains.proofs.First.{bad_count, bad_link, first_cause, none_bytes, none_chain, none_word, some_bytes, some_chain}
 use Rattle.db_chains.proofs.Results.{after_looks, drafts_so, err_same}
@@ -60,15 +58,13 @@ returns-clause-bytes g c =
 
 pub returns-clause-chain : goal.returns-clause-chain
 returns-clause-chain g c =
-    let small = c.in_ok-take_at.ensures.small in
     let named = c.in_ok-link.ensures.names.word in
     rw named
     (some_chain c.args.d.now.bytes c.read_link.new.d.bytes c.take_at.new.d.bytes c.args.links c.args.at c.args.d.now.len c.in_ok-word.word
     c.requires.links
     c.requires.apart c.read_word.ensures.told c.requires.at
     (c.read_link.ensures.frame.looks.same.bytes ∙ c.read_word.ensures.frame.looks.same.bytes) c.in_ok-word.ensures.word c.if-word-eq0.false
-    c.in_ok-take_at.ensures.bytes
-    (subst (λ (w : ℕ). IfSome c.read_link.new.d.bytes (λ image. word_at image (next_place c.args.links w) < 2 ^ 32)) named small))
+    c.in_ok-take_at.ensures.bytes)
 
 pub returns-clause-frame : goal.returns-clause-frame
 returns-clause-frame g c =

@@ -4,7 +4,7 @@ use Rattle.db_chains.specs.declared.changes.Until.TheVariants.{Word}
 use Rattle.db_chains.specs.Changes.{is_until, taken_out}
 use Rattle.db_chains.specs.Ends.{HasWord, IsBadOrLacks}
 use Rattle.db_chains.proofs.Clauses.{bytes_stop, lacks, lacks_cause, stands_there, stop_none, stop_some, walk_cause, walk_lacks, word_taken}
-use Rattle.db_chains.proofs.Results.{after_looks, err_so, image_cause, of_image, ok_both, ok_so}
+use Rattle.db_chains.proofs.Results.{after_looks, err_so, image_cause, of_image, ok_so}
 use Rattle.db_chains.proofs.changes.take_out.Goals as goal
 
 pub returns-in_err-stop-clause-bad : goal.returns-in_err-stop-clause-bad
@@ -46,7 +46,7 @@ returns-clause-bytes g c =
 
 pub returns-clause-chain : goal.returns-clause-chain
 returns-clause-chain g c =
-    ok_both c.take_at.result _ _ _ c.take_at.ensures.bytes c.take_at.ensures.small
+    ok_so c.take_at.result _ _ c.take_at.ensures.bytes
     (word_taken c.args.d.now.bytes c.walk.new.d.bytes c.take_at.new.d.bytes c.args.links c.args.at c.args.d.now.len c.args.word
     c.in_ok-stop.stop.place c.in-Some.link c.requires.links c.requires.apart c.walk.ensures.told c.requires.at
     (stop_some c.args.d.now.bytes c.args.links (is_until (Word c.args.word)) c.args.at c.in_ok-stop.stop c.in-Some.link c.in-Some.is

@@ -7,7 +7,7 @@ use Rattle.db_chains.specs.Free.{free_links}
 use Rattle.db_chains.proofs.Ended.{bad_cause, bad_count}
 use Rattle.db_chains.proofs.FreeClauses.{bytes_freed, freed_frame, is_freed}
 use Rattle.db_chains.proofs.Freed.{blank_len}
-use Rattle.db_chains.proofs.Results.{ok_both, ok_so}
+use Rattle.db_chains.proofs.Results.{ok_so}
 use Rattle.db_chains.proofs.free_blocks.free_block.Goals as goal
 
 pub returns-in_err-count-clause-bad : goal.returns-in_err-count-clause-bad
@@ -44,11 +44,11 @@ pub returns-clause-freed : goal.returns-clause-freed
 returns-clause-freed g c =
     let stands = rw c.free_links-links.ensures at c.in_ok-stop.ensures.stop in
     let made = rw c.free_links-links.ensures at c.put_in.ensures.bytes in
-    ok_both c.put_in.result _ _ _ made c.put_in.ensures.small
+    ok_so c.put_in.result _ _ made
     (is_freed c.args.d.now.bytes c.walk.new.d.bytes c.put.new.self.bytes c.put_in.new.d.bytes c.args.free c.in_ok-count.count c.len.result
     c.args.number c.block_place.result c.in_ok-stop.stop c.blank.result c.requires.free (rw c.len.ensures.size c.len.ensures.told)
     c.in_ok-count.ensures.count c.requires.block.some
-    (omega (arith, c.requires.block.within, c.in_ok-count.ensures.count, c.len.ensures.size)) (omega arith) stands
+    (omega (arith, c.requires.block.within, c.in_ok-count.ensures.count, c.len.ensures.size)) stands
     c.walk.ensures.frame.looks.same.bytes c.block_place.ensures c.blank.ensures c.in_ok-put.ensures.bytes)
 
 pub returns-clause-frame : goal.returns-clause-frame

@@ -30,7 +30,7 @@ returns-in_default-clause-taken g c =
     let out = rw c.free_links.ensures at c.in_ok-number.ensures.bytes in
     is_taken_new c.args.d.now.bytes c.take_first.new.d.bytes c.add_block.new.d.bytes c.args.free c.args.block.now c.in_ok-count.count
     c.len.result c.requires.free (rw c.len.ensures.size c.len.ensures.told) c.in_ok-count.ensures.count c.told-block
-    (rw c.len.ensures.size c.requires.len) first out c.in_ok-add_block.ensures.bytes
+    first out c.in_ok-add_block.ensures.bytes
 
 pub returns-clause-bytes : goal.returns-clause-bytes
 returns-clause-bytes g c =

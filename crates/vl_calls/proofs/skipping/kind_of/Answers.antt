@@ -7,7 +7,8 @@ use Rattle.vl_calls.proofs.Skipped.{no_number, no_kind, no_values, ended, not_en
 use Rattle.vl_calls.proofs.skipping.kind_of.Goals as goal
 
 pub returns-in_default : goal.returns-in_default
-returns-in_default c = sym (no_number c.args.bytes.now c.in_default.field-0 (ap word_at (sym c.new-from.ensures) ∙ c.in_default.ensures.exact.0))
+returns-in_default c =
+    sym (no_number c.args.bytes.now c.in_default.field-0 (ap word_at (sym c.new-from.ensures) ∙ c.in_default.ensures.exact.0))
 
 pub returns-in_err-kind : goal.returns-in_err-kind
 returns-in_err-kind c =
@@ -26,7 +27,8 @@ returns-in_default-end c =
     let number = ap word_at (sym c.new-from.ensures) ∙ c.in-Ok.ensures.exact in
     let P : List Shape → Type 0 = λ l. rest_of (values_at value (shape_at xdr_item) l c.get_u32.new.self) ≡ Some c.skip_all.new.from in
     let values = subst P c.shapes.ensures c.in-Ok-skip_all.ensures in
-    sym (not_ended c.args.bytes.now c.in-Ok.number c.get_u32.new.self c.skip_all.new.from c.in_ok-kind.kind number (sym c.in_ok-kind.ensures) values
+    sym (not_ended c.args.bytes.now c.in-Ok.number c.get_u32.new.self c.skip_all.new.from c.in_ok-kind.kind number
+    (sym c.in_ok-kind.ensures) values
     (λ h. let e : ◌≡◌ {A = Bool} false true = c.in_default-end.ensures.done.1 h in cc))
 
 pub returns : goal.returns
@@ -34,4 +36,5 @@ returns c =
     let number = ap word_at (sym c.new-from.ensures) ∙ c.in-Ok.ensures.exact in
     let P : List Shape → Type 0 = λ l. rest_of (values_at value (shape_at xdr_item) l c.get_u32.new.self) ≡ Some c.skip_all.new.from in
     let values = subst P c.shapes.ensures c.in-Ok-skip_all.ensures in
-    sym (ended c.args.bytes.now c.in-Ok.number c.get_u32.new.self c.skip_all.new.from c.in_ok-kind.kind number (sym c.in_ok-kind.ensures) values (c.in-Ok-end.ensures.done.0 refl))
+    sym (ended c.args.bytes.now c.in-Ok.number c.get_u32.new.self c.skip_all.new.from c.in_ok-kind.kind number
+    (sym c.in_ok-kind.ensures) values (c.in-Ok-end.ensures.done.0 refl))

@@ -4,4 +4,6 @@ use Rattle.vl_calls.specs.Shapes.{shape_at, value}
 use Rattle.vl_calls.proofs.skipping.skip_all.Given as goal
 
 abbrev pub invariant-loop-shape : goal.invariant-loop-shape
-invariant-loop-shape l = rest_of (values_at value (shape_at xdr_item) (drop l.shape-index l.shapes) l.from) ≡ rest_of (values_at value (shape_at xdr_item) l.shapes l.fn.from)
+invariant-loop-shape l =
+    rest_of (values_at value (shape_at xdr_item) (drop l.shape-index l.shapes) l.from) ≡ rest_of
+    (values_at value (shape_at xdr_item) l.shapes l.fn.from)

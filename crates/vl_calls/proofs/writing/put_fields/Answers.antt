@@ -24,13 +24,15 @@ put-requires-in-GetEntryByName c = rw c.in-GetEntryByName.is at c.requires
 
 pub put_given-requires-in-ReplaceEntry : goal.put_given-requires-in-ReplaceEntry
 put_given-requires-in-ReplaceEntry c =
-    let h : Unit {0} × (Unit {0} × (IsGiven c.in-ReplaceEntry.entry × (Unit {0} × Unit {0}))) = rw c.in-ReplaceEntry.is at c.requires in h.1.1.0
+    let h : Unit {0} × (Unit {0}
+    × (IsGiven c.in-ReplaceEntry.entry × (Unit {0} × Unit {0}))) = rw c.in-ReplaceEntry.is at c.requires in h.1.1.0
 
 pub returns-in-CreateEntry : goal.returns-in-CreateEntry
 returns-in-CreateEntry c =
     let text = given_text xdr_text c.in-CreateEntry.entry in
     rw c.in-CreateEntry.is
-    (on_ok c.put_given.result c.put_given.new.out (c.args.out.now ++ text) (c.args.out.now ++ (text ++ [])) (ap (λ (x : List ℕ). c.args.out.now ++ x) (sym (append-nil text))) c.put_given.ensures)
+    (on_ok c.put_given.result c.put_given.new.out (c.args.out.now ++ text) (c.args.out.now ++ (text ++ []))
+    (ap (λ (x : List ℕ). c.args.out.now ++ x) (sym (append-nil text))) c.put_given.ensures)
 
 pub returns-in_ok-put_given-in-ReplaceEntry : goal.returns-in_ok-put_given-in-ReplaceEntry
 returns-in_ok-put_given-in-ReplaceEntry c =
@@ -39,8 +41,10 @@ returns-in_ok-put_given-in-ReplaceEntry c =
     let behind = word r.mask ++ [] in
     let text = given_text xdr_text r.entry in
     rw r.is
-    (on_ok c.put-in-ReplaceEntry-2.result c.put-in-ReplaceEntry-2.new.out (two ++ behind) (c.args.out.now ++ (word r.id ++ (signed r.volume_type ++ (text ++ behind))))
-    (joined c.args.out.now c.put-in-ReplaceEntry.new.out two (word r.id) (signed r.volume_type) text behind c.in_ok-put-in-ReplaceEntry.ensures c.in_ok-put_given-in-ReplaceEntry.ensures)
+    (on_ok c.put-in-ReplaceEntry-2.result c.put-in-ReplaceEntry-2.new.out (two ++ behind)
+    (c.args.out.now ++ (word r.id ++ (signed r.volume_type ++ (text ++ behind))))
+    (joined c.args.out.now c.put-in-ReplaceEntry.new.out two (word r.id)
+    (signed r.volume_type) text behind c.in_ok-put-in-ReplaceEntry.ensures c.in_ok-put_given-in-ReplaceEntry.ensures)
     c.put-in-ReplaceEntry-2.ensures)
 
 pub returns-in-GetNewVolumeId : goal.returns-in-GetNewVolumeId

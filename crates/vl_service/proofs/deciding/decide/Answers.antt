@@ -1,5 +1,5 @@
 use Rattle.std.proofs.Common.{ap, ◌∙◌}
-use Rattle.vldb_records.specs.Location.{placed}
+use Rattle.vldb_entries.specs.Location.{placed}
 use Rattle.vl_service.proofs.Decided.{enters, own_refused, shared_refused, size_refused}
 use Rattle.vl_service.proofs.deciding.decide.Goals as goal
 
@@ -14,7 +14,8 @@ returns-in-Some-2-clause-decided g c =
 pub returns-in-Some-placed-clause-decided : goal.returns-in-Some-placed-clause-decided
 returns-in-Some-placed-clause-decided g c =
     let found = c.in_ok-fault.ensures.found in
-    enters c.args.d.now.bytes c.shared_fault.new.d.bytes c.args.own c.args.e.now (record { old = c.in_ok-old.old; new = c.in-Some-placed.new })
+    enters c.args.d.now.bytes c.shared_fault.new.d.bytes c.args.own c.args.e.now
+    (record { old = c.in_ok-old.old; new = c.in-Some-placed.new })
     (record {
       same = c.shared_fault.ensures.frame.same.bytes;
       none = c.in_default.ensures.value;

@@ -1,5 +1,5 @@
 use Rattle.std.proofs.Common.{◌≡◌, length}
-use Rattle.vldb_records.specs.Location.{has_repeat}
+use Rattle.vldb_entries.specs.Location.{has_repeat}
 use Rattle.vl_service.proofs.fitting.has_repeat.Given as goal
 
 abbrev pub decreases-loop-rest : goal.decreases-loop-rest

@@ -16,4 +16,5 @@ replace-requires-clause-entry g c =
 pub returns-in_err-replace-clause-fault : goal.returns-in_err-replace-clause-fault
 returns-in_err-replace-clause-fault g c =
     let p = err_from_is_err_and c.from_residual-in_err-replace.result c.from_residual-in_err-replace.ensures.1 in
-    rw (p.1, p.2) (cause_of_lock c.args.d.now.bytes c.args.e c.args.operation c.args.moment c.in_err-replace.field-0.0 c.in_err-replace.ensures.fault)
+    rw (p.1, p.2) (cause_of_lock c.args.d.now.bytes c.args.e c.args.operation c.args.moment c.in_err-replace.field-0.0
+    c.in_err-replace.ensures.fault)

@@ -2,7 +2,7 @@ use Rattle.std.proofs.Common.{sym, ◌∙◌, refl}
 use Rattle.std.proofs.lemmas.Int.{to_z-of_z}
 use Rattle.std.proofs.lemmas.Result.{err_from_is_err_and}
 use Rattle.vl_service.specs.Meaning.{lock_released}
-use Rattle.vldb_records.specs.Location.{Location}
+use Rattle.vldb_entries.specs.Location.{Location}
 use Rattle.vl_service.proofs.LockDone.{cause_of_there, masked_bad_mask, masked_bad_type, masked_no_entry, release_done}
 use Rattle.vl_service.proofs.locking.release_lock.Goals as goal
 
@@ -10,13 +10,15 @@ pub returns-then-not-is_volume_type-clause-meant : goal.returns-then-not-is_volu
 returns-then-not-is_volume_type-clause-meant g c =
     let fits = c.ranges.volume_type in
     let test = sym c.is_volume_type.ensures ∙ c.if-not-is_volume_type.true in
-    masked_bad_type c.args.d.now.bytes c.args.volume_type c.args.id c.args.mask (λ (s : Location). lock_released s c.args.mask) _ (simp to_z-of_z at test) refl
+    masked_bad_type c.args.d.now.bytes c.args.volume_type c.args.id c.args.mask (λ (s : Location). lock_released s c.args.mask) _
+    (simp to_z-of_z at test) refl
 
 pub returns-then-has_other_bits-clause-meant : goal.returns-then-has_other_bits-clause-meant
 returns-then-has_other_bits-clause-meant g c =
     let fits = c.ranges.volume_type in
     let test = sym c.is_volume_type.ensures ∙ c.if-not-is_volume_type.false in
-    masked_bad_mask c.args.d.now.bytes c.args.volume_type c.args.id c.args.mask (λ (s : Location). lock_released s c.args.mask) _ (simp to_z-of_z at test)
+    masked_bad_mask c.args.d.now.bytes c.args.volume_type c.args.id c.args.mask (λ (s : Location). lock_released s c.args.mask) _
+    (simp to_z-of_z at test)
     (sym c.has_other_bits.ensures ∙ c.if-has_other_bits.true) refl
 
 pub returns-in_default-clause-meant : goal.returns-in_default-clause-meant
@@ -25,8 +27,10 @@ returns-in_default-clause-meant g c =
     let test = sym c.is_volume_type.ensures ∙ c.if-not-is_volume_type.false in
     let first = c.in_ok-entry.ensures.found in
     let found = rw c.in_default.is at first in
-    masked_no_entry c.args.d.now.bytes c.find_typed.new.d.bytes c.args.volume_type c.args.id c.args.mask (λ (s : Location). lock_released s c.args.mask) _
-    (simp to_z-of_z at test) (sym c.has_other_bits.ensures ∙ c.if-has_other_bits.false) (simp to_z-of_z at found) refl c.find_typed.ensures.frame.same.bytes
+    masked_no_entry c.args.d.now.bytes c.find_typed.new.d.bytes c.args.volume_type c.args.id c.args.mask
+    (λ (s : Location). lock_released s c.args.mask) _
+    (simp to_z-of_z at test) (sym c.has_other_bits.ensures ∙ c.if-has_other_bits.false)
+    (simp to_z-of_z at found) refl c.find_typed.ensures.frame.same.bytes
 
 pub returns-clause-meant : goal.returns-clause-meant
 returns-clause-meant g c =
@@ -34,8 +38,10 @@ returns-clause-meant g c =
     let test = sym c.is_volume_type.ensures ∙ c.if-not-is_volume_type.false in
     let first = c.in_ok-entry.ensures.found in
     let found = rw c.in-Some.is at first in
-    release_done c.args.d.now.bytes c.find_typed.new.d.bytes c.put_lock.new.d.bytes c.args.volume_type c.args.id c.args.mask c.operation_left-operation.result
-    c.moment_left-moment.result c.in-Some.entry c.in_ok-end.end (simp to_z-of_z at test) (sym c.has_other_bits.ensures ∙ c.if-has_other_bits.false)
+    release_done c.args.d.now.bytes c.find_typed.new.d.bytes c.put_lock.new.d.bytes c.args.volume_type c.args.id c.args.mask
+    c.operation_left-operation.result
+    c.moment_left-moment.result c.in-Some.entry c.in_ok-end.end (simp to_z-of_z at test)
+    (sym c.has_other_bits.ensures ∙ c.if-has_other_bits.false)
     c.operation_left-operation.ensures c.moment_left-moment.ensures (simp to_z-of_z at found) c.in_ok-end.ensures.told
     c.find_typed.ensures.frame.same.bytes c.in_ok-end.ensures.bytes
 
@@ -45,5 +51,6 @@ returns-in_err-end-clause-fault g c =
     let first = c.in_ok-entry.ensures.found in
     let found = rw c.in-Some.is at first in
     let p = err_from_is_err_and c.from_residual-in_err-end.result c.from_residual-in_err-end.ensures.1 in
-    rw (p.1, p.2) (cause_of_there c.args.d.now.bytes c.find_typed.new.d.bytes c.args.volume_type c.args.id c.in-Some.entry c.in_err-end.field-0.0
+    rw (p.1, p.2) (cause_of_there c.args.d.now.bytes c.find_typed.new.d.bytes c.args.volume_type c.args.id c.in-Some.entry
+    c.in_err-end.field-0.0
     c.find_typed.ensures.frame.same.bytes (simp to_z-of_z at found) c.in_err-end.ensures.fault)

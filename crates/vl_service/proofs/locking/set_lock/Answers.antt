@@ -23,7 +23,8 @@ returns-in_default-clause-meant g c =
     let test = sym c.is_volume_type.ensures ∙ c.if-not-is_volume_type.false in
     let first = c.in_ok-entry.ensures.found in
     let found = rw c.in_default.is at first in
-    set_no_entry c.args.d.now.bytes c.find_typed.new.d.bytes c.args.volume_type c.args.id c.args.operation c.args.now _ (simp to_z-of_z at test)
+    set_no_entry c.args.d.now.bytes c.find_typed.new.d.bytes c.args.volume_type c.args.id c.args.operation c.args.now _
+    (simp to_z-of_z at test)
     (sym c.is_operation.ensures ∙ c.if-not-is_operation.false) (simp to_z-of_z at found) refl c.find_typed.ensures.frame.same.bytes
 
 pub returns-then-is_locked-clause-meant : goal.returns-then-is_locked-clause-meant
@@ -32,8 +33,10 @@ returns-then-is_locked-clause-meant g c =
     let test = sym c.is_volume_type.ensures ∙ c.if-not-is_volume_type.false in
     let first = c.in_ok-entry.ensures.found in
     let found = rw c.in-Some.is at first in
-    set_locked c.args.d.now.bytes c.find_typed.new.d.bytes c.args.volume_type c.args.id c.args.operation c.args.now c.in-Some.entry _ (simp to_z-of_z at test)
-    (sym c.is_operation.ensures ∙ c.if-not-is_operation.false) (simp to_z-of_z at found) (sym c.is_locked.ensures ∙ c.if-is_locked.true) refl
+    set_locked c.args.d.now.bytes c.find_typed.new.d.bytes c.args.volume_type c.args.id c.args.operation c.args.now c.in-Some.entry _
+    (simp to_z-of_z at test)
+    (sym c.is_operation.ensures ∙ c.if-not-is_operation.false) (simp to_z-of_z at found)
+    (sym c.is_locked.ensures ∙ c.if-is_locked.true) refl
     c.find_typed.ensures.frame.same.bytes
 
 pub returns-clause-meant : goal.returns-clause-meant
@@ -42,8 +45,10 @@ returns-clause-meant g c =
     let test = sym c.is_volume_type.ensures ∙ c.if-not-is_volume_type.false in
     let first = c.in_ok-entry.ensures.found in
     let found = rw c.in-Some.is at first in
-    set_done c.args.d.now.bytes c.find_typed.new.d.bytes c.put_lock.new.d.bytes c.args.volume_type c.args.id c.args.operation c.args.now c.in-Some.entry c.in_ok-end.end
-    (simp to_z-of_z at test) (sym c.is_operation.ensures ∙ c.if-not-is_operation.false) (simp to_z-of_z at found) (sym c.is_locked.ensures ∙ c.if-is_locked.false)
+    set_done c.args.d.now.bytes c.find_typed.new.d.bytes c.put_lock.new.d.bytes c.args.volume_type c.args.id c.args.operation c.args.now
+    c.in-Some.entry c.in_ok-end.end
+    (simp to_z-of_z at test) (sym c.is_operation.ensures ∙ c.if-not-is_operation.false) (simp to_z-of_z at found)
+    (sym c.is_locked.ensures ∙ c.if-is_locked.false)
     c.in_ok-end.ensures.told c.find_typed.ensures.frame.same.bytes c.in_ok-end.ensures.bytes
 
 pub returns-in_err-end-clause-fault : goal.returns-in_err-end-clause-fault
@@ -52,5 +57,6 @@ returns-in_err-end-clause-fault g c =
     let first = c.in_ok-entry.ensures.found in
     let found = rw c.in-Some.is at first in
     let p = err_from_is_err_and c.from_residual-in_err-end.result c.from_residual-in_err-end.ensures.1 in
-    rw (p.1, p.2) (cause_of_there c.args.d.now.bytes c.find_typed.new.d.bytes c.args.volume_type c.args.id c.in-Some.entry c.in_err-end.field-0.0
+    rw (p.1, p.2) (cause_of_there c.args.d.now.bytes c.find_typed.new.d.bytes c.args.volume_type c.args.id c.in-Some.entry
+    c.in_err-end.field-0.0
     c.find_typed.ensures.frame.same.bytes (simp to_z-of_z at found) c.in_err-end.ensures.fault)

@@ -1,5 +1,5 @@
 use Rattle.std.proofs.Common.{eqb, List, length, ap, ◌∙◌}
-use Rattle.vldb_records.specs.declared.entries.VlEntry.{VlEntry}
+use Rattle.vldb_entries.specs.declared.entries.VlEntry.{VlEntry}
 use Rattle.vl_service.proofs.Moved.{any_site}
 use Rattle.vl_service.proofs.moving.has_site_at.Goals as goal
 

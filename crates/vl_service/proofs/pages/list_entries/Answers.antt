@@ -18,5 +18,6 @@ returns-clause-meant g c =
     let test = sym c.is_partition.ensures ∙ c.if-not-is_partition.false in
     let found = c.in_ok-entries.ensures.found in
     let here = rw c.listing_of.ensures at found in
-    page_meant c.args.d.now.bytes c.args.after c.args.host c.args.partition c.args.locked c.in_ok-entries.entries c.in_ok-end.end (simp to_z-of_z at test)
+    page_meant c.args.d.now.bytes c.args.after c.args.host c.args.partition c.args.locked c.in_ok-entries.entries c.in_ok-end.end
+    (simp to_z-of_z at test)
     (simp to_z-of_z at here) c.in_ok-end.ensures.told

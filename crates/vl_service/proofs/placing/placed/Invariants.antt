@@ -1,5 +1,5 @@
 use Rattle.std.proofs.Common.{◌≡◌, length}
-use Rattle.vldb_records.specs.Location.{placed}
+use Rattle.vldb_entries.specs.Location.{placed}
 use Rattle.vl_service.proofs.placing.placed.Given as goal
 
 abbrev pub decreases-loop-rest : goal.decreases-loop-rest

@@ -1,7 +1,8 @@
-use Rattle.vldb_records.specs.Records.{whole}
+use Rattle.vldb_entries.specs.Forms.{whole}
 use Rattle.vldb_records.proofs.Becoming.{ok_then}
 use Rattle.vldb_records.proofs.changes.put_whole.Goals as goal
 
 pub returns-clause-bytes : goal.returns-clause-bytes
 returns-clause-bytes g c =
-    ok_then c.put.result whole _ c.args.d.now.bytes c.make_whole.new.d.bytes c.put.new.self.bytes c.in_ok-make_whole.ensures.bytes c.put.ensures.bytes
+    ok_then c.put.result whole _ c.args.d.now.bytes c.make_whole.new.d.bytes c.put.new.self.bytes c.in_ok-make_whole.ensures.bytes
+    c.put.ensures.bytes

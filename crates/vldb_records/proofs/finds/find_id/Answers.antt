@@ -1,20 +1,22 @@
-use Rattle.std.proofs.Common.{◌≡◌, List, Option, ℕ, IfSome, subst}
-use Rattle.vldb_records.specs.Location.{Location}
-use Rattle.vldb_records.specs.Records.{Holds}
-use Rattle.vldb_records.proofs.Lookups.{entry_small, id_none, id_some}
+use Rattle.db_chains.proofs.Results.{err_so}
+use Rattle.vldb_records.proofs.Lookups.{id_fault, ok_of_id}
 use Rattle.vldb_records.proofs.finds.find_id.Goals as goal
-
-pub returns-in_default-clause-found : goal.returns-in_default-clause-found
-returns-in_default-clause-found g c =
-    let first = c.in_ok-found.ensures.found in
-    id_none c.args.d.now.bytes c.args.id (rw c.in_default.is at first)
 
 pub returns-clause-found : goal.returns-clause-found
 returns-clause-found g c =
-    let first = c.in_ok-found.ensures.found in
-    id_some c.args.d.now.bytes c.args.id c.in-Some.found c.in_ok-addresses.addresses c.in_ok-entry_in.field-0 (rw c.in-Some.is at first)
-    (subst (λ (b : Option (List ℕ)). IfSome b (λ image. (s : Location) → Holds image s → c.in_ok-addresses.addresses ≡ s.addresses))
-    c.find_block.ensures.frame.same.bytes c.in_ok-addresses.ensures.found) c.in_ok-entry_in.ensures
+    ok_of_id c.find_entry.result c.args.d.now.bytes c.args.id (rw
+    (c.id_links.ensures.is, c.id_chain.ensures.place) at c.find_entry.ensures.found)
 
-pub returns-clause-small : goal.returns-clause-small
-returns-clause-small g c = entry_small c.in_ok-addresses.addresses c.in-Some.found.block c.in_ok-entry_in.field-0 c.in_ok-entry_in.ensures
+pub returns-clause-bad : goal.returns-clause-bad
+returns-clause-bad g c = rw (c.id_links.ensures.is, c.id_chain.ensures.place) at c.find_entry.ensures.bad
+
+pub returns-clause-fault : goal.returns-clause-fault
+returns-clause-fault g c =
+    err_so c.find_entry.result _ _ (rw (c.id_links.ensures.is, c.id_chain.ensures.place) at c.find_entry.ensures.fault)
+    (id_fault c.args.d.now.bytes c.args.id)
+
+pub returns-clause-cost : goal.returns-clause-cost
+returns-clause-cost g c = rw (c.id_links.ensures.is, c.id_chain.ensures.place) at c.find_entry.ensures.cost
+
+pub returns-clause-ended : goal.returns-clause-ended
+returns-clause-ended g c = rw (c.id_links.ensures.is, c.id_chain.ensures.place) at c.find_entry.ensures.ended

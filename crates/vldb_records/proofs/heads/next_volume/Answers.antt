@@ -1,15 +1,18 @@
 use Rattle.std.proofs.Common.{◌≡◌, ◌<◌, IfSome, take, drop, rules, arith}
 use Rattle.std.proofs.lemmas.Result.{err_from_is_err_and}
 use Rattle.db_blocks.proofs.Scanned.{bad_size}
-use Rattle.vldb_records.proofs.HeadRead.{next_found, next_empty, next_read, fault_whole}
+use Rattle.vldb_entries.proofs.HeadRead.{next_empty, next_read}
+use Rattle.vldb_records.proofs.HeadTold.{fault_whole, next_found}
 use Rattle.vldb_records.proofs.heads.next_volume.Goals as goal
 
 pub returns-then-len-eq0-clause-exact : goal.returns-then-len-eq0-clause-exact
-returns-then-len-eq0-clause-exact g c = next_empty c.args.d.now.bytes c.len.result (rw c.len.ensures.size c.len.ensures.told) c.if-len-eq0.true
+returns-then-len-eq0-clause-exact g c = next_empty c.args.d.now.bytes c.len.result
+    (rw c.len.ensures.size c.len.ensures.told) c.if-len-eq0.true
 
 pub returns-then-len-eq0-clause-found : goal.returns-then-len-eq0-clause-found
 returns-then-len-eq0-clause-found g c =
-    next_found c.args.d.now.bytes _ (next_empty c.args.d.now.bytes c.len.result (rw c.len.ensures.size c.len.ensures.told) c.if-len-eq0.true)
+    next_found c.args.d.now.bytes _ (next_empty c.args.d.now.bytes c.len.result
+    (rw c.len.ensures.size c.len.ensures.told) c.if-len-eq0.true)
 
 pub returns-clause-exact : goal.returns-clause-exact
 returns-clause-exact g c =
@@ -23,6 +26,7 @@ returns-clause-found g c = next_found c.args.d.now.bytes _ (returns-clause-exact
 pub returns-in_err-block_count-clause-fault : goal.returns-in_err-block_count-clause-fault
 returns-in_err-block_count-clause-fault g c =
     let p = err_from_is_err_and c.from_residual.result c.from_residual.ensures.1 in
-    rw (p.1, p.2) (fault_whole c.args.d.now.bytes c.len-2.result c.in_err-block_count.field-0.0 (rw c.len-2.ensures.size c.len-2.ensures.told) (omega arith)
+    rw (p.1, p.2) (fault_whole c.args.d.now.bytes c.len-2.result c.in_err-block_count.field-0.0
+    (rw c.len-2.ensures.size c.len-2.ensures.told) (omega arith)
     (bad_size 3132 c.args.d.now.bytes c.len-2.result c.len-2.result c.in_err-block_count.field-0.0 c.in_err-block_count.ensures.fault.0
     (rw c.len-2.ensures.size c.len-2.ensures.told) c.in_err-block_count.ensures.fault.1))

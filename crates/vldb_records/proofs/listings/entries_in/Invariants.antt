@@ -1,5 +1,5 @@
 use Rattle.std.proofs.Common.{◌≡◌, map, take}
-use Rattle.vldb_records.specs.Records.{entry_in}
+use Rattle.vldb_entries.specs.Forms.{entry_in}
 use Rattle.vldb_records.proofs.listings.entries_in.Given as goal
 
 abbrev pub invariant-loop-block : goal.invariant-loop-block

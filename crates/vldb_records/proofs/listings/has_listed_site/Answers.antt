@@ -2,9 +2,9 @@ use Rattle.std.proofs.Common.{◌≡◌, ℕ, ◌+◌, ◌<◌, Bool, true, fals
 use Rattle.std.specs.List.{list_any, range_with_len}
 use Rattle.std.proofs.lemmas.List.Folds.{list_any-append, list_any_at}
 use Rattle.std.proofs.lemmas.List.FromFn.{get_or-map-range_with_len, length-map-range_with_len, map-range_with_len_more}
-use Rattle.vldb_records.specs.declared.entries.VlSite.{VlSite}
+use Rattle.vldb_entries.specs.declared.entries.VlSite.{VlSite}
 use Rattle.vldb_records.specs.Listing.{is_listed_site}
-use Rattle.vldb_records.specs.Records.{site_in}
+use Rattle.vldb_entries.specs.Forms.{site_in}
 use Rattle.vldb_records.proofs.listings.has_listed_site.Goals as goal
 
 or_false : (b : Bool) → (b || false) ≡ b

@@ -16,7 +16,8 @@ unfolding addentry_text
 returns-in_err-id-in-None g c =
     ran_short c.args.name.now (makes_of c.args.name.now c.args.place c.args.id) _ _ _ _ _ (omega arith)
     (ran_arg (λ (o : Option ℕ). makes_of c.args.name.now c.args.place o) None c.args.id (sym c.in-None.is)
-    (ran_broken (λ (id : ℕ). makes c.args.name.now c.args.place id) c.in_err-id-in-None.field-0.0 c.from_residual.result c.from_residual.ensures.1 refl c.in_err-id-in-None.ensures.ran))
+    (ran_broken (λ (id : ℕ). makes c.args.name.now c.args.place id) c.in_err-id-in-None.field-0.0 c.from_residual.result
+    c.from_residual.ensures.1 refl c.in_err-id-in-None.ensures.ran))
 
 pub returns-in-Some : goal.returns-in-Some
 unfolding addentry_text
@@ -29,4 +30,5 @@ unfolding addentry_text
 returns-in_ok-id-in-None g c =
     ran_short c.args.name.now (makes_of c.args.name.now c.args.place c.args.id) _ _ _ _ _ (omega arith)
     (ran_arg (λ (o : Option ℕ). makes_of c.args.name.now c.args.place o) None c.args.id (sym c.in-None.is)
-    (ran_then (λ (id : ℕ). makes c.args.name.now c.args.place id) c.in_ok-id-in-None.id refl c.in_ok-id-in-None.ensures.ran c.make-in-None.ensures))
+    (ran_then (λ (id : ℕ). makes c.args.name.now c.args.place id) c.in_ok-id-in-None.id refl c.in_ok-id-in-None.ensures.ran
+    c.make-in-None.ensures))

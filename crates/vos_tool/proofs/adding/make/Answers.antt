@@ -11,19 +11,24 @@ use Rattle.vos_tool.proofs.Given.{new_fits}
 use Rattle.vos_tool.proofs.adding.make.Goals as goal
 
 pub ask-requires : goal.ask-requires
-ask-requires g c =
-    (subst (λ (e : GivenEntry). IsGiven e) (sym c.in_ok-entry.ensures) (new_fits c.args.name.now c.args.place c.args.id c.requires.name), tt)
+ask-requires g c = (
+  subst (λ (e : GivenEntry). IsGiven e) (sym c.in_ok-entry.ensures)
+      (new_fits c.args.name.now c.args.place c.args.id c.requires.name),
+  tt,
+)
 
 pub returns-in_err-ask : goal.returns-in_err-ask
 unfolding makes
 returns-in_err-ask g c =
-    ran_broken (λ (done : Unit {0}). gives (added_text c.args.name.now c.args.id)) c.in_err-ask.field-0.0 c.from_residual-in_err-ask.result c.from_residual-in_err-ask.ensures.1 refl
+    ran_broken (λ (done : Unit {0}). gives (added_text c.args.name.now c.args.id)) c.in_err-ask.field-0.0
+    c.from_residual-in_err-ask.result c.from_residual-in_err-ask.ensures.1 refl
     (ran_arg (λ (e : GivenEntry). asks_done (call.CreateEntry e)) _ _ c.in_ok-entry.ensures c.in_err-ask.ensures.ran)
 
 pub returns-in_err-text : goal.returns-in_err-text
 unfolding makes
 returns-in_err-text g c =
-    ran_lacks (λ (done : Unit {0}). gives (added_text c.args.name.now c.args.id)) tt c.from_residual-in_err-text.result c.from_residual-in_err-text.ensures.1 refl
+    ran_lacks (λ (done : Unit {0}). gives (added_text c.args.name.now c.args.id)) tt c.from_residual-in_err-text.result
+    c.from_residual-in_err-text.ensures.1 refl
     (ran_arg (λ (e : GivenEntry). asks_done (call.CreateEntry e)) _ _ c.in_ok-entry.ensures c.in_ok-ask.ensures.ran)
 
 pub returns : goal.returns

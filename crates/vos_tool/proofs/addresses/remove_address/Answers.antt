@@ -6,11 +6,13 @@ use Rattle.vos_tool.proofs.addresses.remove_address.Goals as goal
 
 pub returns-in_err-ask : goal.returns-in_err-ask
 returns-in_err-ask g c =
-    ran_broken (λ (done : Unit {0}). gives (gone_text c.args.from)) c.in_err-ask.field-0.0 c.from_residual.result c.from_residual.ensures.1 refl c.in_err-ask.ensures.ran
+    ran_broken (λ (done : Unit {0}). gives (gone_text c.args.from)) c.in_err-ask.field-0.0 c.from_residual.result
+    c.from_residual.ensures.1 refl c.in_err-ask.ensures.ran
 
 pub returns-in_err-text : goal.returns-in_err-text
 returns-in_err-text g c =
-    ran_lacks (λ (done : Unit {0}). gives (gone_text c.args.from)) tt c.from_residual-in_err-text.result c.from_residual-in_err-text.ensures.1 refl c.in_ok-ask.ensures.ran
+    ran_lacks (λ (done : Unit {0}). gives (gone_text c.args.from)) tt c.from_residual-in_err-text.result
+    c.from_residual-in_err-text.ensures.1 refl c.in_ok-ask.ensures.ran
 
 pub returns : goal.returns
 returns g c =

@@ -9,4 +9,5 @@ returns-clause-command g c =
     (rw c.new-client.ensures at c.run-end.ensures.told) c.say_end-left.ensures.said
 
 pub returns-clause-cause : goal.returns-clause-cause
-returns-clause-cause g c = caused _ _ _ _ _ c.run-end.result c.say_end-left.result c.of.ensures c.run-end.ensures.cause c.say_end-left.ensures.cause
+returns-clause-cause g c =
+    caused _ _ _ _ _ c.run-end.result c.say_end-left.result c.of.ensures c.run-end.ensures.cause c.say_end-left.ensures.cause

@@ -1,7 +1,7 @@
 use Rattle.std.proofs.Common.{rules}
 use Rattle.std.proofs.lemmas.Cmp.{nat_list_cmp_total}
 use Rattle.std.proofs.lemmas.List.Sorted.{answers_always, ranks_by}
-use Rattle.vldb_records.specs.declared.entries.VlEntry.{VlEntry}
+use Rattle.vldb_entries.specs.declared.entries.VlEntry.{VlEntry}
 use Rattle.vos_tool.specs.Ordering.{comes_before}
 use Rattle.vos_tool.proofs.Sorting.{sorted_by-from_sort}
 use Rattle.vos_tool.proofs.ordering.by_name.Goals as goal

@@ -1,7 +1,7 @@
 use Rattle.std.proofs.Common.{ℕ, List, Ok, Some, None, Option, refl, ap}
 use Rattle.tool_base.specs.Course.{◌>>=◌, gives}
 use Rattle.tool_base.proofs.Walking.{ran_as, ran_broken, ran_still, ran_then}
-use Rattle.vldb_records.specs.declared.entries.VlEntry.{VlEntry}
+use Rattle.vldb_entries.specs.declared.entries.VlEntry.{VlEntry}
 use Rattle.vos_tool.specs.Volumes.{entry_named, id_of, id_or_named, volume_id}
 use Rattle.vos_tool.proofs.Args.{ran_arg}
 use Rattle.vos_tool.proofs.volumes.volume_id.Goals as goal
@@ -10,7 +10,8 @@ pub returns-in-Some : goal.returns-in-Some
 unfolding volume_id
 returns-in-Some g c =
     let w = c.args.volume.now in
-    ran_as (id_or_named (Some c.in-Some.id) w) (id_or_named (id_of w) w) (ap (λ (o : Option ℕ). id_or_named o w) c.in-Some.ensures) (ran_still _ _ (Ok c.in-Some.id) tt)
+    ran_as (id_or_named (Some c.in-Some.id) w) (id_or_named (id_of w) w) (ap (λ (o : Option ℕ). id_or_named o w) c.in-Some.ensures)
+    (ran_still _ _ (Ok c.in-Some.id) tt)
 
 pub returns-in_err-entry-in-None : goal.returns-in_err-entry-in-None
 unfolding volume_id

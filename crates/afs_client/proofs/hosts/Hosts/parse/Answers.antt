@@ -30,16 +30,19 @@ are_hosts text list seen addresses named same some =
 
 no_addresses : (text : List ℕ) → false ≡ list_all is_address (parts_of text) → hosts_of text ≡ None
 unfolding hosts_of
-no_addresses text addresses = first_fails (list_all is_address (parts_of text)) (are_some_hosts (named_hosts text)) (named_hosts text) (sym addresses)
+no_addresses text addresses =
+    first_fails (list_all is_address (parts_of text)) (are_some_hosts (named_hosts text)) (named_hosts text) (sym addresses)
 
-no_hosts : (text : List ℕ) (list seen : List Host) → list ≡ named_hosts text → seen ≡ list → false ≡ are_some_hosts seen → hosts_of text ≡ None
+no_hosts : (text : List ℕ) (list seen : List Host) → list ≡ named_hosts text → seen ≡ list → false ≡ are_some_hosts seen
+    → hosts_of text ≡ None
 unfolding hosts_of
 no_hosts text list seen named same some =
     second_fails (list_all is_address (parts_of text)) (are_some_hosts (named_hosts text)) (named_hosts text)
     (ap are_some_hosts (sym named) ∙ ap are_some_hosts (sym same) ∙ sym some)
 
 pub returns-in_default-clause-malformed : goal.returns-in_default-clause-malformed
-returns-in_default-clause-malformed c = λ is. no_addresses c.args.text.now (sym (ap is_some c.in_default.is) ∙ c.in_ok-list.ensures.addresses)
+returns-in_default-clause-malformed c =
+    λ is. no_addresses c.args.text.now (sym (ap is_some c.in_default.is) ∙ c.in_ok-list.ensures.addresses)
 
 pub returns-then-are_some_hosts-clause-hosts : goal.returns-then-are_some_hosts-clause-hosts
 returns-then-are_some_hosts-clause-hosts c =
@@ -48,5 +51,6 @@ returns-then-are_some_hosts-clause-hosts c =
 
 pub returns-else-are_some_hosts-clause-malformed : goal.returns-else-are_some_hosts-clause-malformed
 returns-else-are_some_hosts-clause-malformed c = λ is.
-    no_hosts c.args.text.now c.in-Some.list.items c.as_slice.result.now (rw c.in-Some.is at c.in_ok-list.ensures.hosts) c.as_slice.ensures.value
+    no_hosts c.args.text.now c.in-Some.list.items c.as_slice.result.now
+    (rw c.in-Some.is at c.in_ok-list.ensures.hosts) c.as_slice.ensures.value
     c.if-are_some_hosts.ensures

@@ -1,5 +1,0 @@
-use Rattle.std.proofs.Common.{◌≡◌, map, take}
-use Rattle.chained_records.proofs.forms.flags_of.Given as goal
-
-abbrev pub invariant-loop-site : goal.invariant-loop-site
-invariant-loop-site l = l.flags.items ≡ map (λ site. site.flags) (take l.site-index l.sites)

@@ -1,4 +1,0 @@
-pub mod Chained
-pub mod Changes
-pub mod Ends
-pub mod Sought

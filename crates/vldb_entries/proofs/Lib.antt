@@ -1,0 +1,5 @@
+pub mod EntryAgain
+pub mod HeadRead
+pub mod Locations
+pub mod Positions
+pub mod Relocated
