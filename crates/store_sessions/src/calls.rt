@@ -7,6 +7,7 @@ use crate::logs::{call_bytes, course, keep, read_file};
 use crate::pages::{call_pages, open_over, open_pages};
 use crate::stores::{Stop, call_store, open_store};
 use crate::words::fill_of;
+use disk_base::MemDisk;
 use session_rows::{Fault, long_in, number_in};
 use std::alloc::Global;
 
@@ -17,32 +18,39 @@ pub fn make(
     device: Device,
     words: &[&str],
 ) -> Result<(Device, Answer), Fault> {
+    let first = words.first().copied().unwrap_or("");
+    match first {
+        "fail" | "keep" | "course" => begin(alloc, names, words),
+        "pages" | "over" | "open" | "close" => open(alloc, device.into_disk(), words),
+        "encode" | "empty" | "parse" | "changes" | "again" => {
+            let answer = call_bytes(alloc, names, words)?;
+            Ok((device, answer))
+        }
+        _ => make_on(alloc, names, device, words),
+    }
+}
+
+/// Makes a call on a disk of its own.
+fn begin(alloc: Global, names: &Names, words: &[&str]) -> Result<(Device, Answer), Fault> {
     match words {
         ["fail", numbers @ ..] => Ok((planned(alloc, numbers)?, Answer::text(alloc, "done")?)),
-        ["pages"] => open_pages(alloc, device.into_disk()),
-        ["over"] => open_over(alloc, device.into_disk()),
-        ["open"] => open_store(alloc, device.into_disk(), None),
-        ["open", "stop", calls, fill] => {
-            let stop = stop_of(calls, fill)?;
-            open_store(alloc, device.into_disk(), Some(stop))
-        }
-        ["close"] => Ok((
-            Device::Disk(device.into_disk()),
-            Answer::text(alloc, "done")?,
-        )),
-        ["keep", log] => keep(alloc, &names.bytes_of(log)?, None),
-        ["keep", log, "stop", calls, fill] => {
-            let stop = stop_of(calls, fill)?;
-            keep(alloc, &names.bytes_of(log)?, Some(stop))
-        }
-        ["course", log] => course(alloc, &names.bytes_of(log)?, &[]),
-        ["course", log, "fail", number] => {
-            course(alloc, &names.bytes_of(log)?, &[long_in(number)?])
-        }
-        _ => match call_bytes(alloc, names, words)? {
-            Some(answer) => Ok((device, answer)),
-            None => make_on(alloc, names, device, words),
-        },
+        ["keep", log] => keep(alloc, names, log, None),
+        ["keep", log, "stop", calls, fill] => keep(alloc, names, log, Some(stop_of(calls, fill)?)),
+        ["course", log] => course(alloc, names, log, &[]),
+        ["course", log, "fail", number] => course(alloc, names, log, &[long_in(number)?]),
+        _ => Err(Fault::Form),
+    }
+}
+
+/// Opens what stands on a disk, or leaves it as it is.
+fn open(alloc: Global, disk: MemDisk, words: &[&str]) -> Result<(Device, Answer), Fault> {
+    match words {
+        ["pages"] => open_pages(alloc, disk),
+        ["over"] => open_over(alloc, disk),
+        ["open"] => open_store(alloc, disk, None),
+        ["open", "stop", calls, fill] => open_store(alloc, disk, Some(stop_of(calls, fill)?)),
+        ["close"] => Ok((Device::Disk(disk), Answer::text(alloc, "done")?)),
+        _ => Err(Fault::Form),
     }
 }
 

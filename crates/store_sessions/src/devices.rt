@@ -4,8 +4,7 @@ ghost use Rattle.disk_base.specs.MemDisk.{now_of};
 ghost use Rattle.page_file.specs.Pages.{AgreesIn};
 ghost use Rattle.page_file.specs.declared.label.TheConstants.{LABEL_LEN};
 ghost use Rattle.ubik_store.specs.Store.{IsSound};
-ghost use Rattle.std.proofs.Props.{props};
-ghost use Rattle.store_sessions.specs.Lone.{IsSeamless-prop, IsWithinImage-prop};
+ghost use Rattle.store_sessions.specs.Lone.{AgreesIn-prop, IsSound-prop};
 
 use disk_base::{Disk, MemDisk};
 use page_file::Pages;
@@ -16,7 +15,7 @@ use ubik_store::Store;
 pub struct PagedDisk {
     pub disk: MemDisk,
     pub pages: Pages,
-    ghost agrees: { AgreesIn pages (⟦<MemDisk as Disk>⟧.files disk) } by { Prim.hlevel props },
+    ghost agrees: { AgreesIn pages (⟦<MemDisk as Disk>⟧.files disk) } by { AgreesIn-prop pages (⟦<MemDisk as Disk>⟧.files disk) },
     ghost headed: { LABEL_LEN ≤ length (now_of disk).database },
 }
 
@@ -24,7 +23,7 @@ pub struct PagedDisk {
 #[derive(Drop)]
 pub struct HeldStore {
     pub store: Store<MemDisk>,
-    ghost sound: { IsSound ⟦<MemDisk as Disk>⟧ store } by { Prim.hlevel (props, IsSeamless-prop, IsWithinImage-prop) },
+    ghost sound: { IsSound ⟦<MemDisk as Disk>⟧ store } by { IsSound-prop ⟦<MemDisk as Disk>⟧ store },
 }
 
 /// What the next call is made on.

@@ -34,13 +34,21 @@ pub fn call_disk(
             Answer::ended(alloc, write(disk, file_of(file)?, long_in(at)?, &bytes)?)
         }
         ["cut", file, len] => Answer::ended(alloc, cut(disk, file_of(file)?, long_in(len)?)),
-        ["sync", file] => Answer::ended(alloc, disk.sync(file_of(file)?)),
-        ["len", file] => match disk.len(file_of(file)?) {
+        [call, file] => call_file(alloc, disk, call, file_of(file)?),
+        _ => stop_disk(alloc, disk, words),
+    }
+}
+
+/// Makes a call that names a file alone.
+fn call_file(alloc: Global, disk: &mut MemDisk, call: &str, file: FileNo) -> Result<Answer, Fault> {
+    match call {
+        "sync" => Answer::ended(alloc, disk.sync(file)),
+        "len" => match disk.len(file) {
             LenEnd::Known(len) => Ok(Answer::of(format!(in alloc; "{len}")?)),
             LenEnd::Failed => Answer::text(alloc, "failed"),
         },
-        ["file", file] => read_whole(alloc, disk, file_of(file)?),
-        _ => stop_disk(alloc, disk, words),
+        "file" => read_whole(alloc, disk, file),
+        _ => Err(Fault::Form),
     }
 }
 

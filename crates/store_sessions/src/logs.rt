@@ -19,25 +19,27 @@ use ubik_types::{Bytes, Change, MAX_IMAGE, Version, changes_new, changes_push};
 /// The least length of a log that is kept: that of its first word.
 const LEAST: usize = 4;
 
-/// Makes a call on logs as bytes; none where the words are no such call.
-pub fn call_bytes(alloc: Global, names: &Names, words: &[&str]) -> Result<Option<Answer>, Fault> {
-    let answer = match words {
+/// Makes a call on logs as bytes.
+pub fn call_bytes(alloc: Global, names: &Names, words: &[&str]) -> Result<Answer, Fault> {
+    match words {
         ["encode", version, put] => {
             let (at, bytes) = put.split_once('=').ok_or(Fault::Form)?;
             let bytes = names.bytes_of(bytes)?;
-            encode_put(alloc, number_in(at)?, bytes, version_of(version)?)?
+            encode_put(alloc, number_in(at)?, bytes, version_of(version)?)
         }
         ["encode", version] => {
             let log = encode_log(alloc, &changes_new(alloc), version_of(version)?)?;
-            Answer::bytes(alloc, log.into_vec())
+            Ok(Answer::bytes(alloc, log.into_vec()))
         }
-        ["empty", version] => Answer::bytes(alloc, empty_log(version_of(version)?).to_vec(alloc)?),
-        ["parse", bytes] => told(alloc, &parse_log(alloc, &names.bytes_of(bytes)?)?)?,
-        ["changes", bytes] => told_changes(alloc, &parse_log(alloc, &names.bytes_of(bytes)?)?)?,
-        ["again", bytes] => again(alloc, &names.bytes_of(bytes)?)?,
-        _ => return Ok(None),
-    };
-    Ok(Some(answer))
+        ["empty", version] => {
+            let log = empty_log(version_of(version)?).to_vec(alloc)?;
+            Ok(Answer::bytes(alloc, log))
+        }
+        ["parse", bytes] => told(alloc, &parse_log(alloc, &names.bytes_of(bytes)?)?),
+        ["changes", bytes] => told_changes(alloc, &parse_log(alloc, &names.bytes_of(bytes)?)?),
+        ["again", bytes] => again(alloc, &names.bytes_of(bytes)?),
+        _ => Err(Fault::Form),
+    }
 }
 
 /// The log of one put.
@@ -139,12 +141,18 @@ fn refusal(alloc: Global, fault: LogFault) -> Result<Answer, Fault> {
 }
 
 /// Keeps a log on an empty disk, opens its gate and closes it; a stop may be armed before.
-pub fn keep(alloc: Global, log: &[u8], stop: Option<Stop>) -> Result<(Device, Answer), Fault> {
+pub fn keep(
+    alloc: Global,
+    names: &Names,
+    log: &str,
+    stop: Option<Stop>,
+) -> Result<(Device, Answer), Fault> {
+    let log = names.bytes_of(log)?;
     if log.len() < LEAST {
         return Err(Fault::Form);
     }
     let mut disk = MemDisk::new(alloc, &[])?;
-    let answer = match read_each(alloc, &mut disk, log, stop) {
+    let answer = match read_each(alloc, &mut disk, &log, stop) {
         Ok(_) => Answer::text(alloc, "done")?,
         Err(fault) => refusal(alloc, fault)?,
     };
@@ -152,12 +160,18 @@ pub fn keep(alloc: Global, log: &[u8], stop: Option<Stop>) -> Result<(Device, An
 }
 
 /// Keeps a log on an empty disk whose calls of these numbers fail, opens its gate and closes it, and tells what is read after each.
-pub fn course(alloc: Global, log: &[u8], fails: &[u64]) -> Result<(Device, Answer), Fault> {
+pub fn course(
+    alloc: Global,
+    names: &Names,
+    log: &str,
+    fails: &[u64],
+) -> Result<(Device, Answer), Fault> {
+    let log = names.bytes_of(log)?;
     if log.len() < LEAST {
         return Err(Fault::Form);
     }
     let mut disk = MemDisk::new(alloc, fails)?;
-    let answer = match read_each(alloc, &mut disk, log, None) {
+    let answer = match read_each(alloc, &mut disk, &log, None) {
         Ok(read) => {
             let [kept, opened, closed] = read;
             let kept = version_text(alloc, kept)?;

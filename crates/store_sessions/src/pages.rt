@@ -1,6 +1,5 @@
 //! Calls of pages over a database file. An opening asks for the length of the file once more.
 ghost use Rattle.page_file.specs.Pages.{AgreesIn};
-ghost use Rattle.ubik_types.specs.Version.{IsVersion};
 
 use crate::answers::Answer;
 use crate::bytes::Names;
@@ -54,7 +53,7 @@ fn hold(alloc: Global, disk: MemDisk, pages: Pages) -> Result<(Device, Answer), 
     }
 }
 
-/// Makes a call of pages. After one that fails only the disk is left.
+/// Makes a call of pages. After one that fails only the disk is left. Each reads its own words: a fault among them lets the pages go.
 pub fn call_pages(
     alloc: Global,
     names: &Names,
@@ -62,12 +61,12 @@ pub fn call_pages(
     words: &[&str],
 ) -> Result<(Device, Answer), Fault> {
     match words {
-        ["put", at, bytes] => put(alloc, paged, number_in(at)?, &names.bytes_of(bytes)?),
-        ["read", at, len] => read(alloc, paged, number_in(at)?, number_in(len)?),
-        ["truncate", len] => truncate(alloc, paged, number_in(len)?),
-        ["label", version] => label(alloc, paged, version_of(version)?),
+        ["put", at, bytes] => put(alloc, names, paged, at, bytes),
+        ["read", at, len] => read(alloc, paged, at, len),
+        ["truncate", len] => truncate(alloc, paged, len),
+        ["label", version] => label(alloc, paged, version),
         ["sync"] => sync(alloc, paged),
-        ["kept", page] => kept(alloc, paged, number_in(page)?),
+        ["kept", page] => kept(alloc, paged, page),
         _ => Err(Fault::Form),
     }
 }
@@ -86,12 +85,20 @@ fn failed(alloc: Global, disk: MemDisk, pages: &Pages) -> Result<(Device, Answer
     Ok((Device::Disk(disk), Answer::of(text)))
 }
 
-fn kept(alloc: Global, paged: PagedDisk, page: u32) -> Result<(Device, Answer), Fault> {
-    let answer = Answer::text(alloc, if paged.pages.kept(page) { "yes" } else { "no" })?;
+fn kept(alloc: Global, paged: PagedDisk, page: &str) -> Result<(Device, Answer), Fault> {
+    let is_kept = paged.pages.kept(number_in(page)?);
+    let answer = Answer::text(alloc, if is_kept { "yes" } else { "no" })?;
     Ok((Device::Pages(paged), answer))
 }
 
-fn put(alloc: Global, paged: PagedDisk, at: u32, bytes: &[u8]) -> Result<(Device, Answer), Fault> {
+fn put(
+    alloc: Global,
+    names: &Names,
+    paged: PagedDisk,
+    at: &str,
+    bytes: &str,
+) -> Result<(Device, Answer), Fault> {
+    let (at, bytes) = (number_in(at)?, names.bytes_of(bytes)?);
     let PagedDisk {
         mut disk,
         mut pages,
@@ -101,13 +108,14 @@ fn put(alloc: Global, paged: PagedDisk, at: u32, bytes: &[u8]) -> Result<(Device
         return Err(Fault::Form);
     }
     pages.reserve(&mut disk, end as u32)?;
-    match pages.write_range(&mut disk, at, bytes) {
+    match pages.write_range(&mut disk, at, &bytes) {
         Ok(()) => done(alloc, PagedDisk { disk, pages }),
         Err(_) => failed(alloc, disk, &pages),
     }
 }
 
-fn read(alloc: Global, paged: PagedDisk, at: u32, len: u32) -> Result<(Device, Answer), Fault> {
+fn read(alloc: Global, paged: PagedDisk, at: &str, len: &str) -> Result<(Device, Answer), Fault> {
+    let (at, len) = (number_in(at)?, number_in(len)?);
     let PagedDisk {
         mut disk,
         mut pages,
@@ -125,7 +133,8 @@ fn read(alloc: Global, paged: PagedDisk, at: u32, len: u32) -> Result<(Device, A
     }
 }
 
-fn truncate(alloc: Global, paged: PagedDisk, len: u32) -> Result<(Device, Answer), Fault> {
+fn truncate(alloc: Global, paged: PagedDisk, len: &str) -> Result<(Device, Answer), Fault> {
+    let len = number_in(len)?;
     let PagedDisk {
         mut disk,
         mut pages,
@@ -139,9 +148,8 @@ fn truncate(alloc: Global, paged: PagedDisk, len: u32) -> Result<(Device, Answer
     }
 }
 
-fn label(alloc: Global, paged: PagedDisk, version: Version) -> Result<(Device, Answer), Fault>
-    requires { IsVersion version }
-{
+fn label(alloc: Global, paged: PagedDisk, version: &str) -> Result<(Device, Answer), Fault> {
+    let version = version_of(version)?;
     let PagedDisk {
         mut disk,
         mut pages,

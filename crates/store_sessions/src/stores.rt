@@ -1,5 +1,5 @@
 //! Calls of a store. An opening opens the files of its disk anew, and may arm a stop before it.
-ghost use Rattle.std.specs.Prelude.{◌≡◌, IsSome};
+ghost use Rattle.std.specs.Prelude.{◌≡◌, IsSome, None};
 ghost use Rattle.disk_base.specs.Crash.{IsSettled};
 
 use crate::answers::Answer;
@@ -165,17 +165,38 @@ fn call_at_rest(
             held.store.begin();
             Answer::text(alloc, "done")
         }
-        ["commit", version, changes @ ..] => {
-            let changes = changes_of(alloc, names, changes)?;
-            ended(alloc, held.store.commit_all(&changes, version_of(version)?))
-        }
+        ["commit", version, changes @ ..] => commit_all(alloc, names, held, version, changes),
         ["relabel", version] => ended(alloc, held.store.relabel(version_of(version)?)),
-        ["install", bytes, version] => {
-            let (image, version) = (names.bytes_of(bytes)?, version_of(version)?);
-            ended(alloc, held.store.install(&image, version))
-        }
+        ["install", bytes, version] => install(alloc, names, held, bytes, version),
         _ => Err(Fault::Form),
     }
+}
+
+/// Commits changes that are lent.
+fn commit_all(
+    alloc: Global,
+    names: &Names,
+    held: &mut HeldStore,
+    version: &str,
+    changes: &[&str],
+) -> Result<Answer, Fault>
+    requires { held.old.store.begun ≡ None }
+{
+    let (changes, version) = (changes_of(alloc, names, changes)?, version_of(version)?);
+    ended(alloc, held.store.commit_all(&changes, version))
+}
+
+fn install(
+    alloc: Global,
+    names: &Names,
+    held: &mut HeldStore,
+    bytes: &str,
+    version: &str,
+) -> Result<Answer, Fault>
+    requires { held.old.store.begun ≡ None }
+{
+    let (image, version) = (names.bytes_of(bytes)?, version_of(version)?);
+    ended(alloc, held.store.install(&image, version))
 }
 
 /// Reads the image whole.
