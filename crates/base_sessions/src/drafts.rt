@@ -1,4 +1,5 @@
 //! Drafts over images in memory, and limits of changes.
+use crate::words::word_text;
 use db_image::{Draft, ImageRead, VecImage, too_large};
 use session_rows::{Fault, bytes_in, number_in, told_bytes};
 use std::alloc::Global;
@@ -16,14 +17,19 @@ fn draft_of(
     }
     let mut draft = Draft::over(alloc, VecImage::new(alloc, &image)?, head, block);
     for put in puts {
-        let (at, bytes) = put.split_once('=').ok_or(Fault::Form)?;
-        let (at, bytes) = (number_in(at)?, bytes_in(alloc, bytes)?);
-        if at as usize > MAX_IMAGE || bytes.len() > MAX_IMAGE {
-            return Err(Fault::Form);
-        }
-        draft.put(at, &bytes).map_err(|_| Fault::NoMemory)?;
+        put_on(alloc, &mut draft, put)?;
     }
     Ok(draft)
+}
+
+/// Puts bytes at a position: `AT=BYTES`.
+fn put_on(alloc: Global, draft: &mut Draft<VecImage>, put: &str) -> Result<(), Fault> {
+    let (at, bytes) = put.split_once('=').ok_or(Fault::Form)?;
+    let (at, bytes) = (number_in(at)?, bytes_in(alloc, bytes)?);
+    if at as usize > MAX_IMAGE || bytes.len() > MAX_IMAGE {
+        return Err(Fault::Form);
+    }
+    draft.put(at, &bytes).map_err(|_| Fault::NoMemory)
 }
 
 /// The bytes of such a draft, and its changes.
@@ -35,16 +41,20 @@ pub fn draft_text(alloc: Global, head: [&str; 3], puts: &[&str]) -> Result<Strin
     let mut text = told_bytes(alloc, &bytes)?;
     let (_, changes) = draft.finish();
     for change in changes?.as_slice() {
-        let told = match change {
-            Change::Put { at, bytes } => {
-                let bytes = told_bytes(alloc, bytes.as_slice())?;
-                format!(in alloc; " {at}={bytes}")?
-            }
-            Change::Cut { len } => format!(in alloc; " cut={len}")?,
-        };
-        text.push_str(told.as_str())?;
+        text.push_str(change_text(alloc, change)?.as_str())?;
     }
     Ok(text)
+}
+
+/// A change after those before it: ` AT=BYTES` or ` cut=LEN`.
+fn change_text(alloc: Global, change: &Change) -> Result<String, Fault> {
+    match change {
+        Change::Put { at, bytes } => {
+            let bytes = told_bytes(alloc, bytes.as_slice())?;
+            Ok(format!(in alloc; " {at}={bytes}")?)
+        }
+        Change::Cut { len } => Ok(format!(in alloc; " cut={len}")?),
+    }
 }
 
 /// What is too large where changes are made to an image of a length: `AT+LEN` for a put of so many bytes, `cut+LEN` for a cut.
@@ -55,22 +65,23 @@ pub fn limit_text(alloc: Global, len: &str, words: &[&str]) -> Result<String, Fa
     }
     let mut changes = changes_new(alloc);
     for word in words {
-        let change = match word.split_once('+').ok_or(Fault::Form)? {
-            ("cut", len) => Change::Cut {
-                len: number_in(len)?,
-            },
-            (at, len) => {
-                let bytes = vec![in alloc; 0; number_in(len)? as usize]?;
-                Change::Put {
-                    at: number_in(at)?,
-                    bytes: Bytes::new(bytes),
-                }
-            }
-        };
-        changes_push(&mut changes, change)?;
+        changes_push(&mut changes, change_in(alloc, word)?)?;
     }
     match too_large(len, &changes) {
         Some(bytes) => Ok(format!(in alloc; "{bytes}")?),
-        None => Ok(String::from_str(alloc, "none")?),
+        None => word_text(alloc, "none"),
+    }
+}
+
+fn change_in(alloc: Global, word: &str) -> Result<Change, Fault> {
+    match word.split_once('+').ok_or(Fault::Form)? {
+        ("cut", len) => Ok(Change::Cut {
+            len: number_in(len)?,
+        }),
+        (at, len) => {
+            let (at, len) = (number_in(at)?, number_in(len)?);
+            let bytes = Bytes::new(vec![in alloc; 0; len as usize]?);
+            Ok(Change::Put { at, bytes })
+        }
     }
 }

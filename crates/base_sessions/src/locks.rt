@@ -1,5 +1,5 @@
 //! Calls on a table of locks.
-use crate::words::number_text;
+use crate::words::{number_text, word_text};
 use lock_table::LockTable;
 use session_rows::{Fault, number_in};
 use std::alloc::Global;
@@ -17,23 +17,26 @@ fn wanted([start, len, access, who]: [&str; 4]) -> Result<(u32, u32, bool, u32),
 /// Makes a call.
 pub fn call_table(alloc: Global, table: &mut LockTable, words: &[&str]) -> Result<String, Fault> {
     match words {
-        ["test", start, len, access, who] => {
-            let (start, len, write, who) = wanted([start, len, access, who])?;
-            match table.test(start, len, write, who) {
-                Some(held) => {
-                    let (holder, start, len) = (held.holder, held.start, held.len);
-                    Ok(format!(in alloc; "{holder} {start} {len}")?)
-                }
-                None => Ok(String::from_str(alloc, "none")?),
-            }
-        }
+        ["test", start, len, access, who] => test_text(alloc, table, [start, len, access, who]),
         ["wait", who, holder] => match table.wait(number_in(who)?, number_in(holder)?) {
-            Ok(()) => Ok(String::from_str(alloc, "done")?),
+            Ok(()) => word_text(alloc, "done"),
             Err(full) => Ok(format!(in alloc; "full {}", full.holder)?),
         },
         ["next"] => number_text(alloc, table.next()),
         ["waiting"] => Ok(format!(in alloc; "{}", table.waiting())?),
-        _ => Ok(String::from_str(alloc, change(table, words)?)?),
+        _ => word_text(alloc, change(table, words)?),
+    }
+}
+
+/// Which held range keeps a range from being taken.
+fn test_text(alloc: Global, table: &LockTable, range: [&str; 4]) -> Result<String, Fault> {
+    let (start, len, write, who) = wanted(range)?;
+    match table.test(start, len, write, who) {
+        Some(held) => {
+            let (holder, start, len) = (held.holder, held.start, held.len);
+            Ok(format!(in alloc; "{holder} {start} {len}")?)
+        }
+        None => word_text(alloc, "none"),
     }
 }
 

@@ -45,7 +45,12 @@ impl Sessions {
         for word in call.split(' ') {
             words.push(word)?;
         }
-        match words.as_slice() {
+        self.found_by(&words)
+    }
+
+    /// What is found where these are the words of a call.
+    fn found_by(&mut self, words: &[&str]) -> Result<String, Fault> {
+        match words {
             ["vote", call @ ..] => self.voter.call(self.alloc, call),
             ["lock", call @ ..] => call_table(self.alloc, &mut self.table, call),
             ["poll", call @ ..] => call_poll(self.alloc, &mut self.poll, call),

@@ -2,7 +2,7 @@
 ghost use Rattle.std.specs.Prelude.{◌≡◌, ◌||◌, if◌then◌else◌};
 ghost use Rattle.ubik_types.specs.Version.{version_lt, version_eq};
 
-use crate::words::{truth_word, version_in};
+use crate::words::{truth_word, version_in, word_text};
 use session_rows::{Fault, number_in};
 use std::alloc::Global;
 use ubik_types::{Cell, CellFault, Host, MAXSERVERS, Marks, Version, majority, vote_quorum};
@@ -14,26 +14,30 @@ pub fn found_value(alloc: Global, words: &[&str]) -> Result<String, Fault> {
             Ok(cell) => cell_text(alloc, &cell),
             Err(fault) => Ok(format!(in alloc; "{fault}")?),
         },
-        ["place", host, "of", hosts @ ..] => {
-            let cell = cell_of(alloc, hosts)?.map_err(|_| Fault::Form)?;
-            match cell.index(Host(number_in(host)?)) {
-                Some(place) => Ok(format!(in alloc; "{place}")?),
-                None => Ok(String::from_str(alloc, "none")?),
-            }
-        }
-        ["set", marks, "of", hosts @ ..] => {
-            let cell = cell_of(alloc, hosts)?.map_err(|_| Fault::Form)?;
-            let marks = marks_in(marks);
-            let quorum = truth_word(vote_quorum(&cell, &marks));
-            let majority = truth_word(majority(&cell, &marks));
-            Ok(format!(in alloc; "{quorum} {majority}")?)
-        }
-        ["order", a, b] => {
-            let order = order_word(version_in(a)?, version_in(b)?);
-            Ok(String::from_str(alloc, order)?)
-        }
+        ["place", host, "of", hosts @ ..] => place_text(alloc, host, hosts),
+        ["set", marks, "of", hosts @ ..] => quorum_text(alloc, marks, hosts),
+        ["order", a, b] => word_text(alloc, order_word(version_in(a)?, version_in(b)?)),
         _ => Err(Fault::Form),
     }
+}
+
+/// At which place of the cell of these hosts a host stands.
+fn place_text(alloc: Global, host: &str, hosts: &[&str]) -> Result<String, Fault> {
+    let host = Host(number_in(host)?);
+    let cell = cell_of(alloc, hosts)?.map_err(|_| Fault::Form)?;
+    match cell.index(host) {
+        Some(place) => Ok(format!(in alloc; "{place}")?),
+        None => word_text(alloc, "none"),
+    }
+}
+
+/// Whether a set of the servers of the cell of these hosts is a quorum of votes, and whether it is a majority.
+fn quorum_text(alloc: Global, marks: &str, hosts: &[&str]) -> Result<String, Fault> {
+    let marks = marks_in(marks);
+    let cell = cell_of(alloc, hosts)?.map_err(|_| Fault::Form)?;
+    let quorum = truth_word(vote_quorum(&cell, &marks));
+    let majority = truth_word(majority(&cell, &marks));
+    Ok(format!(in alloc; "{quorum} {majority}")?)
 }
 
 /// The cell of these hosts, or why they make none.

@@ -41,11 +41,15 @@ pub fn version_text(alloc: Global, version: Version) -> Result<String, Fault> {
     Ok(format!(in alloc; "{epoch}.{counter}")?)
 }
 
+pub fn word_text(alloc: Global, word: &str) -> Result<String, Fault> {
+    Ok(String::from_str(alloc, word)?)
+}
+
 /// A number, or `none`.
 pub fn number_text(alloc: Global, number: Option<u32>) -> Result<String, Fault> {
     match number {
         Some(number) => Ok(format!(in alloc; "{number}")?),
-        None => Ok(String::from_str(alloc, "none")?),
+        None => word_text(alloc, "none"),
     }
 }
 

@@ -38,28 +38,26 @@ pub fn call_of(alloc: Global, line: &str) -> Result<Bytes, Fault> {
 /// What is found where a row says how a call ends over each image with one byte damaged: the end that the row says, or the first other one.
 pub fn found_over(alloc: Global, image: &[u8], row: &str) -> Result<String, Fault> {
     let (left, expected) = parted(row)?;
-    let (word, left) = first_of(left);
-    let (from, left) = first_place(left)?;
-    let (to, left) = first_place(left)?;
-    let (damage, call) = damage_of(alloc, word, left)?;
-    let call = call_of(alloc, call)?;
     let wanted = wanted_of(expected)?;
+    let (from, to, damage, call) = trial_of(alloc, left)?;
+    let call = call_of(alloc, call)?;
     let mut draft = draft_over(alloc, image)?;
     for at in from..to {
-        let byte = *image.get(at).ok_or(Fault::Form)?;
-        let (told, len) = match damage {
-            Damage::Set(other) => end_with(alloc, &mut draft, at, [byte, other], call.as_slice())?,
-            Damage::Flip(bits) => {
-                let bytes = [byte, byte ^ bits];
-                end_with(alloc, &mut draft, at, bytes, call.as_slice())?
-            }
-            Damage::Cut => end_before(alloc, image, at, call.as_slice())?,
-        };
+        let (told, len) = end_at(alloc, image, &mut draft, at, damage, call.as_slice())?;
         if !is_wanted(alloc, wanted, told.as_str(), len)? {
             return Ok(format!(in alloc; "{told} at {at}")?);
         }
     }
     Ok(String::from_str(alloc, expected)?)
+}
+
+/// The first place that a row damages and the one behind the last, how it damages each, and the words of its call.
+fn trial_of(alloc: Global, left: &str) -> Result<(usize, usize, Damage, &str), Fault> {
+    let (word, left) = first_of(left);
+    let (from, left) = first_place(left)?;
+    let (to, left) = first_place(left)?;
+    let (damage, call) = damage_of(alloc, word, left)?;
+    Ok((from, to, damage, call))
 }
 
 /// The damage that a row has, and the words of its call.
@@ -92,6 +90,23 @@ fn draft_over(alloc: Global, image: &[u8]) -> Result<Draft<VecImage>, Fault> {
         return Err(Fault::Form);
     }
     Ok(PtService::draft(alloc, VecImage::new(alloc, image)?))
+}
+
+/// How a call ends over an image that is damaged at a place, and how long that image is. The draft over the image is as before.
+fn end_at(
+    alloc: Global,
+    image: &[u8],
+    draft: &mut Draft<VecImage>,
+    at: usize,
+    damage: Damage,
+    call: &[u8],
+) -> Result<(String, usize), Fault> {
+    let byte = *image.get(at).ok_or(Fault::Form)?;
+    match damage {
+        Damage::Set(other) => end_with(alloc, draft, at, [byte, other], call),
+        Damage::Flip(bits) => end_with(alloc, draft, at, [byte, byte ^ bits], call),
+        Damage::Cut => end_before(alloc, image, at, call),
+    }
 }
 
 /// How a call that reads ends over an image with the second byte in place of the first, and the image's length. The first is put back.

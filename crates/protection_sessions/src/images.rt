@@ -110,19 +110,24 @@ impl Image {
     /// What there is where a row tells of the image: the words of the row, where it is so.
     pub fn found(&mut self, row: &str) -> Result<String, Fault> {
         let mut bytes = self.bytes()?;
-        let (word, rest) = first_of(row);
-        let found = match word {
-            "size" => format!(in self.alloc; "size {}", bytes.all.len())?,
-            "blocks" => found_blocks(self.alloc, &bytes.all, rest)?,
-            "same" => found_same(self.alloc, &mut bytes, &self.kept, row)?,
-            "zero" => found_zero(self.alloc, &bytes.untold)?,
-            _ => {
-                let told = bytes_in(self.alloc, rest)?;
-                found_at(self.alloc, &mut bytes, row, place_of(word)?, &told)?
-            }
-        };
+        let found = found_in(self.alloc, &mut bytes, &self.kept, row)?;
         self.read = Some(bytes);
         Ok(found)
+    }
+}
+
+fn found_in(alloc: Global, bytes: &mut Bytes, kept: &[u8], row: &str) -> Result<String, Fault> {
+    let (word, rest) = first_of(row);
+    match word {
+        "size" => Ok(format!(in alloc; "size {}", bytes.all.len())?),
+        "blocks" => found_blocks(alloc, &bytes.all, rest),
+        "same" => found_same(alloc, bytes, kept, row),
+        "zero" => found_zero(alloc, &bytes.untold),
+        _ => {
+            let at = place_of(word)?;
+            let told = bytes_in(alloc, rest)?;
+            found_at(alloc, bytes, row, at, &told)
+        }
     }
 }
 

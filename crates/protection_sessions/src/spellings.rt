@@ -20,15 +20,9 @@ pub fn found_call(alloc: Global, bytes: &str, words: &str) -> Result<String, Fau
 
 /// What differs where these bytes are to be the call that words name.
 fn call_fault(alloc: Global, bytes: &[u8], words: &str) -> Result<Option<&'static str>, Fault> {
-    let Some(call) = read_call(alloc, bytes)? else {
-        return Ok(Some("no call"));
-    };
-    if spell_call(alloc, &call)?.as_slice() != bytes {
-        return Ok(Some("a call of other bytes"));
-    }
     let (name, _) = first_of(words);
-    if call.kind().word() != name.as_bytes() {
-        return Ok(Some("a call of another kind"));
+    if let Some(fault) = kind_fault(alloc, bytes, name)? {
+        return Ok(Some(fault));
     }
     if call_of(alloc, words)?.as_slice() != bytes {
         return Ok(Some("words of another call"));
@@ -38,6 +32,20 @@ fn call_fault(alloc: Global, bytes: &[u8], words: &str) -> Result<Option<&'stati
     }
     if has_call_inside(alloc, bytes)? {
         return Ok(Some("a part that is a call"));
+    }
+    Ok(None)
+}
+
+/// What differs where these bytes are to be a call of this name.
+fn kind_fault(alloc: Global, bytes: &[u8], name: &str) -> Result<Option<&'static str>, Fault> {
+    let Some(call) = read_call(alloc, bytes)? else {
+        return Ok(Some("no call"));
+    };
+    if spell_call(alloc, &call)?.as_slice() != bytes {
+        return Ok(Some("a call of other bytes"));
+    }
+    if call.kind().word() != name.as_bytes() {
+        return Ok(Some("a call of another kind"));
     }
     Ok(None)
 }
@@ -107,16 +115,29 @@ pub fn found_answer(alloc: Global, row: &str) -> Result<String, Fault> {
     let (call, bytes) = row.split_once(" : ").ok_or(Fault::Form)?;
     let call = call_of(alloc, call)?;
     let bytes = bytes_in(alloc, bytes)?;
-    let kind = kind_of(call.as_slice()).ok_or(Fault::Form)?;
-    let Some(answer) = read_answer(alloc, kind, bytes.as_slice())? else {
-        return Ok(String::from_str(alloc, "none")?);
-    };
-    if spell_answer(alloc, &answer)?.as_slice() != bytes.as_slice() {
-        return Ok(String::from_str(alloc, "an answer of other bytes")?);
+    match answer_fault(alloc, call.as_slice(), &bytes)? {
+        Some(fault) => Ok(String::from_str(alloc, fault)?),
+        None => answer_text(alloc, call.as_slice(), &bytes),
     }
-    let words = reply_words(alloc, call.as_slice(), bytes.as_slice())?.ok_or(Fault::Form)?;
-    let mut found = String::from_str(alloc, "ok")?;
+}
+
+/// What differs where these bytes are to be an answer to a call.
+fn answer_fault(alloc: Global, call: &[u8], bytes: &[u8]) -> Result<Option<&'static str>, Fault> {
+    let kind = kind_of(call).ok_or(Fault::Form)?;
+    let Some(answer) = read_answer(alloc, kind, bytes)? else {
+        return Ok(Some("none"));
+    };
+    if spell_answer(alloc, &answer)?.as_slice() != bytes {
+        return Ok(Some("an answer of other bytes"));
+    }
+    Ok(None)
+}
+
+/// `ok`, and the words of an answer.
+fn answer_text(alloc: Global, call: &[u8], bytes: &[u8]) -> Result<String, Fault> {
+    let words = reply_words(alloc, call, bytes)?.ok_or(Fault::Form)?;
     let words = str::from_utf8(words.as_slice()).map_err(|_| Fault::Form)?;
+    let mut found = String::from_str(alloc, "ok")?;
     if !words.is_empty() {
         found.push_str(" ")?;
         found.push_str(words)?;
