@@ -1,0 +1,9 @@
+pub mod Beside
+pub mod Ended
+pub mod Fields
+pub mod FirstChains
+pub mod FirstHolds
+pub mod HeadTold
+pub mod Lookups
+pub mod Told
+pub mod Without

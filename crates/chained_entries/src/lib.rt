@@ -1,0 +1,16 @@
+//! The protection database's records over a draft: its entries, found by chains of their names and ids, and the two maxima.
+#![tactic(auto)]
+
+mod finds;
+mod heads;
+mod keys;
+mod laws;
+mod places;
+mod sought;
+
+pub use finds::{find_id, find_name};
+pub use heads::maxima;
+pub use laws::{
+    law_changes_of_chains_stand_apart, law_empty_image_holds_the_first,
+    law_image_tells_its_registry, law_keys, law_other_sorts, law_words_of_chains_stand_apart,
+};
