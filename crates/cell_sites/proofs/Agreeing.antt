@@ -23,11 +23,13 @@ AreMarks (Sent number packet ∷ seen) = ⊥
 AreMarks (h ∷ seen) = AreMarks seen
 
 -- marks pass no limit
-marks_within : (bytes : ℕ) (marks : List Happening) → AreMarks marks → within bytes marks ≡ record { items = map Tells marks; ending = None }
+marks_within : (bytes : ℕ) (marks : List Happening) → AreMarks marks
+    → within bytes marks ≡ record { items = map Tells marks; ending = None }
 marks_within bytes [] are = refl
 marks_within bytes (Sent number packet ∷ seen) are = absurd are
 marks_within bytes (Announced server version ∷ seen) are = ap (within_more (Tells (Announced server version))) (marks_within bytes seen are)
-marks_within bytes (Replied server id reply evaluation ∷ seen) are = ap (within_more (Tells (Replied server id reply evaluation))) (marks_within bytes seen are)
+marks_within bytes (Replied server id reply evaluation ∷ seen) are =
+    ap (within_more (Tells (Replied server id reply evaluation))) (marks_within bytes seen are)
 marks_within bytes (Lost number ∷ seen) are = ap (within_more (Tells (Lost number))) (marks_within bytes seen are)
 marks_within bytes (Stops server ∷ seen) are = ap (within_more (Tells (Stops server))) (marks_within bytes seen are)
 marks_within bytes (Halts server ∷ seen) are = ap (within_more (Tells (Halts server))) (marks_within bytes seen are)
@@ -42,15 +44,18 @@ module _ (script_db : ScriptDatabase) (hosts : List Host) (k : ℕ) where
   -- what was told of it: all that was seen, and all its packets were sent; or what stands before a packet that passes a limit
   pub record Agrees (t : Telling) (shown : List Shown) (marks : List Happening) (run : TellingRun) : Type 0 where
     pub ending : (seen t.sent shown marks).ending ≡ run.ending
-    pub whole : run.ending ≡ None → run.after.text ++ trace script_db hosts (map Tells marks) ≡ t.text ++ trace script_db hosts (seen t.sent shown marks).items
+    pub whole : run.ending ≡ None → run.after.text ++ trace script_db hosts (map Tells marks) ≡ t.text
+        ++ trace script_db hosts (seen t.sent shown marks).items
     pub sent : run.ending ≡ None → run.after.sent ≡ t.sent ++ packets_of shown
     pub part : (e : Ending) → run.ending ≡ Some e → run.after.text ≡ t.text ++ trace script_db hosts (seen t.sent shown marks).items
 
   -- an output that is no packet
   unsent : (t : Telling) (one : Shown) (shown : List Shown) (marks : List Happening) (run : TellingRun) → packet_of one ≡ None
-      → seen t.sent (one ∷ shown) marks ≡ within_more (Tells (seen_of_output k (length t.sent + 1) one.output one.evaluation)) (seen t.sent shown marks)
+      → seen t.sent (one ∷ shown) marks ≡ within_more (Tells (seen_of_output k (length t.sent + 1) one.output one.evaluation))
+      (seen t.sent shown marks)
       → packets_of (one ∷ shown) ≡ packets_of shown
-      → Agrees (record { text = (with_shown script_db hosts k t one).text; sent = t.sent }) shown marks run → Agrees t (one ∷ shown) marks run
+      → Agrees (record { text = (with_shown script_db hosts k t one).text; sent = t.sent }) shown marks run
+      → Agrees t (one ∷ shown) marks run
   unsent t one shown marks run none is packets rest =
       let line = item_text script_db hosts (Tells (seen_of_output k (length t.sent + 1) one.output one.evaluation)) in
       let all = append_assoc t.text line (trace script_db hosts (seen t.sent shown marks).items) in
@@ -68,10 +73,12 @@ module _ (script_db : ScriptDatabase) (hosts : List Host) (k : ℕ) where
       → Agrees (with_shown script_db hosts k t (record { output = output.Send p; evaluation = evaluation })) shown marks
       (told_of script_db hosts k (with_shown script_db hosts k t (record { output = output.Send p; evaluation = evaluation })) shown)
       → Agrees t (record { output = output.Send p; evaluation = evaluation } ∷ shown) marks
-      (unless_passed t passed (told_of script_db hosts k (with_shown script_db hosts k t (record { output = output.Send p; evaluation = evaluation })) shown))
+      (unless_passed t passed
+      (told_of script_db hosts k (with_shown script_db hosts k t (record { output = output.Send p; evaluation = evaluation })) shown))
   sends t p evaluation shown marks (Some ending) is rest =
       let item = Tells (Sent (length t.sent + 1) p) in
-      let e = ap (λ (o : Option Ending). within_packet item o (within (bytes_of t.sent + packet_length p) (seen_from k (length t.sent + 1 + 1) shown ++ marks)))
+      let e = ap (λ (o : Option Ending). within_packet item o
+      (within (bytes_of t.sent + packet_length p) (seen_from k (length t.sent + 1 + 1) shown ++ marks)))
       is in
       record {
         ending = ap (λ (w : Within). w.ending) e;
@@ -85,7 +92,8 @@ module _ (script_db : ScriptDatabase) (hosts : List Host) (k : ℕ) where
       let line = item_text script_db hosts item in
       let more = t.sent ++ p ∷ [] in
       let e : seen t.sent (one ∷ shown) marks ≡ within_more item (seen more shown marks) =
-      ap (λ (o : Option Ending). within_packet item o (within (bytes_of t.sent + packet_length p) (seen_from k (length t.sent + 1 + 1) shown ++ marks))) is
+      ap (λ (o : Option Ending). within_packet item o
+      (within (bytes_of t.sent + packet_length p) (seen_from k (length t.sent + 1 + 1) shown ++ marks))) is
       ∙ ap (λ (n : ℕ). within_more item (within n (seen_from k (length t.sent + 1 + 1) shown ++ marks))) (sym (bytes_of-push t.sent p))
       ∙ ap (λ (n : ℕ). within_more item (within (bytes_of more) (seen_from k (n + 1) shown ++ marks))) (sym (length_push t.sent p)) in
       let all = append_assoc t.text line (trace script_db hosts (seen more shown marks).items) in
@@ -97,7 +105,8 @@ module _ (script_db : ScriptDatabase) (hosts : List Host) (k : ℕ) where
         part = λ ending there. rest.part ending there ∙ all ∙ shows;
       }
 
-  passes : (t : Telling) (p : Packet) (evaluation : Option Evaluation) (shown : List Shown) (marks : List Happening) (passed : Option Ending)
+  passes : (t : Telling) (p : Packet) (evaluation : Option Evaluation) (shown : List Shown) (marks : List Happening)
+      (passed : Option Ending)
       → passed_by (length t.sent + 1) (bytes_of t.sent + packet_length p) ≡ passed
       → Agrees (with_shown script_db hosts k t (record { output = output.Send p; evaluation = evaluation })) shown marks
       (told_of script_db hosts k (with_shown script_db hosts k t (record { output = output.Send p; evaluation = evaluation })) shown)
@@ -109,7 +118,8 @@ module _ (script_db : ScriptDatabase) (hosts : List Host) (k : ℕ) where
       (unless_passed t o (told_of script_db hosts k (with_shown script_db hosts k t it) shown)) in
       subst P (sym is) (sends t p evaluation shown marks passed is rest)
 
-  pub agrees : (t : Telling) (shown : List Shown) (marks : List Happening) → AreMarks marks → Agrees t shown marks (told_of script_db hosts k t shown)
+  pub agrees : (t : Telling) (shown : List Shown) (marks : List Happening) → AreMarks marks
+      → Agrees t shown marks (told_of script_db hosts k t shown)
   agrees t [] marks are =
       let e = marks_within (bytes_of t.sent) marks are in
       record {
@@ -121,7 +131,8 @@ module _ (script_db : ScriptDatabase) (hosts : List Host) (k : ℕ) where
   agrees t (one ∷ shown) marks are = by one.output one.evaluation (λ u. agrees u shown marks are)
     where
       by : (o : Output) (e : Option Evaluation) → ((u : Telling) → Agrees u shown marks (told_of script_db hosts k u shown))
-          → Agrees t (record { output = o; evaluation = e } ∷ shown) marks (told_of script_db hosts k t (record { output = o; evaluation = e } ∷ shown))
+          → Agrees t (record { output = o; evaluation = e } ∷ shown) marks
+          (told_of script_db hosts k t (record { output = o; evaluation = e } ∷ shown))
       by (output.Send p) e rest =
           passes t p e shown marks (passed_by (length t.sent + 1) (bytes_of t.sent + packet_length p)) refl
           (rest (with_shown script_db hosts k t (record { output = output.Send p; evaluation = e })))
@@ -139,12 +150,15 @@ few_faults k j bytes number [] marks are =
     let e = ap (λ (w : Within). fault_count j w.items) (marks_within bytes marks are) in omega (arith, e)
 few_faults k j bytes number (one ∷ shown) marks are = by one.output one.evaluation (λ b n. few_faults k j b n shown marks are)
   where
-    by : (o : Output) (e : Option Evaluation) → ((b n : ℕ) → fault_count j (within b (seen_from k n shown ++ marks)).items ≤ fault_count j (map Tells marks))
-        → fault_count j (within bytes (seen_from k number (record { output = o; evaluation = e } ∷ shown) ++ marks)).items ≤ fault_count j (map Tells marks)
+    by : (o : Output) (e : Option Evaluation)
+        → ((b n : ℕ) → fault_count j (within b (seen_from k n shown ++ marks)).items ≤ fault_count j (map Tells marks))
+        → fault_count j (within bytes (seen_from k number (record { output = o; evaluation = e } ∷ shown) ++ marks)).items ≤ fault_count
+        j (map Tells marks)
     by (output.Send p) e rest = passed (passed_by number (bytes + packet_length p))
       where
         passed : (o : Option Ending)
-            → fault_count j (within_packet (Tells (Sent number p)) o (within (bytes + packet_length p) (seen_from k (number + 1) shown ++ marks))).items ≤
+            → fault_count j (within_packet (Tells (Sent number p)) o
+            (within (bytes + packet_length p) (seen_from k (number + 1) shown ++ marks))).items ≤
             fault_count j (map Tells marks)
         passed (Some ending) = omega arith
         passed None = let r = rest (bytes + packet_length p) (number + 1) in omega (arith, r)

@@ -50,7 +50,8 @@ length_more [] call = refl
 length_more (c ∷ calls) call = let rest = length_more calls call in omega (arith, rest)
 
 -- a call that stands there stays under its id
-stands_on : (calls : List (List ℕ)) (call : List ℕ) (id : ℕ) (other : List ℕ) → StandsUnder calls id other → StandsUnder (calls ++ call ∷ []) id other
+stands_on : (calls : List (List ℕ)) (call : List ℕ) (id : ℕ) (other : List ℕ) → StandsUnder calls id other
+    → StandsUnder (calls ++ call ∷ []) id other
 stands_on calls call id other stands =
     let more = length_more calls call in
     let some = stands.some in
@@ -61,7 +62,8 @@ stands_on calls call id other stands =
       is = get_front calls call (id - 1) (omega (arith, some, within)) ∙ stands.is;
     }
 
-pub all_stand_on : (calls : List (List ℕ)) (call : List ℕ) (waiting : List Waiting) → AllStandUnder calls waiting → AllStandUnder (calls ++ call ∷ []) waiting
+pub all_stand_on : (calls : List (List ℕ)) (call : List ℕ) (waiting : List Waiting) → AllStandUnder calls waiting
+    → AllStandUnder (calls ++ call ∷ []) waiting
 all_stand_on calls call [] all = tt
 all_stand_on calls call (w ∷ waiting) all = (stands_on calls call w.id w.call all.0, all_stand_on calls call waiting all.1)
 
@@ -76,7 +78,8 @@ new_stands calls call id next =
       is = ap (λ (k : ℕ). get_or (calls ++ call ∷ []) k []) place ∙ get_last calls call;
     }
 
-pub stands_kept : (before after : List (List ℕ)) (call : List ℕ) (id : ℕ) → after ≡ before ++ call ∷ [] → id ≡ length before + 1 → StandsUnder after id call
+pub stands_kept : (before after : List (List ℕ)) (call : List ℕ) (id : ℕ) → after ≡ before ++ call ∷ [] → id ≡ length before + 1
+    → StandsUnder after id call
 stands_kept before after call id kept next =
     subst (λ (l : List (List ℕ)). StandsUnder l id call) (sym kept) (new_stands before call id next)
 
@@ -88,7 +91,8 @@ module _ (db : Database) (calls : List (List ℕ)) where
     answers : AllStandUnder calls answered
     rest : AllStandUnder calls after
 
-  goes : (before asked answered after : List Waiting) → AllStandUnder calls before → AllStandUnder calls asked → GoOn before asked answered after →
+  goes : (before asked answered after : List Waiting) → AllStandUnder calls before → AllStandUnder calls asked
+      → GoOn before asked answered after →
       Stand answered after
   goes before asked answered after first second (inl is) =
       let all = subst (AllStandUnder calls) is (both_stand calls before asked first second) in
@@ -109,7 +113,8 @@ module _ (db : Database) (calls : List (List ℕ)) where
 
   -- by what is shown first
   shown_by : (shown : List Shown) →
-      ((answered : List Waiting) → AreAnswersTo db answered (answers_of shown) → AllStandUnder calls answered → All (AnswersOf calls) shown) →
+      ((answered : List Waiting) → AreAnswersTo db answered (answers_of shown) → AllStandUnder calls answered
+      → All (AnswersOf calls) shown) →
       (o : Output) (e : Option Evaluation) (answered : List Waiting) →
       AreAnswersTo db answered (answers_of (record { output = o; evaluation = e } ∷ shown)) → AllStandUnder calls answered →
       All (AnswersOf calls) (record { output = o; evaluation = e } ∷ shown)
@@ -122,7 +127,8 @@ module _ (db : Database) (calls : List (List ℕ)) where
       All-cons (AnswersOf calls) (record { output = output.Reply id r; evaluation = e }) shown (one_answers w id r e stand.0 told.0)
       (rest answered told.1 stand.1)
 
-  answers_shown : (shown : List Shown) (answered : List Waiting) → AreAnswersTo db answered (answers_of shown) → AllStandUnder calls answered →
+  answers_shown : (shown : List Shown) (answered : List Waiting) → AreAnswersTo db answered (answers_of shown)
+      → AllStandUnder calls answered →
       All (AnswersOf calls) shown
   answers_shown [] answered told stand = All-nil (AnswersOf calls)
   answers_shown (one ∷ shown) answered told stand = shown_by shown (answers_shown shown) one.output one.evaluation answered told stand
@@ -132,7 +138,8 @@ module _ (db : Database) (calls : List (List ℕ)) where
     pub answers : All (AnswersOf calls) shown
     pub rest : AllStandUnder calls after
 
-  pub line_stands : (before : List Waiting) (e : NodeEvent) (shown : List Shown) (after : List Waiting) → AllStandUnder calls before → AsksOf calls e →
+  pub line_stands : (before : List Waiting) (e : NodeEvent) (shown : List Shown) (after : List Waiting) → AllStandUnder calls before
+      → AsksOf calls e →
       IsLine db before (asked_in e) (answers_of shown) after → Line shown after
   line_stands before e shown after first asks line =
       let stand = goes before (asked_in e) line.answered after first (asked_stand calls e asks) line.rest in

@@ -77,7 +77,8 @@ none_before v left (made ∷ calls) within =
     ap (λ (b : Bool). if b then Some 0 else one_more (calls_before_stop (version_after made.call) (left - calls_on v made) calls)) passes_it
     ∙ ap one_more rest
 
-at_call : (v : Version) (left : ℕ) (calls : List Made) (w : ℕ) → calls_on_all v (take w calls) ≤ left → left < calls_on_all v (take (w + 1) calls)
+at_call : (v : Version) (left : ℕ) (calls : List Made) (w : ℕ) → calls_on_all v (take w calls) ≤ left
+    → left < calls_on_all v (take (w + 1) calls)
     → calls_before_stop v left calls ≡ Some w
 at_call v left [] w low high = let none = ap (calls_on_all v) (take_nil {X = Made} (w + 1)) in absurd (omega (arith, none, high))
 at_call v left (made ∷ calls) zero low high =
@@ -128,13 +129,15 @@ whole_before v calls (Some armed) before whole rise stops runs stopped most =
     at_call v (armed.calls - armed.made) calls whole
     (not_past (calls_on_all v (take whole calls)) (armed.calls - armed.made) stops.1.0
     (λ is. runs (subst (λ (s : DiskStop). IsStopped (after_changes (calls_on_all v (take whole calls)) s)) (sym stops.1.1) is)))
-    (let past = is_past rise (armed.calls - armed.made) stops.1.0 (subst (λ (s : DiskStop). IsStopped (after_changes rise s)) stops.1.1 stopped) in
+    (let past = is_past rise (armed.calls - armed.made) stops.1.0
+    (subst (λ (s : DiskStop). IsStopped (after_changes rise s)) stops.1.1 stopped) in
     omega (arith, past, most))
 
 -- ---- the disks of a cell
 
 module _ {D V : Type 0} (g : Ghosts D) where
-  pub armed_here : (sites : List (Site D V g)) (armed : List (Option Armed)) (k : ℕ) (site : Site D V g) → AreArmed g sites armed → slice_get sites k ≡ Some site
+  pub armed_here : (sites : List (Site D V g)) (armed : List (Option Armed)) (k : ℕ) (site : Site D V g) → AreArmed g sites armed
+      → slice_get sites k ≡ Some site
       → IsArmedAs (server_node site.server) (armed_at armed k) (g.stop (site_disk site))
   armed_here [] armed k site are there = cc
   armed_here (x ∷ sites) [] k site are there = absurd are
@@ -143,7 +146,8 @@ module _ {D V : Type 0} (g : Ghosts D) where
   armed_here (x ∷ sites) (a ∷ armed) (suc k) site are there = armed_here sites armed k site are.1 there
 
   -- another server, and another stop of its disk
-  pub armed_set : (sites : List (Site D V g)) (armed : List (Option Armed)) (k : ℕ) (later : Site D V g) (stop : Option Armed) → AreArmed g sites armed
+  pub armed_set : (sites : List (Site D V g)) (armed : List (Option Armed)) (k : ℕ) (later : Site D V g) (stop : Option Armed)
+      → AreArmed g sites armed
       → IsArmedAs (server_node later.server) stop (g.stop (site_disk later)) → AreArmed g (set sites k later) (set armed k stop)
   armed_set [] [] k later stop are is = tt
   armed_set [] (a ∷ armed) k later stop are is = absurd are

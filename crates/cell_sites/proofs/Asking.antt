@@ -39,8 +39,10 @@ module _ {D V : Type 0} (g : Ghosts D) (before : OpenCell D V g) (calls : List (
       }
 
   -- what is told of it is told of the cell before
-  pub told_from : {given : List ℕ} (script_db : ScriptDatabase) (run : Choices → Run_or_why) (ended : Option Ending) (after : OpenCell D V g)
-      (tb ta : List ℕ) → CellTold g script_db given run ended (with_calls before calls) after tb ta → CellTold g script_db given run ended before after tb ta
+  pub told_from : {given : List ℕ} (script_db : ScriptDatabase) (run : Choices → Run_or_why) (ended : Option Ending)
+      (after : OpenCell D V g)
+      (tb ta : List ℕ) → CellTold g script_db given run ended (with_calls before calls) after tb ta
+      → CellTold g script_db given run ended before after tb ta
   told_from script_db run ended after tb ta told =
       record {
         choices = told.choices;

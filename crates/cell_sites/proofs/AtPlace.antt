@@ -21,13 +21,15 @@ use Rattle.cell_sites.specs.Sites.{AreSitesOf, IsSiteOf, IsModelledBy, server_no
 use Rattle.cell_sites.specs.Sound.{AreSound, IsSteady, IsSoundSite, clocks_in}
 use Rattle.cell_sites.specs.declared.sites.Site.{Site}
 
-pub sites_length : {D V : Type 0} {g : Ghosts D} (sites : List (Site D V g)) (ss : List ModelSite) → AreSitesOf sites ss → length ss ≡ length sites
+pub sites_length : {D V : Type 0} {g : Ghosts D} (sites : List (Site D V g)) (ss : List ModelSite) → AreSitesOf sites ss
+    → length ss ≡ length sites
 sites_length [] [] are = refl
 sites_length [] (s ∷ ss) are = absurd are
 sites_length (site ∷ sites) [] are = absurd are
 sites_length (site ∷ sites) (s ∷ ss) are = let rest = sites_length sites ss are.1 in omega (arith, rest)
 
-pub sites_clocks : {D V : Type 0} {g : Ghosts D} (sites : List (Site D V g)) (ss : List ModelSite) → AreSitesOf sites ss → clocks_of ss ≡ clocks_in sites
+pub sites_clocks : {D V : Type 0} {g : Ghosts D} (sites : List (Site D V g)) (ss : List ModelSite) → AreSitesOf sites ss
+    → clocks_of ss ≡ clocks_in sites
 sites_clocks [] [] are = refl
 sites_clocks [] (s ∷ ss) are = absurd are
 sites_clocks (site ∷ sites) [] are = absurd are
@@ -40,7 +42,8 @@ pub record IsSiteAt {D V : Type 0} {g : Ghosts D} (site : Site D V g) (ss : List
   pub there : slice_get ss k ≡ Some s
   pub is : IsSiteOf site s
 
-pub site_at : {D V : Type 0} {g : Ghosts D} (sites : List (Site D V g)) (ss : List ModelSite) (k : ℕ) (site : Site D V g) → AreSitesOf sites ss → slice_get sites k ≡ Some site
+pub site_at : {D V : Type 0} {g : Ghosts D} (sites : List (Site D V g)) (ss : List ModelSite) (k : ℕ) (site : Site D V g)
+    → AreSitesOf sites ss → slice_get sites k ≡ Some site
     → IsSiteAt site ss k
 site_at [] ss k site are there = cc
 site_at (x ∷ sites) [] k site are there = absurd are
@@ -50,7 +53,8 @@ site_at {D} {V} {g} (x ∷ sites) (s ∷ ss) zero site are there =
 site_at (x ∷ sites) (s ∷ ss) (suc k) site are there =
     let rest = site_at sites ss k site are.1 there in record { s = rest.s; there = rest.there; is = rest.is }
 
-pub sites_set : {D V : Type 0} {g : Ghosts D} (sites : List (Site D V g)) (ss : List ModelSite) (k : ℕ) (site : Site D V g) (s : ModelSite) → AreSitesOf sites ss → IsSiteOf site s
+pub sites_set : {D V : Type 0} {g : Ghosts D} (sites : List (Site D V g)) (ss : List ModelSite) (k : ℕ) (site : Site D V g)
+    (s : ModelSite) → AreSitesOf sites ss → IsSiteOf site s
     → AreSitesOf (set sites k site) (set ss k s)
 sites_set [] [] k site s are is = tt
 sites_set [] (t ∷ ss) k site s are is = absurd are
@@ -58,17 +62,20 @@ sites_set (x ∷ sites) [] k site s are is = absurd are
 sites_set (x ∷ sites) (t ∷ ss) zero site s are is = (is, are.1)
 sites_set (x ∷ sites) (t ∷ ss) (suc k) site s are is = (are.0, sites_set sites ss k site s are.1 is)
 
-pub sites_push : {D V : Type 0} {g : Ghosts D} (sites : List (Site D V g)) (ss : List ModelSite) (site : Site D V g) (s : ModelSite) → AreSitesOf sites ss → IsSiteOf site s
+pub sites_push : {D V : Type 0} {g : Ghosts D} (sites : List (Site D V g)) (ss : List ModelSite) (site : Site D V g) (s : ModelSite)
+    → AreSitesOf sites ss → IsSiteOf site s
     → AreSitesOf (sites ++ site ∷ []) (ss ++ s ∷ [])
 sites_push [] [] site s are is = (is, tt)
 sites_push [] (t ∷ ss) site s are is = absurd are
 sites_push (x ∷ sites) [] site s are is = absurd are
 sites_push (x ∷ sites) (t ∷ ss) site s are is = (are.0, sites_push sites ss site s are.1 is)
 
-is_ticked : {D V : Type 0} {g : Ghosts D} (site : Site D V g) (s : ModelSite) (seconds : ℕ) → IsSiteOf site s → IsSiteOf (ticked_on seconds site) (ticked seconds s)
+is_ticked : {D V : Type 0} {g : Ghosts D} (site : Site D V g) (s : ModelSite) (seconds : ℕ) → IsSiteOf site s
+    → IsSiteOf (ticked_on seconds site) (ticked seconds s)
 is_ticked site s seconds is = record { clock = ap (λ (n : ℕ). n + seconds) is.clock; node = is.node }
 
-pub sites_ticked : {D V : Type 0} {g : Ghosts D} (sites : List (Site D V g)) (ss : List ModelSite) (k seconds : ℕ) (d : Site D V g) → AreSitesOf sites ss
+pub sites_ticked : {D V : Type 0} {g : Ghosts D} (sites : List (Site D V g)) (ss : List ModelSite) (k seconds : ℕ) (d : Site D V g)
+    → AreSitesOf sites ss
     → AreSitesOf (set sites k (ticked_on seconds (get_or sites k d))) (tick_at ss k seconds)
 sites_ticked [] [] k seconds d are = tt
 sites_ticked [] (s ∷ ss) k seconds d are = absurd are
@@ -86,7 +93,8 @@ sites_all_ticked (x ∷ sites) (s ∷ ss) seconds are = (is_ticked x s seconds a
 -- ---- sound sites
 
 pub sound_at : {D V : Type 0} (g : Ghosts D) (hosts : List Host) (place bound : ℕ) (sites : List (Site D V g)) (k : ℕ) (site : Site D V g)
-    → AreSound g hosts place bound sites → slice_get sites k ≡ Some site → IsSoundSite g (record { hosts = hosts; me = place + k }) bound site
+    → AreSound g hosts place bound sites → slice_get sites k ≡ Some site
+    → IsSoundSite g (record { hosts = hosts; me = place + k }) bound site
 sound_at {D} {V} g hosts place bound [] k site are there = cc
 sound_at {D} {V} g hosts place bound (x ∷ sites) zero site are there =
     let same : x ≡ site = cc in
@@ -140,7 +148,8 @@ rises_same before after same = subst (λ (l : List Held). AreRises 0 [] before l
 pub site_there : {X : Type 0} (xs : List X) (k : ℕ) (x : X) → k < length xs → x ≡ get_or xs k x → slice_get xs k ≡ Some x
 site_there xs k x less is = slice_get_read xs (length xs) k x refl less is
 
-pub down_at : {D V : Type 0} {g : Ghosts D} (running : OpenCell D V g) (c : Cell) (k : ℕ) (site : Site D V g) (disk : D) → AreSitesOf running.sites.items c.run.world.sites
+pub down_at : {D V : Type 0} {g : Ghosts D} (running : OpenCell D V g) (c : Cell) (k : ℕ) (site : Site D V g) (disk : D)
+    → AreSitesOf running.sites.items c.run.world.sites
     → slice_get running.sites.items k ≡ Some site → site.server ≡ server.Down disk → is_down_at c k ≡ true
 down_at {D} {V} {g} running c k site disk stands there is =
     let at = site_at running.sites.items c.run.world.sites k site stands there in
@@ -150,7 +159,8 @@ is_up : (halted : Bool) (u : model.Server) → is_down (if halted then model.Hal
 is_up true u = refl
 is_up false u = refl
 
-pub up_at : {D V : Type 0} {g : Ghosts D} (running : OpenCell D V g) (c : Cell) (k : ℕ) (site : Site D V g) (n : Node D V g) → AreSitesOf running.sites.items c.run.world.sites
+pub up_at : {D V : Type 0} {g : Ghosts D} (running : OpenCell D V g) (c : Cell) (k : ℕ) (site : Site D V g) (n : Node D V g)
+    → AreSitesOf running.sites.items c.run.world.sites
     → slice_get running.sites.items k ≡ Some site → site.server ≡ server.Up n → is_down_at c k ≡ false
 up_at {D} {V} {g} running c k site n stands there is =
     let at = site_at running.sites.items c.run.world.sites k site stands there in

@@ -43,7 +43,8 @@ use Rattle.cell_sites.proofs.Reading.{read_at}
 -- ---- images
 
 -- the image of each server stands for a state of the database
-pub all_stand : {D V : Type 0} (g : Ghosts D) (standing : Standing) (asks : ℕ) (running : OpenCell D V g) → ImagesStand standing → IsService standing
+pub all_stand : {D V : Type 0} (g : Ghosts D) (standing : Standing) (asks : ℕ) (running : OpenCell D V g) → ImagesStand standing
+    → IsService standing
     → (behind : HasRun g standing.database asks running) → AllStand standing behind.cell.run
 all_stand g standing asks running law service behind =
     let c = behind.cell in
@@ -52,7 +53,8 @@ all_stand g standing asks running law service behind =
     (law service c.run.world.hosts c.opening.clock c.opening.failed c.events is.first is.legal).0
 
 module _ {D V : Type 0} (g : Ghosts D) (standing : Standing) (asks : ℕ) (running : OpenCell D V g) (k clock : ℕ) (node : Node D V g)
-    (service : IsService standing) (behind : HasRun g standing.database asks running) (there : slice_get running.sites.items k ≡ Some (up_site clock node))
+    (service : IsService standing) (behind : HasRun g standing.database asks running)
+    (there : slice_get running.sites.items k ≡ Some (up_site clock node))
   where
     at : IsSiteAt (up_site {D = D} {V = V} clock node) behind.cell.run.world.sites k
     at = site_at running.sites.items behind.cell.run.world.sites k (up_site clock node) behind.stands.sites there
@@ -76,7 +78,8 @@ module _ {D V : Type 0} (g : Ghosts D) (standing : Standing) (asks : ℕ) (runni
         taken_cut (step_of standing.database m s clock e short).calls ((up_writes writes s up).takes m clock e short)
 
 -- the files of a server stand for its durable state
-pub some_stands : {D V : Type 0} (g : Ghosts D) (db : Database) (asks : ℕ) (running : OpenCell D V g) (k : ℕ) (site : Site D V g) → HasRun g db asks running
+pub some_stands : {D V : Type 0} (g : Ghosts D) (db : Database) (asks : ℕ) (running : OpenCell D V g) (k : ℕ) (site : Site D V g)
+    → HasRun g db asks running
     → slice_get running.sites.items k ≡ Some site → (d : Durable) × IsSomeAnd (g.files (site_disk site)) (StandsAs d)
 some_stands g db asks running k site behind there =
     let c = behind.cell in
@@ -86,9 +89,11 @@ some_stands g db asks running k site behind there =
 -- ---- lines
 
 -- what a line left of the run
-pub runs_on : {D V : Type 0} (g : Ghosts D) (script_db : ScriptDatabase) (asks : ℕ) (before after : OpenCell D V g) (l : Line) (tb ta : List ℕ) → CellsGoOn
+pub runs_on : {D V : Type 0} (g : Ghosts D) (script_db : ScriptDatabase) (asks : ℕ) (before after : OpenCell D V g) (l : Line)
+    (tb ta : List ℕ) → CellsGoOn
     → TicksOn l → (behind : HasRun g script_db.database asks before)
-    → CellTold g script_db behind.given (λ choices. run_in script_db behind.cell choices l) None before after tb ta → HasRun g script_db.database asks after
+    → CellTold g script_db behind.given (λ choices. run_in script_db behind.cell choices l) None before after tb ta
+    → HasRun g script_db.database asks after
 runs_on g script_db asks before after l tb ta law on behind told = record {
   given = behind.given;
   cell = told.ran.cell;
@@ -97,9 +102,11 @@ runs_on g script_db asks before after l tb ta law on behind told = record {
 }
 
 -- what a call under a new id left of it
-pub asked_on : {D V : Type 0} (g : Ghosts D) (script_db : ScriptDatabase) (asks id : ℕ) (before after : OpenCell D V g) (call : List ℕ) (server : ℕ)
+pub asked_on : {D V : Type 0} (g : Ghosts D) (script_db : ScriptDatabase) (asks id : ℕ) (before after : OpenCell D V g) (call : List ℕ)
+    (server : ℕ)
     (tb ta : List ℕ) → CellsGoOn → asks < id → (behind : HasRun g script_db.database asks before)
-    → CellTold g script_db behind.given (λ choices. asked_at script_db behind.cell (first_choice choices) id call (Some server)) None before after tb ta
+    → CellTold g script_db behind.given
+    (λ choices. asked_at script_db behind.cell (first_choice choices) id call (Some server)) None before after tb ta
     → HasRun g script_db.database id after
 asked_on g script_db asks id before after call server tb ta law new behind told = record {
   given = behind.given;
@@ -115,9 +122,11 @@ delivers script_db c choices number some within =
     let there : (nat_lt 0 number && nat_le number (length c.run.world.packets)) ≡ true = grind (arith, nat_tests) in
     ap (λ (b : Bool). if b then Ok (delivered script_db c (first_choice choices) number) else Err why.Packet) there
 
-pub delivered_on : {D V : Type 0} (g : Ghosts D) (script_db : ScriptDatabase) (asks : ℕ) (before after : OpenCell D V g) (number : ℕ) (tb ta : List ℕ)
+pub delivered_on : {D V : Type 0} (g : Ghosts D) (script_db : ScriptDatabase) (asks : ℕ) (before after : OpenCell D V g) (number : ℕ)
+    (tb ta : List ℕ)
     → CellsGoOn → 0 < number → number ≤ length before.packets.sent → (behind : HasRun g script_db.database asks before)
-    → CellTold g script_db behind.given (λ choices. Ok (delivered script_db behind.cell (first_choice choices) number)) None before after tb ta
+    → CellTold g script_db behind.given
+    (λ choices. Ok (delivered script_db behind.cell (first_choice choices) number)) None before after tb ta
     → HasRun g script_db.database asks after
 delivered_on g script_db asks before after number tb ta law some within behind told =
     let inside : number ≤ length behind.cell.run.world.packets = let sent = ap length behind.stands.sent in omega (arith, within, sent) in
@@ -130,7 +139,8 @@ delivered_on g script_db asks before after number tb ta law some within behind t
     }
 
 -- a packet that waits no longer
-pub handed_on : {D V : Type 0} (g : Ghosts D) (script_db : ScriptDatabase) (asks : ℕ) (running : OpenCell D V g) (p : Traffic) (number : ℕ) → CellsGoOn
+pub handed_on : {D V : Type 0} (g : Ghosts D) (script_db : ScriptDatabase) (asks : ℕ) (running : OpenCell D V g) (p : Traffic)
+    (number : ℕ) → CellsGoOn
     → 0 < number → number ≤ length running.packets.sent → p ≡ handed_over running.packets number → HasRun g script_db.database asks running
     → HasRun g script_db.database asks (with_packets running p)
 handed_on g script_db asks running p number law some within is behind =
@@ -150,7 +160,8 @@ handed_on g script_db asks running p number law some within is behind =
 -- ---- clocks
 
 -- the same cell
-same_stands : {D V : Type 0} (g : Ghosts D) (db : Database) (asks : ℕ) (before after : OpenCell D V g) → after.sites.items ≡ before.sites.items
+same_stands : {D V : Type 0} (g : Ghosts D) (db : Database) (asks : ℕ) (before after : OpenCell D V g)
+    → after.sites.items ≡ before.sites.items
     → after.hosts.items ≡ before.hosts.items → after.packets ≡ before.packets → HasRun g db asks before → HasRun g db asks after
 same_stands {D} {V} g db asks before after sites hosts packets behind =
     let c = behind.cell in
@@ -164,16 +175,20 @@ same_stands {D} {V} g db asks before after sites hosts packets behind =
         sent = stands.sent ∙ ap (λ (t : Traffic). t.sent) (sym packets);
         handed = stands.handed ∙ ap (λ (t : Traffic). t.handed) (sym packets);
         armed = subst (λ (l : List (Site D V g)). AreArmed g l c.armed) (sym sites) stands.armed;
-        disks = subst (λ (l : List (Site D V g)). HoldRun db behind.given false c (map (λ site. held g (site_disk site)) l)) (sym sites) stands.disks;
+        disks = subst (λ (l : List (Site D V g)). HoldRun db behind.given false c (map (λ site. held g (site_disk site)) l))
+            (sym sites) stands.disks;
       };
       run = behind.run;
     }
 
 -- Clocks that go on by no second at all leave the cell as it was, though that is no event of the world.
-pub ticks_run : {D V : Type 0} (g : Ghosts D) (script_db : ScriptDatabase) (asks : ℕ) (before after : OpenCell D V g) (l : Line) (seconds : ℕ) (tb ta : List ℕ)
-    → CellsGoOn → (1 ≤ seconds → TicksOn l) → (seconds ≡ 0 → after.sites.items ≡ before.sites.items) → after.hosts.items ≡ before.hosts.items
+pub ticks_run : {D V : Type 0} (g : Ghosts D) (script_db : ScriptDatabase) (asks : ℕ) (before after : OpenCell D V g) (l : Line)
+    (seconds : ℕ) (tb ta : List ℕ)
+    → CellsGoOn → (1 ≤ seconds → TicksOn l) → (seconds ≡ 0 → after.sites.items ≡ before.sites.items)
+    → after.hosts.items ≡ before.hosts.items
     → after.packets ≡ before.packets → (behind : HasRun g script_db.database asks before)
-    → CellTold g script_db behind.given (λ choices. run_in script_db behind.cell choices l) None before after tb ta → HasRun g script_db.database asks after
+    → CellTold g script_db behind.given (λ choices. run_in script_db behind.cell choices l) None before after tb ta
+    → HasRun g script_db.database asks after
 ticks_run {D} {V} g script_db asks before after l seconds tb ta law on rests hosts packets behind told = by seconds refl
   where
     by : (n : ℕ) → seconds ≡ n → HasRun g script_db.database asks after

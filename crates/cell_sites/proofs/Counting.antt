@@ -41,7 +41,8 @@ pub moved_same : (R : ℕ → Held → Held → Type 0) (k : ℕ) (xs : List Hel
 moved_same R k [] each = tt
 moved_same R k (x ∷ xs) each = (each k x, moved_same R (k + 1) xs each)
 
-pub moved_as : (R S : ℕ → Held → Held → Type 0) (k : ℕ) (xs ys : List Held) → ((j : ℕ) (x y : Held) → R j x y → S j x y) → AreMoved R k xs ys
+pub moved_as : (R S : ℕ → Held → Held → Type 0) (k : ℕ) (xs ys : List Held) → ((j : ℕ) (x y : Held) → R j x y → S j x y)
+    → AreMoved R k xs ys
     → AreMoved S k xs ys
 moved_as R S k [] [] goes moved = tt
 moved_as R S k [] (y ∷ ys) goes moved = absurd moved
@@ -50,10 +51,12 @@ moved_as R S k (x ∷ xs) (y ∷ ys) goes moved = (goes k x y moved.0, moved_as 
 
 -- a count of one cell becomes one of another
 abbrev CountGoes : Database → (c d : Cell) → (short later : Bool) → ℕ → Held → Held → Type 0
-CountGoes db c d short later k x y = (failed : Bool) (before : ℕ) → IsCountOf db c short k failed before x.steps → IsCountOf db d later k failed before y.steps
+CountGoes db c d short later k x y =
+    (failed : Bool) (before : ℕ) → IsCountOf db c short k failed before x.steps → IsCountOf db d later k failed before y.steps
 
 counts_moved : (db : Database) (c d : Cell) (short later : Bool) (k : ℕ) (failed : List Bool) (given : List ℕ) (xs ys : List Held)
-    → AreMoved (CountGoes db c d short later) k xs ys → AreCountsFrom db c short k failed given xs → AreCountsFrom db d later k failed given ys
+    → AreMoved (CountGoes db c d short later) k xs ys → AreCountsFrom db c short k failed given xs
+    → AreCountsFrom db d later k failed given ys
 counts_moved db c d short later k [] [] [] [] moved counts = tt
 counts_moved db c d short later k [] [] [] (y ∷ ys) moved counts = absurd moved
 counts_moved db c d short later k [] [] (x ∷ xs) ys moved counts = absurd counts
@@ -114,7 +117,8 @@ module _ (db : Database) (c d : Cell) (given : List ℕ) where
           read = read;
           counts =
               subst (λ (o : Opening). AreCountsFrom db d false 0 o.failed given ys) (sym goes.opening)
-              (counts_moved db c d false false 0 c.opening.failed given xs ys (moved_as Rises (CountGoes db c d false false) 0 xs ys count moved) hold.counts);
+              (counts_moved db c d false false 0 c.opening.failed given xs ys
+              (moved_as Rises (CountGoes db c d false false) 0 xs ys count moved) hold.counts);
         }
 
   -- ---- no event
@@ -133,7 +137,8 @@ module _ (db : Database) (c d : Cell) (given : List ℕ) where
     -- a count that goes on by this surplus
     abbrev pub Adds : ℕ → Held → Held → Type 0
     Adds k x y =
-        (surplus : ℕ) × ((was : ℕ) → IsSurplus short (site_of c.run.world k) was → IsSurplus later (site_of c.run.world k) (was + surplus)) ×
+        (surplus : ℕ) × ((was : ℕ) → IsSurplus short (site_of c.run.world k) was
+        → IsSurplus later (site_of c.run.world k) (was + surplus)) ×
         (y.steps ≡ x.steps + surplus)
 
     added : (k : ℕ) (x y : Held) → Adds k x y → CountGoes db c d short later k x y
@@ -145,7 +150,8 @@ module _ (db : Database) (c d : Cell) (given : List ℕ) where
           rises = subst (λ (w : World). IsRiseOver db w d.events k counted.rise) (sym still)
               (subst (λ (l : List Event). IsRiseOver db (first_of c) l k counted.rise) (sym events_still) counted.rises);
           surplus = counted.surplus + surplus;
-          over = subst (λ (w : World). IsSurplus later (site_of w k) (counted.surplus + surplus)) (sym same.world) (over counted.surplus counted.over);
+          over = subst (λ (w : World). IsSurplus later (site_of w k) (counted.surplus + surplus)) (sym same.world)
+              (over counted.surplus counted.over);
           is = let was = counted.is in omega (arith, is, was);
         }
 
@@ -159,7 +165,8 @@ module _ (db : Database) (c d : Cell) (given : List ℕ) where
           read = read;
           counts =
               subst (λ (o : Opening). AreCountsFrom db d later 0 o.failed given ys) (sym same.opening)
-              (counts_moved db c d short later 0 c.opening.failed given xs ys (moved_as Adds (CountGoes db c d short later) 0 xs ys added moved) hold.counts);
+              (counts_moved db c d short later 0 c.opening.failed given xs ys
+              (moved_as Adds (CountGoes db c d short later) 0 xs ys added moved) hold.counts);
         }
 
 -- nothing was added
@@ -192,7 +199,8 @@ pub hold_still : (db : Database) (c : Cell) (given : List ℕ) (xs ys : List Hel
     → AreMoved (λ k x y. y.steps ≡ x.steps) 0 xs ys → HoldRun db given false c xs → HoldRun db given false c ys
 hold_still db c given xs ys read moved hold =
     hold_added db c c given (same_run c c refl refl refl) false false xs ys hold read
-    (moved_as (λ k x y. y.steps ≡ x.steps) _ 0 xs ys (λ j x y is. (0, (λ was over. nothing_added (site_of c.run.world j) false was over), omega (arith, is)))
+    (moved_as (λ k x y. y.steps ≡ x.steps) _ 0 xs ys
+    (λ j x y is. (0, (λ was over. nothing_added (site_of c.run.world j) false was over), omega (arith, is)))
     moved)
 
 pub hold_short : (db : Database) (c : Cell) (given : List ℕ) (xs : List Held) → HoldRun db given false c xs → HoldRun db given true c xs
@@ -231,7 +239,8 @@ sum_cons x xs = let one = sum_from (0 + x) xs in omega (arith, one)
 pub sum_on : (v : Version) (calls : List Made) → sum (each_on v calls) ≡ calls_on_all v calls
 sum_on v [] = refl
 sum_on v (made ∷ calls) =
-    sum_cons (calls_on v made) (each_on (version_after made.call) calls) ∙ ap (λ (n : ℕ). calls_on v made + n) (sum_on (version_after made.call) calls)
+    sum_cons (calls_on v made) (each_on (version_after made.call) calls)
+    ∙ ap (λ (n : ℕ). calls_on v made + n) (sum_on (version_after made.call) calls)
 
 -- a server that made none
 pub none_cut : (calls : List ℕ) (made : ℕ) → calls ≡ [] → IsCutShort calls made 0

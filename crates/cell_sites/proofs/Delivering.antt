@@ -45,7 +45,8 @@ with_packets running p = record running { packets = p }
 abbrev pub with_handed : Cell → List Bool → Cell
 with_handed c handed = record c { handed = handed }
 
-pub stands_with : {D V : Type 0} {gs : Ghosts D} {database : Database} {given : List ℕ} (running : OpenCell D V gs) (c : Cell) (p : Traffic) (handed : List Bool)
+pub stands_with : {D V : Type 0} {gs : Ghosts D} {database : Database} {given : List ℕ} (running : OpenCell D V gs) (c : Cell)
+    (p : Traffic) (handed : List Bool)
     → IsModelledBy gs database given running c → p.sent ≡ running.packets.sent → handed ≡ p.handed
     → IsModelledBy gs database given (with_packets running p) (with_handed c handed)
 stands_with running c p handed stands sent is =
@@ -70,7 +71,8 @@ sound_with g bound running p sound =
       told = sound.told;
     }
 
-pub keeps_with : {D V : Type 0} {g : Ghosts D} (db : Database) (running : OpenCell D V g) (p : Traffic) → Keeps db running → p.sent ≡ running.packets.sent
+pub keeps_with : {D V : Type 0} {g : Ghosts D} (db : Database) (running : OpenCell D V g) (p : Traffic) → Keeps db running
+    → p.sent ≡ running.packets.sent
     → Keeps db (with_packets running p)
 keeps_with db running p keeps sent =
     record {
@@ -79,7 +81,8 @@ keeps_with db running p keeps sent =
     }
 
 -- what is told of the cell with other packets is told of the cell
-pub told_before : {D V : Type 0} {given : List ℕ} (g : Ghosts D) (script_db : ScriptDatabase) (running after : OpenCell D V g) (p : Traffic) (run : Choices
+pub told_before : {D V : Type 0} {given : List ℕ} (g : Ghosts D) (script_db : ScriptDatabase) (running after : OpenCell D V g)
+    (p : Traffic) (run : Choices
     → Run_or_why) (ended : Option Ending) (tb ta : List ℕ) → CellTold g script_db given run ended (with_packets running p) after tb ta
     → CellTold g script_db given run ended running after tb ta
 told_before g script_db running after p run ended tb ta told =
@@ -94,7 +97,8 @@ told_before g script_db running after p run ended tb ta told =
       causes = told.causes;
     }
 
-pub short_before : {D V : Type 0} {database : Database} {given : List ℕ} (g : Ghosts D) (running after : OpenCell D V g) (p : Traffic) (run : Choices
+pub short_before : {D V : Type 0} {database : Database} {given : List ℕ} (g : Ghosts D) (running after : OpenCell D V g) (p : Traffic)
+    (run : Choices
     → Run_or_why) (c : Cell) (handed : List Bool) → IsShort g database given run (with_handed c handed) (with_packets running p) after
     → IsShort g database given run c running after
 short_before g running after p run c handed (inl hold) =
@@ -104,7 +108,8 @@ short_before g running after p run c handed (inr later) =
 
 -- ---- where a packet goes
 
-pub numbered : (w : World) (number : ℕ) (p : Packet) → 0 < number → slice_get w.packets (number - 1) ≡ Some p → packet_numbered w number ≡ Some p
+pub numbered : (w : World) (number : ℕ) (p : Packet) → 0 < number → slice_get w.packets (number - 1) ≡ Some p
+    → packet_numbered w number ≡ Some p
 numbered w zero p some there = absurd (omega arith)
 numbered w (suc n) p some there = let e : suc n - 1 ≡ n = omega arith in sym (ap (slice_get w.packets) e) ∙ there
 
@@ -124,11 +129,13 @@ set_same {X} (y ∷ xs) (suc k) x there = ap (λ (l : List X). y ∷ l) (set_sam
 
 -- ---- a server that is down loses the packet
 
-pub lost : {D V : Type 0} {given : List ℕ} (g : Ghosts D) (script_db : ScriptDatabase) (running : OpenCell D V g) (c : Cell) (number k : ℕ) (p : Packet)
+pub lost : {D V : Type 0} {given : List ℕ} (g : Ghosts D) (script_db : ScriptDatabase) (running : OpenCell D V g) (c : Cell)
+    (number k : ℕ) (p : Packet)
     (text_before text_after : List ℕ) → IsModelledBy g script_db.database given running c → (down : IsDownAt running k)
     → occasion c.run.world (Delivery number) ≡ Some (k, event.Packet p)
     → text_after ≡ text_before ++ item_text script_db running.hosts.items (Tells (Lost number))
-    → CellTold g script_db given (λ choices. Ok (stepped script_db c (first_choice choices) (Delivery number))) None running running text_before text_after
+    → CellTold g script_db given
+    (λ choices. Ok (stepped script_db c (first_choice choices) (Delivery number))) None running running text_before text_after
 lost {D} {V} {given} g script_db running c number k p tb ta stands down o told =
     let site : Site D V g = record { clock = down.clock; server = Down down.disk } in
     let m = site_at running.sites.items c.run.world.sites k site stands.sites down.there in
@@ -160,18 +167,22 @@ lost {D} {V} {given} g script_db running c number k p tb ta stands down o told =
 
 -- ---- a packet that was sent
 
-pub under : (sent : List Packet) (number : ℕ) (packet : Packet) → slice_get sent (number - 1) ≡ Some packet → packet_under sent number ≡ packet
+pub under : (sent : List Packet) (number : ℕ) (packet : Packet) → slice_get sent (number - 1) ≡ Some packet
+    → packet_under sent number ≡ packet
 under sent number packet there = get_or_from_slice_get sent (number - 1) packet no_packet there
 
 -- the cell from which a packet is handed over, and where it goes
-pub record HandedOver {D V : Type 0} (g : Ghosts D) (database : Database) (given : List ℕ) (running : OpenCell D V g) (c : Cell) (p : Traffic)
+pub record HandedOver {D V : Type 0} (g : Ghosts D) (database : Database) (given : List ℕ) (running : OpenCell D V g) (c : Cell)
+    (p : Traffic)
     (number k : ℕ) : Type 0 where
   pub stands : IsModelledBy g database given (with_packets running p) (with_handed c (set c.handed (number - 1) true))
   pub goes : occasion c.run.world (Delivery number) ≡ Some (k, event.Packet (packet_under p.sent number))
 
-pub handed_cell : {D V : Type 0} {gs : Ghosts D} {database : Database} {given : List ℕ} (running : OpenCell D V gs) (c : Cell) (p : Traffic) (number k : ℕ)
+pub handed_cell : {D V : Type 0} {gs : Ghosts D} {database : Database} {given : List ℕ} (running : OpenCell D V gs) (c : Cell)
+    (p : Traffic) (number k : ℕ)
     (packet : Packet) → IsModelledBy gs database given running c → p ≡ handed_over running.packets number → 0 < number
-    → slice_get p.sent (number - 1) ≡ Some packet → place_of running.hosts.items packet.to ≡ Some k → HandedOver gs database given running c p number k
+    → slice_get p.sent (number - 1) ≡ Some packet → place_of running.hosts.items packet.to ≡ Some k
+    → HandedOver gs database given running c p number k
 handed_cell running c p number k packet stands is some there place =
     record {
       stands = stands_with running c p (set c.handed (number - 1) true) stands (ap (λ (t : Traffic). t.sent) is)

@@ -67,7 +67,8 @@ zero_add n = omega arith
 
 -- ---- another server at a place
 
-module _ {D V : Type 0} (g : Ghosts D) (running after : OpenCell D V g) (k : ℕ) (site later : Site D V g) (there : slice_get running.sites.items k ≡ Some site)
+module _ {D V : Type 0} (g : Ghosts D) (running after : OpenCell D V g) (k : ℕ) (site later : Site D V g)
+    (there : slice_get running.sites.items k ≡ Some site)
     (sites : after.sites.items ≡ set running.sites.items k later) where
   -- no disk failed fewer times
   pub rises_at : g.faults (site_disk site) ≤ g.faults (site_disk later) → AreRises 0 [] (helds g running) (helds g after)
@@ -89,7 +90,8 @@ module _ {D V : Type 0} (g : Ghosts D) (running after : OpenCell D V g) (k : ℕ
 -- what is armed at a server that is up
 armed_so : (halted : Bool) (s : model.Server) (before : DiskStop) (was : Option Armed) (calls : ℕ) (fill : Fill)
     → IsArmedAs (if halted then model.Halted (model.halted_from s) else model.Up s) was before
-    → IsArmedAs (if halted then model.Halted (model.halted_from s) else model.Up s) (Some (record { calls = calls; made = 0 })) (armed before calls fill)
+    → IsArmedAs (if halted then model.Halted (model.halted_from s) else model.Up s) (Some (record { calls = calls; made = 0 }))
+    (armed before calls fill)
 armed_so true s before was calls fill stops = tt
 armed_so false s before None calls fill stops =
     (omega arith, (fill, ap (λ (b : DiskStop). armed b calls fill) stops ∙ ap (λ (n : ℕ). ToStop n fill) (omega arith)))
@@ -97,8 +99,10 @@ armed_so false s before (Some a) calls fill stops =
     (omega arith, (fill, ap (λ (b : DiskStop). armed b calls fill) stops.1.1 ∙ ap (λ (n : ℕ). ToStop n fill) (omega arith)))
 
 module _ {D V : Type 0} (g : Ghosts D) (running after : OpenCell D V g) (k clock calls : ℕ) (fill : Fill) (node later : Node D V g)
-    (there : slice_get running.sites.items k ≡ Some (up_site clock node)) (sites : after.sites.items ≡ set running.sites.items k (up_site clock later))
-    (hosts : after.hosts.items ≡ running.hosts.items) (packets : after.packets ≡ running.packets) (disk : IsArmed g calls fill node.store.disk later.store.disk)
+    (there : slice_get running.sites.items k ≡ Some (up_site clock node))
+    (sites : after.sites.items ≡ set running.sites.items k (up_site clock later))
+    (hosts : after.hosts.items ≡ running.hosts.items) (packets : after.packets ≡ running.packets)
+    (disk : IsArmed g calls fill node.store.disk later.store.disk)
     (same : (later.state ≡ node.state) × (later.store.failed ≡ node.store.failed) × (later.last ≡ node.last)) where
   node_same : node_of later ≡ node_of node
   node_same =
@@ -123,7 +127,8 @@ module _ {D V : Type 0} (g : Ghosts D) (running after : OpenCell D V g) (k clock
         cell = record {
           hosts = stands.hosts ∙ sym hosts;
           sites = subst (λ (l : List (Site D V g)). AreSitesOf l c.run.world.sites) (sym sites)
-              (subst (λ (l : List ModelSite). AreSitesOf (set running.sites.items k (up_site clock later)) l) (set_same c.run.world.sites k site.s site.there)
+              (subst (λ (l : List ModelSite). AreSitesOf (set running.sites.items k (up_site clock later)) l)
+              (set_same c.run.world.sites k site.s site.there)
               (sites_set running.sites.items c.run.world.sites k (up_site clock later) site.s stands.sites
               (record { clock = site.is.clock; node = site.is.node ∙ sym node_same })));
           sent = stands.sent ∙ ap (λ (t : Traffic). t.sent) (sym packets);
@@ -135,17 +140,21 @@ module _ {D V : Type 0} (g : Ghosts D) (running after : OpenCell D V g) (k clock
               (armed_so node.store.failed (up_server node) (g.stop node.store.disk) (armed_at c.armed k) calls fill was))));
           disks = hold_as script_db.database c (with_armed c now) given false (helds g after) (same_run c (with_armed c now) refl refl refl)
               (subst (λ (l : List (Site D V g)). HoldRun script_db.database given false c (map (held_at {V = V} g) l)) (sym sites)
-              (hold_still script_db.database c given (helds g running) (map (held_at {V = V} g) (set running.sites.items k (up_site clock later)))
+              (hold_still script_db.database c given (helds g running)
+              (map (held_at {V = V} g) (set running.sites.items k (up_site clock later)))
               (reads_set g c.run.world.sites running.sites.items k site.s (up_site clock later) stands.disks.read site.there
               (subst (λ (f : Option Files). IsSomeAnd f (StandsAs site.s.durable)) (sym disk.files) read))
-              (moved_set g (λ j x y. y.steps ≡ x.steps) 0 k running.sites.items (up_site clock node) (up_site clock later) there disk.steps (λ j x other. refl))
+              (moved_set g (λ j x y. y.steps ≡ x.steps) 0 k running.sites.items (up_site clock node)
+              (up_site clock later) there disk.steps (λ j x other. refl))
               stands.disks));
         };
         told = sym (append-nil text);
-        causes = rises_at g running after k (up_site clock node) (up_site clock later) there sites (let f = disk.faults in omega (arith, f));
+        causes = rises_at g running after k (up_site clock node) (up_site clock later) there sites
+            (let f = disk.faults in omega (arith, f));
       }
 
-module _ {D V : Type 0} (g : Ghosts D) (clock calls : ℕ) (fill : Fill) (node later : Node D V g) (disk : IsArmed g calls fill node.store.disk later.store.disk)
+module _ {D V : Type 0} (g : Ghosts D) (clock calls : ℕ) (fill : Fill) (node later : Node D V g)
+    (disk : IsArmed g calls fill node.store.disk later.store.disk)
     (same : (later.state ≡ node.state) × (later.store.failed ≡ node.store.failed) × (later.last ≡ node.last)) where
   -- it stays sound
   pub arm_disk : IsSoundDisk g node.store.disk → IsSoundDisk g later.store.disk
@@ -155,7 +164,8 @@ module _ {D V : Type 0} (g : Ghosts D) (clock calls : ℕ) (fill : Fill) (node l
       record {
         told = subst IsSome (sym disk.files) sound.told;
         settled = make_if (g.files later.store.disk) at.0 (λ fs. Only fs (g.may_leave later.store.disk)) is
-            (λ c left. of_some (g.files node.store.disk) at.0 (λ fs. Only fs (g.may_leave node.store.disk)) at.1 sound.settled c (disk.crash.no_more c left));
+            (λ c left. of_some (g.files node.store.disk) at.0 (λ fs. Only fs (g.may_leave node.store.disk)) at.1 sound.settled c
+            (disk.crash.no_more c left));
         plain = make_if (g.files later.store.disk) at.0 IsPlain is (of_some (g.files node.store.disk) at.0 IsPlain at.1 sound.plain);
       }
 
@@ -177,7 +187,8 @@ revived_read g old new d sound revived read =
     let there = some_of (g.files new) (revived.told (g.tells_now old sound.told)) in
     let left = of_some (g.files new) there.0 (λ fs. g.may_leave old fs × Only fs (g.may_leave new)) there.1 revived.left in
     let same : there.0 ≡ at.0 = of_some (g.files old) at.0 (λ fs. Only fs (g.may_leave old)) at.1 sound.settled there.0 left.0 in
-    make_some (g.files new) there.0 (StandsAs d) there.1 (subst (StandsAs d) (sym same) (and_some (g.files old) at.0 (StandsAs d) at.1 read))
+    make_some (g.files new) there.0 (StandsAs d) there.1
+    (subst (StandsAs d) (sym same) (and_some (g.files old) at.0 (StandsAs d) at.1 read))
 
 pub revived_sound : {D : Type 0} (g : Ghosts D) (old new : D) → IsSoundDisk g old → IsRevived g old new
     → IsSoundDisk g new
@@ -190,7 +201,8 @@ revived_sound {D} g old new sound revived =
     record {
       told = some;
       settled = make_if (g.files new) there.0 (λ fs. Only fs (g.may_leave new)) there.1 left.1;
-      plain = make_if (g.files new) there.0 IsPlain there.1 (subst IsPlain (sym same) (of_some (g.files old) at.0 IsPlain at.1 sound.plain));
+      plain =
+          make_if (g.files new) there.0 IsPlain there.1 (subst IsPlain (sym same) (of_some (g.files old) at.0 IsPlain at.1 sound.plain));
     }
 
 module _ {D V : Type 0} (g : Ghosts D) (running after : OpenCell D V g) (k : ℕ) (down : TakenDown g k running after)
@@ -210,12 +222,15 @@ module _ {D V : Type 0} (g : Ghosts D) (running after : OpenCell D V g) (k : ℕ
       let h : SiteHappened = crash_at site.s in
       let now = set c.armed k None in
       let read = read_at g c.run.world.sites running.sites.items k site.s before_site stands.disks.read site.there down.there in
-      let happened_so : happens script_db.database c.run.world (Crash k) ≡ happened_at c.run.world k h = ap (happens_at c.run.world k crash_at) site.there in
+      let happened_so : happens script_db.database c.run.world (Crash k) ≡ happened_at c.run.world k h = ap
+      (happens_at c.run.world k crash_at) site.there in
       let cell_next = cell_after (with_armed c now) (Crash k) (happened_at c.run.world k h) in
       whole g script_db given running after c stands k (Crash k) h now run []
-      (does (whole_choices []) ∙ ap (λ (x : Happened). Ok (happened (with_armed c now) (Crash k) x)) happened_so) tt before_site down_site down.there down.sites
+      (does (whole_choices [])
+      ∙ ap (λ (x : Happened). Ok (happened (with_armed c now) (Crash k) x)) happened_so) tt before_site down_site down.there down.sites
       (let f = down.revived.faults in omega (arith, f)) (λ j other. refl)
-      tt text text text (ap (λ (t : Traffic). record { after = record { text = text; sent = t.sent }; ending = None }) (sym down.packets)) (sym (append-nil text))
+      tt text text text (ap (λ (t : Traffic). record { after = record { text = text; sent = t.sent }; ending = None })
+      (sym down.packets)) (sym (append-nil text))
       down.hosts (down.packets ∙ none_sent running.packets) (record { clock = site.is.clock; node = refl })
       (subst (λ (l : List (Site D V g)). AreArmed g l now) (sym down.sites)
       (armed_set g running.sites.items c.armed k down_site None stands.armed (refl, down.revived.unarmed)))
@@ -239,7 +254,8 @@ module _ {D V : Type 0} (g : Ghosts D) (running after : OpenCell D V g) (k : ℕ
 -- ---- a server that is opened again
 
 -- a server that is down is sound
-down_sound : {D V : Type 0} (g : Ghosts D) (m : Member) (clock : ℕ) (s : Server D V g) → server_node s ≡ model.Down → IsSoundServer g m clock s
+down_sound : {D V : Type 0} (g : Ghosts D) (m : Member) (clock : ℕ) (s : Server D V g) → server_node s ≡ model.Down
+    → IsSoundServer g m clock s
 down_sound g m clock (Down disk) is = tt
 down_sound g m clock (Up n) is = absurd (by n.store.failed is)
   where
@@ -271,7 +287,8 @@ module _ {D V : Type 0} (g : Ghosts D) (script_db : ScriptDatabase) (running aft
 
   pub reopen_sound : (other : ℕ) → IsSteady g other running → IsSteady g other after
   reopen_sound other still =
-      sound_at_place g running after k closed_site open_site re.there re.sites other still refl (server_sound re.end some_durable.0 some_durable.1.is)
+      sound_at_place g running after k closed_site open_site re.there re.sites other still refl
+      (server_sound re.end some_durable.0 some_durable.1.is)
       some_durable.1.sound re.hosts re.outputs
 
   -- a server that was opened takes writes
@@ -329,7 +346,8 @@ module _ {D V : Type 0} (g : Ghosts D) (script_db : ScriptDatabase) (running aft
     restarts choices = Ok (with_event script_db c (Restart k (first_choice choices).fails))
 
     module _ (failed : Bool) (cut : is_cut_short re.end ≡ failed)
-        (node_is : server_node re.server ≡ (if failed then model.Down else model.Up (model.opened_server (length running.hosts.items) site.s.durable re.clock)))
+        (node_is : server_node
+        re.server ≡ (if failed then model.Down else model.Up (model.opened_server (length running.hosts.items) site.s.durable re.clock)))
         (faulted : failed ≡ true → g.faults re.disk < g.faults (server_disk re.server)) where
       abbrev pub h : SiteHappened
       h = restart_at (length c.run.world.hosts) k failed site.s
@@ -364,8 +382,10 @@ module _ {D V : Type 0} (g : Ghosts D) (script_db : ScriptDatabase) (running aft
       shown_none true = refl
       shown_none false = refl
 
-      faults_told : (b : Bool) → (b ≡ true → g.faults re.disk < g.faults (server_disk re.server)) → g.faults re.disk ≤ g.faults (server_disk re.server)
-          → g.faults re.disk + fault_count k (map Tells (restart_at (length c.run.world.hosts) k b site.s).marks) ≤ g.faults (server_disk re.server)
+      faults_told : (b : Bool) → (b ≡ true → g.faults re.disk < g.faults (server_disk re.server))
+          → g.faults re.disk ≤ g.faults (server_disk re.server)
+          → g.faults re.disk + fault_count k (map Tells (restart_at (length c.run.world.hosts) k b site.s).marks) ≤ g.faults
+          (server_disk re.server)
       faults_told true rose kept =
           let one : fault_count k (map Tells (Stays_down k ∷ [])) ≡ 1 = ap (λ (b : Bool). (if b then 1 else 0) + 0) (eq-eqb k k refl) in
           let more = rose refl in omega (arith, one, more)
@@ -384,7 +404,8 @@ module _ {D V : Type 0} (g : Ghosts D) (script_db : ScriptDatabase) (running aft
           (map (held_at {V = V} g) (set running.sites.items k open_site)) stands.disks
           (reads_both g c.run.world.sites running.sites.items k h.site open_site stands.disks.read
           (subst (λ (d : Durable). IsSomeAnd (g.files (server_disk re.server)) (StandsAs d)) (sym (durable_same failed)) opens.stands))
-          (moved_set g (λ j x y. (more : ℕ) × IsRiseIn script_db.database c.run.world (Restart k failed) j more × (y.steps ≡ x.steps + more)) 0 k
+          (moved_set g (λ j x y. (more : ℕ) × IsRiseIn script_db.database c.run.world (Restart k failed) j more
+          × (y.steps ≡ x.steps + more)) 0 k
           running.sites.items closed_site open_site re.there
           (over.0, here_rise (0 + k) (sym (zero_add k)) over.0 over.1, over.2)
           (λ j x other. (0, other_rise j (λ same. other (same ∙ zero_add k)), omega arith))))
@@ -400,21 +421,26 @@ module _ {D V : Type 0} (g : Ghosts D) (script_db : ScriptDatabase) (running aft
               let P : Bool → Type 0 = λ b. OpensWhere b (site_of c.run.world j) failed 0 in
               subst P (sym (ne_eqb k j (λ e. other (sym e)))) refl
 
-      line_is : restarts (whole_choices (choice_of failed ∷ [])) ≡ Ok (happened (with_armed c c.armed) (Restart k failed) (happened_at c.run.world k h))
+      line_is : restarts (whole_choices (choice_of failed ∷ [])) ≡ Ok
+          (happened (with_armed c c.armed) (Restart k failed) (happened_at c.run.world k h))
       unfolding choice_of
       line_is = ap (λ (x : Happened). Ok (happened c (Restart k failed) x)) happened_so
 
       pub reopen_told : (marks : ta ≡ tb ++ trace script_db running.hosts.items (map Tells h.marks))
           → CellTold g script_db given restarts None running after tb ta
       reopen_told marks =
-          whole g script_db given running after c stands k (Restart k failed) h c.armed restarts (choice_of failed ∷ []) line_is (marks_are failed) closed_site
+          whole g script_db given running after c stands k (Restart k failed) h c.armed restarts (choice_of failed ∷ []) line_is
+          (marks_are failed) closed_site
           open_site re.there re.sites
           (faults_told failed faulted opens.never_falls) (faults_others failed)
-          (heard failed, tt) tb tb ta (ap (told_of script_db running.hosts.items k (record { text = tb; sent = running.packets.sent })) (shown_none failed)
+          (heard failed, tt) tb tb ta
+          (ap (told_of script_db running.hosts.items k (record { text = tb; sent = running.packets.sent })) (shown_none failed)
           ∙ ap (λ (t : Traffic). record { after = record { text = tb; sent = t.sent }; ending = None }) (sym re.packets)) marks re.hosts
-          (re.packets ∙ none_sent running.packets ∙ ap (λ (l : List Shown). sent_all running.packets (packets_of l)) (sym (shown_none failed)))
+          (re.packets ∙ none_sent running.packets
+          ∙ ap (λ (l : List Shown). sent_all running.packets (packets_of l)) (sym (shown_none failed)))
           (record { clock = clock_same failed ∙ site.is.clock; node = node_next failed ∙ sym node_is })
-          (subst (λ (l : List (Site D V g)). AreArmed g l c.armed) (sym re.sites) (armed_still g running.sites.items c.armed k open_site stands.armed arms))
+          (subst (λ (l : List (Site D V g)). AreArmed g l c.armed) (sym re.sites)
+          (armed_still g running.sites.items c.armed k open_site stands.armed arms))
           hold_next
         where
           arms : IsArmedAs (server_node re.server) (armed_at c.armed k) (g.stop (server_disk re.server))
@@ -426,7 +452,8 @@ module _ {D V : Type 0} (g : Ghosts D) (script_db : ScriptDatabase) (running aft
               (so failed (opens.unarmed was.1)))
             where
               so : (b : Bool) → g.stop (server_disk re.server) ≡ Unarmed
-                  → IsArmedAs (if b then model.Down else model.Up (model.opened_server (length running.hosts.items) site.s.durable re.clock)) None
+                  → IsArmedAs (if b then model.Down else model.Up
+                  (model.opened_server (length running.hosts.items) site.s.durable re.clock)) None
                   (g.stop (server_disk re.server))
               so true unarmed = (refl, unarmed)
               so false unarmed = unarmed
@@ -460,7 +487,8 @@ module _ {D V : Type 0} (g : Ghosts D) (script_db : ScriptDatabase) (running aft
         by (opened.Up version) is =
             let server = server_as (opened.Up version) is in
             reopen_told false (cut_as (opened.Up version) is) server.0 (λ never. absurd cc)
-            (told (opened.Up version) is ∙ ap (λ (v : Version). tb ++ trace script_db running.hosts.items (map Tells (Restarts k v ∷ []))) server.1)
+            (told (opened.Up version) is
+            ∙ ap (λ (v : Version). tb ++ trace script_db running.hosts.items (map Tells (Restarts k v ∷ []))) server.1)
         by opened.StaysDown is =
             let server = server_as opened.StaysDown is in
             reopen_told true (cut_as opened.StaysDown is) server.0 (λ yes. server.1) (told opened.StaysDown is)
@@ -477,7 +505,8 @@ module _ {D V : Type 0} (g : Ghosts D) (script_db : ScriptDatabase) (running aft
             (hold_added script_db.database c c given (same_run c c refl refl refl) false true (helds g running)
             (map (held_at {V = V} g) (set running.sites.items k open_site)) stands.disks
             (reads_set g c.run.world.sites running.sites.items k site.s open_site stands.disks.read site.there opens.stands)
-            (moved_set g (λ j x y. (more : ℕ) × ((was : ℕ) → IsSurplus false (site_of c.run.world j) was → IsSurplus true (site_of c.run.world j)
+            (moved_set g (λ j x y. (more : ℕ)
+            × ((was : ℕ) → IsSurplus false (site_of c.run.world j) was → IsSurplus true (site_of c.run.world j)
             (was + more)) × (y.steps ≡ x.steps + more)) 0 k running.sites.items closed_site open_site re.there
             (over.0, (λ was none. inr (here_over (0 + k) (sym (zero_add k)) was none over.0 over.1)), over.2)
             (λ j x other. (0, (λ was none. no_surplus (site_of c.run.world j) was none), omega arith))))
@@ -486,7 +515,8 @@ module _ {D V : Type 0} (g : Ghosts D) (script_db : ScriptDatabase) (running aft
                 → OpensAt (site_of c.run.world j) true (was + rise)
             here_over j same was none rise over =
                 let sum : rise ≡ was + rise = omega (arith, none) in
-                subst (λ (n : ℕ). OpensAt (site_of c.run.world j) true n) sum (subst (λ (n : ℕ). OpensAt (site_of c.run.world n) true rise) (sym same) over)
+                subst (λ (n : ℕ). OpensAt (site_of c.run.world j) true n) sum
+                (subst (λ (n : ℕ). OpensAt (site_of c.run.world n) true rise) (sym same) over)
 
         by : (end : OpenEnd) → re.end ≡ end → IsShort g script_db.database given restarts c running after
         by (opened.Up version) is =

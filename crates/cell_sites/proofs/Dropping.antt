@@ -24,9 +24,11 @@ use Rattle.cell_sites.proofs.Soundly.{host_count}
 abbrev pub with_packets : {D V : Type 0} {g : Ghosts D} → OpenCell D V g → Traffic → OpenCell D V g
 with_packets running packets = record running { packets = packets }
 
-pub packets_told : {D V : Type 0} {given : List ℕ} (g : Ghosts D) (db : ScriptDatabase) (running : OpenCell D V g) (c : Cell) (packets : Traffic)
+pub packets_told : {D V : Type 0} {given : List ℕ} (g : Ghosts D) (db : ScriptDatabase) (running : OpenCell D V g) (c : Cell)
+    (packets : Traffic)
     (handed : List Bool) (run : Choices → Run_or_why) (text : List ℕ) →
-    ((choices : Choices) → run choices ≡ Ok (resting (record c { handed = handed }))) → packets.sent ≡ running.packets.sent → packets.handed ≡ handed →
+    ((choices : Choices) → run choices ≡ Ok (resting (record c { handed = handed }))) → packets.sent ≡ running.packets.sent
+    → packets.handed ≡ handed →
     IsModelledBy g db.database given running c → CellTold g db given run None running (with_packets running packets) text text
 packets_told g db running c packets handed run text does sent same stands =
     record {
@@ -41,23 +43,28 @@ packets_told g db running c packets handed run text does sent same stands =
         sent = stands.sent ∙ sym sent;
         handed = sym same;
         armed = stands.armed;
-        disks = hold_as _ c (record c { handed = handed }) _ false _ (same_run c (record c { handed = handed }) refl refl refl) stands.disks;
+        disks = hold_as _ c (record c { handed = handed }) _ false _
+            (same_run c (record c { handed = handed }) refl refl refl) stands.disks;
       };
       told = sym (append-nil text);
       causes = rises_none 0 (helds g running);
     }
 
 -- one packet
-pub one_handed : {D V : Type 0} {gs : Ghosts D} {database : Database} {given : List ℕ} (running : OpenCell D V gs) (c : Cell) (packets : Traffic) (n number : ℕ)
-    → packets ≡ handed_over running.packets n → n ≡ number → IsModelledBy gs database given running c → packets.handed ≡ set c.handed (number - 1) true
+pub one_handed : {D V : Type 0} {gs : Ghosts D} {database : Database} {given : List ℕ} (running : OpenCell D V gs) (c : Cell)
+    (packets : Traffic) (n number : ℕ)
+    → packets ≡ handed_over running.packets n → n ≡ number → IsModelledBy gs database given running c
+    → packets.handed ≡ set c.handed (number - 1) true
 one_handed running c packets n number is same stands =
     ap (λ (t : Traffic). t.handed) is
     ∙ ap (λ (m : ℕ). set running.packets.handed (m - 1) true) same
     ∙ ap (λ (l : List Bool). set l (number - 1) true) (sym stands.handed)
 
 -- the packets of one host
-pub host_handed : {D V : Type 0} {gs : Ghosts D} {database : Database} {given : List ℕ} (running : OpenCell D V gs) (c : Cell) (packets : Traffic) (k : ℕ)
-    (host : Host) → packets ≡ dropped_all running.packets host → slice_get running.hosts.items k ≡ Some host → IsModelledBy gs database given running c →
+pub host_handed : {D V : Type 0} {gs : Ghosts D} {database : Database} {given : List ℕ} (running : OpenCell D V gs) (c : Cell)
+    (packets : Traffic) (k : ℕ)
+    (host : Host) → packets ≡ dropped_all running.packets host → slice_get running.hosts.items k ≡ Some host
+    → IsModelledBy gs database given running c →
     packets.handed ≡ dropped_of (host_at c.run.world.hosts k) c.run.world.packets c.handed
 host_handed running c packets k host is there stands =
     let at : host_at c.run.world.hosts k ≡ host =

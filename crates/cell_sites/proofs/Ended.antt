@@ -41,7 +41,8 @@ module _ {D V : Type 0} (g : Ghosts D) (db : Database) (m : Member) (clock : ℕ
       let is = ap (λ (s : Server D V g). g.faults (server_disk s)) becomes.0.1 in
       omega (arith, rose, same, one, is)
   faults_made k ended.NoMemory node later out server left step becomes =
-      let kept = (short_step g db m e clock (node_of node) (node_of later) out node.store.disk later.store.disk step.steps).reads.cause.never_falls in
+      let kept = (short_step g db m e clock (node_of node)
+      (node_of later) out node.store.disk later.store.disk step.steps).reads.cause.never_falls in
       let is = ap (λ (s : Server D V g). g.faults (server_disk s)) becomes.0 in
       omega (arith, kept, is)
 

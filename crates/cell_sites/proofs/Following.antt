@@ -28,7 +28,8 @@ trace-append script_db hosts (item ∷ items) more =
     ap (λ (l : List ℕ). item_text script_db hosts item ++ l) (trace-append script_db hosts items more)
     ∙ sym (append_assoc (item_text script_db hosts item) (trace script_db hosts items) (trace script_db hosts more))
 
-pub rises_both : (k : ℕ) (items more : List TraceItem) (a b d : List Held) → AreRises k items a b → AreRises k more b d → AreRises k (items ++ more) a d
+pub rises_both : (k : ℕ) (items more : List TraceItem) (a b d : List Held) → AreRises k items a b → AreRises k more b d
+    → AreRises k (items ++ more) a d
 rises_both k items more [] [] [] first then = tt
 rises_both k items more [] [] (z ∷ d) first then = absurd then
 rises_both k items more [] (y ∷ b) d first then = absurd first
@@ -52,7 +53,8 @@ first_heard (x ∷ each) all = all.0
 -- ---- the loop
 
 -- What was delivered so far, so many packets with some choices: what more comes to is that, and then what it comes to from here.
-pub record SoFar {D V : Type 0} (g : Ghosts D) (script_db : ScriptDatabase) (given : List ℕ) (most fuel : ℕ) (c : Cell) (start now : OpenCell D V g)
+pub record SoFar {D V : Type 0} (g : Ghosts D) (script_db : ScriptDatabase) (given : List ℕ) (most fuel : ℕ) (c : Cell)
+    (start now : OpenCell D V g)
     (text_before text : List ℕ) : Type 0 where
   pub cell : Cell
   pub stands : IsModelledBy g script_db.database given now cell
@@ -70,7 +72,8 @@ pub record SoFar {D V : Type 0} (g : Ghosts D) (script_db : ScriptDatabase) (giv
 
 pub record Follows {D V : Type 0} (g : Ghosts D) (script_db : ScriptDatabase) (most fuel : ℕ) (start now : OpenCell D V g)
     (text_before text : List ℕ) : Type 0 where
-  pub runs : (given : List ℕ) (c : Cell) → IsModelledBy g script_db.database given start c → SoFar g script_db given most fuel c start now text_before text
+  pub runs : (given : List ℕ) (c : Cell) → IsModelledBy g script_db.database given start c
+      → SoFar g script_db given most fuel c start now text_before text
   pub sound : (bounds : Bounds) → IsSound g script_db.database bounds start → IsSound g script_db.database bounds now
   pub rises : AreRises 0 [] (helds g start) (helds g now)
   pub same : length now.sites.items ≡ length start.sites.items
@@ -107,7 +110,8 @@ follows_none g script_db most fuel start text same =
 -- with some choice of its step, whatever that told
 module _ {D V : Type 0} (g : Ghosts D) (script_db : ScriptDatabase) (given : List ℕ) (most fuel : ℕ) (c : Cell) (start now : OpenCell D V g)
     (tb text : List ℕ) (so : SoFar g script_db given most fuel c start now tb text) (number : ℕ)
-    (waits : first_waiting 1 so.cell.handed ≡ Some number) (choice : Choice) (ran : Cell_run) (is : delivered script_db so.cell choice number ≡ ran) where
+    (waits : first_waiting 1 so.cell.handed ≡ Some number) (choice : Choice) (ran : Cell_run)
+    (is : delivered script_db so.cell choice number ≡ ran) where
   -- what one more packet comes to
   pub one_more : (rest : ℕ) (more : List Choice)
       → all_delivered script_db (so.count + 1 + rest) c ((so.done ++ choice ∷ []) ++ more) (first_waiting 1 c.handed)
@@ -115,15 +119,19 @@ module _ {D V : Type 0} (g : Ghosts D) (script_db : ScriptDatabase) (given : Lis
   one_more rest more =
       let next : so.count + 1 + rest ≡ so.count + suc rest = omega arith in
       ap (λ (n : ℕ). all_delivered script_db n c ((so.done ++ choice ∷ []) ++ more) (first_waiting 1 c.handed)) next
-      ∙ ap (λ (l : List Choice). all_delivered script_db (so.count + suc rest) c l (first_waiting 1 c.handed)) (append_assoc so.done (choice ∷ []) more)
+      ∙ ap (λ (l : List Choice). all_delivered script_db (so.count + suc rest) c l (first_waiting 1 c.handed))
+      (append_assoc so.done (choice ∷ []) more)
       ∙ so.is (suc rest) (choice ∷ more)
       ∙ ap (λ (o : Option ℕ). joined_run so.items (all_delivered script_db (suc rest) so.cell (choice ∷ more) o)) waits
-      ∙ ap (λ (r : Cell_run). joined_run so.items (unless_ended r r.ending (all_delivered script_db rest r.cell more (first_waiting 1 r.cell.handed)))) is
+      ∙ ap (λ (r : Cell_run). joined_run so.items
+      (unless_ended r r.ending (all_delivered script_db rest r.cell more (first_waiting 1 r.cell.handed)))) is
 
-module _ {D V : Type 0} (g : Ghosts D) (script_db : ScriptDatabase) (given : List ℕ) (most fuel : ℕ) (c : Cell) (start now later : OpenCell D V g)
+module _ {D V : Type 0} (g : Ghosts D) (script_db : ScriptDatabase) (given : List ℕ) (most fuel : ℕ) (c : Cell)
+    (start now later : OpenCell D V g)
     (tb text after : List ℕ) (so : SoFar g script_db given most (suc fuel) c start now tb text) (number : ℕ)
     (waits : first_waiting 1 so.cell.handed ≡ Some number) (ended : Option Ending)
-    (told : CellTold g script_db given (λ choices. Ok (delivered script_db so.cell (first_choice choices) number)) ended now later text after) where
+    (told : CellTold g script_db given
+    (λ choices. Ok (delivered script_db so.cell (first_choice choices) number)) ended now later text after) where
   came : delivered script_db so.cell (first_choice told.choices) number ≡ told.ran
   came = let e = told.is in cc
 
@@ -147,7 +155,8 @@ module _ {D V : Type 0} (g : Ghosts D) (script_db : ScriptDatabase) (given : Lis
         count = so.count + 1;
         all = let all = so.all in omega (arith, all);
         is = λ rest more.
-            one_more g script_db given most (suc fuel) c start now tb text so number waits (first_choice told.choices) told.ran came rest more
+            one_more g script_db given most (suc fuel) c start now tb text so number waits
+            (first_choice told.choices) told.ran came rest more
             ∙ ap (λ (e : Option Ending). joined_run so.items (unless_ended told.ran e
             (all_delivered script_db rest told.ran.cell more (first_waiting 1 told.ran.cell.handed)))) (told.ends ∙ none)
             ∙ joined so.items told.ran.items (all_delivered script_db rest told.ran.cell more (first_waiting 1 told.ran.cell.handed));
@@ -157,8 +166,10 @@ module _ {D V : Type 0} (g : Ghosts D) (script_db : ScriptDatabase) (given : Lis
       }
 
   -- the script ends in it
-  pub ends_there : most ≡ MAX_PACKETS → (ending : Ending) → ended ≡ Some ending → HoldRun script_db.database given false told.ran.cell (helds g later)
-      → CellTold g script_db given (λ choices. Ok (all_delivered script_db choices.most c choices.each (first_waiting 1 c.handed))) (Some ending) start later
+  pub ends_there : most ≡ MAX_PACKETS → (ending : Ending) → ended ≡ Some ending
+      → HoldRun script_db.database given false told.ran.cell (helds g later)
+      → CellTold g script_db given (λ choices. Ok (all_delivered script_db choices.most c choices.each (first_waiting 1 c.handed)))
+      (Some ending) start later
       tb after
   ends_there whole ending some hold =
       let all : so.count + 1 + fuel ≡ most = let all = so.all in omega (arith, all) in
@@ -170,10 +181,13 @@ module _ {D V : Type 0} (g : Ghosts D) (script_db : ScriptDatabase) (given : Lis
               (heard_append so.done (first_choice told.choices ∷ []) so.heard (first_heard told.choices.each told.whole.found, tt)) tt;
         };
         ran = joined_run so.items told.ran;
-        is = ap Ok (ap (λ (n : ℕ). all_delivered script_db n c ((so.done ++ first_choice told.choices ∷ []) ++ []) (first_waiting 1 c.handed)) (sym all)
-            ∙ one_more g script_db given most (suc fuel) c start now tb text so number waits (first_choice told.choices) told.ran came fuel []
+        is = ap Ok (ap (λ (n : ℕ). all_delivered script_db n c ((so.done ++ first_choice told.choices ∷ []) ++ [])
+            (first_waiting 1 c.handed)) (sym all)
+            ∙ one_more g script_db given most (suc fuel) c start now tb text so number waits
+            (first_choice told.choices) told.ran came fuel []
             ∙ ap (λ (e : Option Ending). joined_run so.items
-            (unless_ended told.ran e (all_delivered script_db fuel told.ran.cell [] (first_waiting 1 told.ran.cell.handed)))) (told.ends ∙ some));
+            (unless_ended told.ran e (all_delivered script_db fuel told.ran.cell [] (first_waiting 1 told.ran.cell.handed))))
+            (told.ends ∙ some));
         ends = told.ends ∙ some;
         cell = hold;
         told = all_told;
@@ -181,10 +195,12 @@ module _ {D V : Type 0} (g : Ghosts D) (script_db : ScriptDatabase) (given : Lis
       }
 
 -- no packet waits any more, or there is no fuel left
-pub followed : {D V : Type 0} (g : Ghosts D) (script_db : ScriptDatabase) (given : List ℕ) (most fuel : ℕ) (c : Cell) (start now : OpenCell D V g)
+pub followed : {D V : Type 0} (g : Ghosts D) (script_db : ScriptDatabase) (given : List ℕ) (most fuel : ℕ) (c : Cell)
+    (start now : OpenCell D V g)
     (tb text : List ℕ) (so : SoFar g script_db given most fuel c start now tb text)
     → most ≡ MAX_PACKETS → all_delivered script_db fuel so.cell [] (first_waiting 1 so.cell.handed) ≡ resting so.cell
-    → CellTold g script_db given (λ choices. Ok (all_delivered script_db choices.most c choices.each (first_waiting 1 c.handed))) None start now tb text
+    → CellTold g script_db given
+    (λ choices. Ok (all_delivered script_db choices.most c choices.each (first_waiting 1 c.handed))) None start now tb text
 followed g script_db given most fuel c start now tb text so whole rests =
     record {
       choices = record { each = so.done ++ []; most = most };
@@ -211,10 +227,12 @@ IsNone None = Unit {0}
 IsNone (Some n) = ⊥
 
 -- the number of the packet that waits first is that of a packet
-pub is_waiting : (k : ℕ) (handed : List Bool) (number : ℕ) → first_waiting k handed ≡ Some number → (k ≤ number) × (number < k + length handed)
+pub is_waiting : (k : ℕ) (handed : List Bool) (number : ℕ) → first_waiting k handed ≡ Some number → (k ≤ number)
+    × (number < k + length handed)
 unfolding IsNone
 is_waiting k [] number waits = let w : None ≡ Some number = waits in absurd (subst IsNone w tt)
-is_waiting k (false ∷ handed) number waits = let e : k ≡ number = let w : Some k ≡ Some number = waits in cc in (omega (arith, e), omega (arith, e))
+is_waiting k (false ∷ handed) number waits =
+    let e : k ≡ number = let w : Some k ≡ Some number = waits in cc in (omega (arith, e), omega (arith, e))
 is_waiting k (true ∷ handed) number waits =
     let later = is_waiting (k + 1) handed number waits in (omega (arith, later.0), omega (arith, later.1))
 
@@ -224,15 +242,18 @@ pub same_hosts : {D V : Type 0} (g : Ghosts D) (bound other : ℕ) (now later : 
 same_hosts g bound other now later sound sounds same = sounds.hosts ∙ ap hosts_of same ∙ sym sound.hosts
 
 module _ {D V : Type 0} (g : Ghosts D) (script_db : ScriptDatabase) (most n fuel : ℕ) (bounds : Bounds) (start now later : OpenCell D V g)
-    (tb text after : List ℕ) (follows : Follows g script_db most n start now tb text) (less : n ≡ suc fuel) (sound : IsSound g script_db.database bounds start)
+    (tb text after : List ℕ) (follows : Follows g script_db most n start now tb text) (less : n ≡ suc fuel)
+    (sound : IsSound g script_db.database bounds start)
     (number : ℕ) (waits : first_waiting 1 now.packets.handed ≡ Some number) where
-  before : (given : List ℕ) (c : Cell) → IsModelledBy g script_db.database given start c → SoFar g script_db given most (suc fuel) c start now tb text
+  before : (given : List ℕ) (c : Cell) → IsModelledBy g script_db.database given start c
+      → SoFar g script_db given most (suc fuel) c start now tb text
   before given c stands = subst (λ (m : ℕ). SoFar g script_db given most m c start now tb text) less (follows.runs given c stands)
 
   -- one more packet was handed over
   pub follows_more : ((given : List ℕ) (c : Cell) → IsModelledBy g script_db.database given now c
       → CellTold g script_db given (λ choices. Ok (delivered script_db c (first_choice choices) number)) None now later text after)
-      → ((b : Bounds) → IsSound g script_db.database b now → IsSound g script_db.database b later) → AreRises 0 [] (helds g now) (helds g later)
+      → ((b : Bounds) → IsSound g script_db.database b now → IsSound g script_db.database b later)
+      → AreRises 0 [] (helds g now) (helds g later)
       → length later.sites.items ≡ length now.sites.items
       → Follows g script_db most fuel start later tb after
   follows_more told sounds rises same =
@@ -240,8 +261,10 @@ module _ {D V : Type 0} (g : Ghosts D) (script_db : ScriptDatabase) (most n fuel
         runs = λ given c stands.
             let so = before given c stands in
             let t = told given so.cell so.stands in
-            goes_on g script_db given most fuel c start now later tb text after so number (ap (first_waiting 1) so.stands.handed ∙ waits) None t refl t.cell
-            (same_hosts g bounds.clock bounds.clock now later (follows.sound bounds sound).steady (sounds bounds (follows.sound bounds sound)).steady same);
+            goes_on g script_db given most fuel c start now later tb text after so number
+            (ap (first_waiting 1) so.stands.handed ∙ waits) None t refl t.cell
+            (same_hosts g bounds.clock bounds.clock now later (follows.sound bounds sound).steady
+            (sounds bounds (follows.sound bounds sound)).steady same);
         sound = λ b s. sounds b (follows.sound b s);
         rises = rises_both 0 [] [] (helds g start) (helds g now) (helds g later) follows.rises rises;
         same = same ∙ follows.same;
@@ -251,31 +274,38 @@ module _ {D V : Type 0} (g : Ghosts D) (script_db : ScriptDatabase) (most n fuel
   pub limit_there : most ≡ MAX_PACKETS → (given : List ℕ) (c : Cell) → IsModelledBy g script_db.database given start c → (ending : Ending)
       → ((d : Cell) → IsModelledBy g script_db.database given now d
       → CellTold g script_db given (λ choices. Ok (delivered script_db d (first_choice choices) number)) (Some ending) now later text after)
-      → CellTold g script_db given (λ choices. Ok (all_delivered script_db choices.most c choices.each (first_waiting 1 c.handed))) (Some ending) start later
+      → CellTold g script_db given (λ choices. Ok (all_delivered script_db choices.most c choices.each (first_waiting 1 c.handed)))
+      (Some ending) start later
       tb after
   limit_there whole given c stands ending told =
       let so = before given c stands in
       let t = told so.cell so.stands in
-      ends_there g script_db given most fuel c start now later tb text after so number (ap (first_waiting 1) so.stands.handed ∙ waits) (Some ending) t whole
+      ends_there g script_db given most fuel c start now later tb text after so number (ap (first_waiting 1) so.stands.handed ∙ waits)
+      (Some ending) t whole
       ending refl t.cell
 
 -- none waits any more
 pub all_followed : {D V : Type 0} (g : Ghosts D) (script_db : ScriptDatabase) (most fuel : ℕ) (start now : OpenCell D V g)
     (tb text : List ℕ) → Follows g script_db most fuel start now tb text
-    → most ≡ MAX_PACKETS → first_waiting 1 now.packets.handed ≡ None → (given : List ℕ) (c : Cell) → IsModelledBy g script_db.database given start c
-    → CellTold g script_db given (λ choices. Ok (all_delivered script_db choices.most c choices.each (first_waiting 1 c.handed))) None start now tb text
+    → most ≡ MAX_PACKETS → first_waiting 1 now.packets.handed ≡ None → (given : List ℕ) (c : Cell)
+    → IsModelledBy g script_db.database given start c
+    → CellTold g script_db given
+    (λ choices. Ok (all_delivered script_db choices.most c choices.each (first_waiting 1 c.handed))) None start now tb text
 all_followed g script_db most fuel start now tb text follows whole none given c stands =
     let so = follows.runs given c stands in
-    followed g script_db given most fuel c start now tb text so whole (none_left script_db fuel so.cell (ap (first_waiting 1) so.stands.handed ∙ none))
+    followed g script_db given most fuel c start now tb text so whole
+    (none_left script_db fuel so.cell (ap (first_waiting 1) so.stands.handed ∙ none))
 
 -- as many were handed over as a script may send
 pub fuel_followed : {D V : Type 0} (g : Ghosts D) (script_db : ScriptDatabase) (most fuel : ℕ) (start now : OpenCell D V g)
     (tb text : List ℕ) → Follows g script_db most fuel start now tb text
     → most ≡ MAX_PACKETS → fuel ≡ zero → (given : List ℕ) (c : Cell) → IsModelledBy g script_db.database given start c
-    → CellTold g script_db given (λ choices. Ok (all_delivered script_db choices.most c choices.each (first_waiting 1 c.handed))) None start now tb text
+    → CellTold g script_db given
+    (λ choices. Ok (all_delivered script_db choices.most c choices.each (first_waiting 1 c.handed))) None start now tb text
 fuel_followed g script_db most fuel start now tb text follows whole none given c stands =
     let so = follows.runs given c stands in
-    followed g script_db given most fuel c start now tb text so whole (ap (λ (m : ℕ). all_delivered script_db m so.cell [] (first_waiting 1 so.cell.handed))
+    followed g script_db given most fuel c start now tb text so whole
+    (ap (λ (m : ℕ). all_delivered script_db m so.cell [] (first_waiting 1 so.cell.handed))
     none
     ∙ no_fuel script_db so.cell (first_waiting 1 so.cell.handed))
 
@@ -295,8 +325,10 @@ pub short_there : {D V : Type 0} (g : Ghosts D) (script_db : ScriptDatabase) (mo
     → ((given : List ℕ) (c : Cell) → IsModelledBy g script_db.database given now c
     → IsShort g script_db.database given (λ choices. Ok (delivered script_db c (first_choice choices) number)) c now later)
     → (given : List ℕ) (c : Cell) → IsModelledBy g script_db.database given start c
-    → IsShort g script_db.database given (λ choices. Ok (all_delivered script_db choices.most c choices.each (first_waiting 1 c.handed))) c start later
-short_there {D} {V} g script_db most fuel start now later tb text follows number waits rises short given c stands = by (short given so.cell so.stands)
+    → IsShort g script_db.database given
+    (λ choices. Ok (all_delivered script_db choices.most c choices.each (first_waiting 1 c.handed))) c start later
+short_there {D} {V} g script_db most fuel start now later tb text follows number waits rises short given c stands = by
+    (short given so.cell so.stands)
   where
     so : SoFar g script_db given most fuel c start now tb text
     so = follows.runs given c stands
@@ -305,7 +337,8 @@ short_there {D} {V} g script_db most fuel start now later tb text follows number
     waits_so = ap (first_waiting 1) so.stands.handed ∙ waits
 
     by : IsShort g script_db.database given (λ choices. Ok (delivered script_db so.cell (first_choice choices) number)) so.cell now later
-        → IsShort g script_db.database given (λ choices. Ok (all_delivered script_db choices.most c choices.each (first_waiting 1 c.handed))) c start later
+        → IsShort g script_db.database given
+        (λ choices. Ok (all_delivered script_db choices.most c choices.each (first_waiting 1 c.handed))) c start later
     by (inl hold) =
         inr (record {
           choices = record { each = so.done ++ []; most = so.count + 0 };

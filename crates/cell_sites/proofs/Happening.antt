@@ -27,7 +27,8 @@ module _ (db : Database) (w : World) (trigger : Trigger) (k : ℕ) (e : NodeEven
       → happens db w (Step trigger short) ≡ happened_at w k (step_up k site e s.version (step_of db (member w k) s site.clock e short))
   up_happens s is = step_happens ∙ ap (λ (n : model.Node). happened_at w k (step_at db (member w k) trigger e short site n)) is
 
-  pub halted_happens : (h : model.HaltedServer) → site.node ≡ model.Halted h → happens db w (Step trigger short) ≡ happened_at w k (halted_step site e)
+  pub halted_happens : (h : model.HaltedServer) → site.node ≡ model.Halted h
+      → happens db w (Step trigger short) ≡ happened_at w k (halted_step site e)
   halted_happens h is = step_happens ∙ ap (λ (n : model.Node). happened_at w k (step_at db (member w k) trigger e short site n)) is
 
   pub down_happens : site.node ≡ model.Down → happens db w (Step trigger short) ≡ happened_at w k (only_marks site (lost_at trigger))
@@ -41,7 +42,8 @@ module _ (db : Database) (w : World) (trigger : Trigger) (k : ℕ) (e : NodeEven
       ∙ ap (λ (n : model.Node). happened_at w k (fault_at db (member w k) e short made site n)) is
 
   pub stop_happens : (s : model.Server) (made : ℕ) → site.node ≡ model.Up s
-      → happens db w (Stop trigger short made) ≡ happened_at w k (stop_up k site s.version (step_of db (member w k) s site.clock e short) made)
+      → happens db w (Stop trigger short made) ≡ happened_at w k
+      (stop_up k site s.version (step_of db (member w k) s site.clock e short) made)
   stop_happens s made is =
       ap (triggered w (λ m e site. stop_at db m e short made site site.node)) o
       ∙ ap (happens_at w k (λ site. stop_at db (member w k) e short made site site.node)) there
@@ -65,29 +67,35 @@ stops_so short took = record { fails = false; made = 0; took = took; unheard = s
 abbrev pub serves_so : List Bool → Choice
 serves_so short = record { fails = false; made = 0; took = false; unheard = short; short = short }
 
-module _ (script_db : ScriptDatabase) (c : Cell) (trigger : Trigger) (k : ℕ) (e : NodeEvent) (site : Site) (o : occasion c.run.world trigger ≡ Some (k, e))
+module _ (script_db : ScriptDatabase) (c : Cell) (trigger : Trigger) (k : ℕ) (e : NodeEvent) (site : Site)
+    (o : occasion c.run.world trigger ≡ Some (k, e))
     (there : slice_get c.run.world.sites k ≡ Some site) where
   outcome_is : (choice : Choice)
-      → outcome_of script_db.database c.run.world choice c.armed (occasion c.run.world trigger) ≡ outcome_at script_db.database c.run.world choice c.armed
+      → outcome_of script_db.database c.run.world choice c.armed
+      (occasion c.run.world trigger) ≡ outcome_at script_db.database c.run.world choice c.armed
       (k, e) site.node
   outcome_is choice =
       ap (outcome_of script_db.database c.run.world choice c.armed) o
       ∙ ap (λ (s : Option Site). outcome_at script_db.database c.run.world choice c.armed (k, e) (node_in s)) there
 
-  as_outcome : (choice : Choice) (outcome : DiskOutcome) → outcome_at script_db.database c.run.world choice c.armed (k, e) site.node ≡ outcome
+  as_outcome : (choice : Choice) (outcome : DiskOutcome)
+      → outcome_at script_db.database c.run.world choice c.armed (k, e) site.node ≡ outcome
       → stepped script_db c choice trigger ≡ stepped_so script_db c trigger k choice.short outcome
   as_outcome choice outcome is =
-      ap (λ (p : ℕ). stepped_so script_db c trigger p choice.short (outcome_of script_db.database c.run.world choice c.armed (occasion c.run.world trigger)))
+      ap (λ (p : ℕ). stepped_so script_db c trigger p choice.short
+      (outcome_of script_db.database c.run.world choice c.armed (occasion c.run.world trigger)))
       (ap place_in o)
       ∙ ap (stepped_so script_db c trigger k choice.short) (outcome_is choice ∙ is)
 
   -- a server that makes no call of its disk
   pub stepped_down : site.node ≡ model.Down
-      → stepped script_db c sound trigger ≡ with_event script_db (with_armed c (set c.armed k (counted_on 0 (armed_at c.armed k)))) (Step trigger [])
+      → stepped script_db c sound trigger ≡ with_event script_db (with_armed c (set c.armed k (counted_on 0 (armed_at c.armed k))))
+      (Step trigger [])
   stepped_down is = as_outcome sound (Serves 0) (ap (outcome_at script_db.database c.run.world sound c.armed (k, e)) is)
 
   pub stepped_halted : (h : model.HaltedServer) → site.node ≡ model.Halted h
-      → stepped script_db c sound trigger ≡ with_event script_db (with_armed c (set c.armed k (counted_on 0 (armed_at c.armed k)))) (Step trigger [])
+      → stepped script_db c sound trigger ≡ with_event script_db (with_armed c (set c.armed k (counted_on 0 (armed_at c.armed k))))
+      (Step trigger [])
   stepped_halted h is = as_outcome sound (Serves 0) (ap (outcome_at script_db.database c.run.world sound c.armed (k, e)) is)
 
   module _ (s : model.Server) (up : site.node ≡ model.Up s) where
@@ -99,7 +107,8 @@ module _ (script_db : ScriptDatabase) (c : Cell) (trigger : Trigger) (k : ℕ) (
     clock_here = ap clock_in there
 
     outcome_here : (choice : Choice)
-        → outcome_at script_db.database c.run.world choice c.armed (k, e) site.node ≡ outcome_up choice s.version calls_here (armed_at c.armed k)
+        → outcome_at script_db.database c.run.world choice c.armed (k, e) site.node ≡ outcome_up choice s.version calls_here
+        (armed_at c.armed k)
     outcome_here choice =
         ap (outcome_at script_db.database c.run.world choice c.armed (k, e)) up
         ∙ ap (λ (now : ℕ). outcome_up choice s.version (λ short. (step_of script_db.database (member c.run.world k) s now e short).calls)
@@ -122,7 +131,8 @@ module _ (script_db : ScriptDatabase) (c : Cell) (trigger : Trigger) (k : ℕ) (
     stepped_fails short made = as_outcome (fails_after short made) (Fails_after short made) (outcome_here (fails_after short made))
 
     -- one in which it stops
-    pub stepped_stops : (short : List Bool) (took : Bool) (whole : ℕ) → stops_in s.version (calls_here short) (armed_at c.armed k) ≡ Some whole
+    pub stepped_stops : (short : List Bool) (took : Bool) (whole : ℕ)
+        → stops_in s.version (calls_here short) (armed_at c.armed k) ≡ Some whole
         → stepped script_db c (stops_so short took) trigger ≡ with_event script_db (with_armed c (set c.armed k None))
         (Stop trigger short (if took then whole + 1 else whole))
     stepped_stops short took whole is =

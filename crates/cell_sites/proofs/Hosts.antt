@@ -30,7 +30,8 @@ rest_ascending a [] up = tt
 rest_ascending a (b ∷ hosts) up = up.1
 
 -- what is in a list and behind its first is so in another that begins with the same
-behind : (x : Host) (xs ys : List Host) → IsAscending (x ∷ xs) → ((z : Host) → Contains (x ∷ xs) z → Contains (x ∷ ys) z) → (z : Host) → Contains xs z
+behind : (x : Host) (xs ys : List Host) → IsAscending (x ∷ xs) → ((z : Host) → Contains (x ∷ xs) z → Contains (x ∷ ys) z) → (z : Host)
+    → Contains xs z
     → Contains ys z
 behind x xs ys up all z (k, lt, is) = by (all z (suc k, omega arith, is))
   where
@@ -45,7 +46,8 @@ behind x xs ys up all z (k, lt, is) = by (all z (suc k, omega arith, is))
 none_in : (z : Host) → Contains [] z → ⊥
 none_in z (k, lt, is) = absurd (omega (arith, lt))
 
-same_first : (x y : Host) (xs ys : List Host) → IsAscending (x ∷ xs) → IsAscending (y ∷ ys) → Contains (y ∷ ys) x → Contains (x ∷ xs) y → x ≡ y
+same_first : (x y : Host) (xs ys : List Host) → IsAscending (x ∷ xs) → IsAscending (y ∷ ys) → Contains (y ∷ ys) x → Contains (x ∷ xs) y
+    → x ≡ y
 same_first x y xs ys up up' (zero, lt, is) there = sym is
 same_first x y xs ys up up' (suc k, lt, is) (zero, lt', is') = is'
 same_first x y xs ys up up' (suc k, lt, is) (suc j, lt', is') =

@@ -69,17 +69,20 @@ packets_in [] = refl
 packets_in (one ∷ shown) = ap (λ (l : List Packet). cons_option (packet_of one) l) (packets_in shown)
 
 -- where packets are of the cell, outputs may be told
-may_tell : WritesSpread → (o : Output) (hosts : List Host) (more : List Packet) → All (IsCellPacket hosts) (cons_option (packet_in o) more) → MayBeTold o
+may_tell : WritesSpread → (o : Output) (hosts : List Host) (more : List Packet)
+    → All (IsCellPacket hosts) (cons_option (packet_in o) more) → MayBeTold o
 may_tell law (output.Send p) hosts more sends = (law.whole hosts p (All-head (IsCellPacket hosts) p more sends)).short
 may_tell law (output.Reply id r) hosts more sends = tt
 may_tell law (output.Announce version) hosts more sends = tt
 
-later_sends : (o : Option Packet) (hosts : List Host) (more : List Packet) → All (IsCellPacket hosts) (cons_option o more) → All (IsCellPacket hosts)
+later_sends : (o : Option Packet) (hosts : List Host) (more : List Packet) → All (IsCellPacket hosts) (cons_option o more)
+    → All (IsCellPacket hosts)
     more
 later_sends None hosts more sends = sends
 later_sends (Some p) hosts more sends = All-tail (IsCellPacket hosts) p more sends
 
-pub all_may_tell : WritesSpread → (out : List Output) (hosts : List Host) → All (IsCellPacket hosts) (filter_map packet_in out) → All MayBeTold out
+pub all_may_tell : WritesSpread → (out : List Output) (hosts : List Host) → All (IsCellPacket hosts) (filter_map packet_in out)
+    → All MayBeTold out
 all_may_tell law [] hosts sends = All-nil _
 all_may_tell law (o ∷ out) hosts sends =
     All-cons MayBeTold o out (may_tell law o hosts (filter_map packet_in out) sends)
@@ -134,7 +137,8 @@ found_halts end is short = let never : ended.Halts ≡ ended.NoMemory = sym is �
 
 module _ {D V : Type 0} (g : Ghosts D) (script_db : ScriptDatabase) (before mid after : OpenCell D V g) (law : Laws) (k : ℕ)
     (e : NodeEvent) (end : SiteEnd) (bound : ℕ) (sound : IsSteady g bound before) (keeps : Keeps script_db.database before)
-    (brought : IsBrought (member_at before k) e) (asks : AsksOf before.calls e) (ss : SiteStepped g script_db.database k e end before mid) (hosts : after.hosts.items ≡ mid.hosts.items)
+    (brought : IsBrought (member_at before k) e) (asks : AsksOf before.calls e)
+    (ss : SiteStepped g script_db.database k e end before mid) (hosts : after.hosts.items ≡ mid.hosts.items)
     (sites : after.sites.items ≡ mid.sites.items) where
   at : IsHere g bound before k ss.clock ss.node
   at = here g bound before k ss.clock ss.node sound ss.there
@@ -147,21 +151,26 @@ module _ {D V : Type 0} (g : Ghosts D) (script_db : ScriptDatabase) (before mid 
   all_sites = sites ∙ ss.sites
 
   faults : g.faults ss.node.store.disk + fault_count k (map Tells (end_marks k end)) ≤ g.faults (server_disk ss.server)
-  faults = faults_made g script_db.database (member_at before k) ss.clock e k end ss.node ss.later ss.out ss.server mid.outputs ss.step ss.becomes
+  faults =
+      faults_made g script_db.database
+      (member_at before k) ss.clock e k end ss.node ss.later ss.out ss.server mid.outputs ss.step ss.becomes
 
   pub rises : AreRises 0 [] (helds g before) (helds g after)
   rises =
       subst (λ (l : List (Site D V g)). AreRises 0 [] (helds g before) (map (held_at {V = V} g) l)) (sym all_sites)
-      (rises_set g [] 0 k before.sites.items (up_site ss.clock ss.node) later_site ss.there (let kept = faults in omega (arith, kept)) (λ j other. refl))
+      (rises_set g [] 0 k before.sites.items (up_site ss.clock ss.node) later_site ss.there (let kept = faults in omega (arith, kept))
+      (λ j other. refl))
 
   pub as_many : length after.sites.items ≡ length before.sites.items
   as_many = ap length all_sites ∙ length-set before.sites.items k later_site
 
-  came_short : Steps g script_db.database (member_at before k) NoMemory e ss.clock (node_of ss.node) (node_of ss.later) ss.out ss.node.store.disk
+  came_short : Steps g script_db.database (member_at before k) NoMemory e ss.clock (node_of ss.node)
+      (node_of ss.later) ss.out ss.node.store.disk
       ss.later.store.disk
       → IsShortStep g (node_of ss.node) (node_of ss.later) ss.out ss.node.store.disk ss.later.store.disk
   came_short steps =
-      short_step g script_db.database (member_at before k) e ss.clock (node_of ss.node) (node_of ss.later) ss.out ss.node.store.disk ss.later.store.disk steps
+      short_step g script_db.database (member_at before k) e ss.clock (node_of ss.node)
+      (node_of ss.later) ss.out ss.node.store.disk ss.later.store.disk steps
 
   -- the packets that are sent are of the cell
   pub all_sent : All (IsCellPacket before.hosts.items) (filter_map packet_in mid.outputs)
@@ -174,7 +183,8 @@ module _ {D V : Type 0} (g : Ghosts D) (script_db : ScriptDatabase) (before mid 
       of_refusals (event.Ask id asked) = All-nil _
 
       made : (out : List Output) (x y : model.Node) (b a : D) → node_of ss.node ≡ x
-          → Steps g script_db.database (member_at before k) Done e ss.clock x y out b a → All (IsCellPacket before.hosts.items) (filter_map packet_in out)
+          → Steps g script_db.database (member_at before k) Done e ss.clock x y out b a
+          → All (IsCellPacket before.hosts.items) (filter_map packet_in out)
       made out model.Down y b a is steps = absurd steps
       made out (model.Halted h) y b a is steps = absurd steps
       made out (model.Up s) y b a is (short, makes) =
@@ -183,14 +193,16 @@ module _ {D V : Type 0} (g : Ghosts D) (script_db : ScriptDatabase) (before mid 
           subst (λ (l : List Packet). All (IsCellPacket before.hosts.items) l)
           (sym (ap (λ (o : List Output). filter_map packet_in o) makes.outputs ∙ packets_in t.shown)) step.packets
 
-      refused : (out : List Output) (x y : model.Node) (b a : D) → Steps g script_db.database (member_at before k) Halted e ss.clock x y out b a
+      refused : (out : List Output) (x y : model.Node) (b a : D)
+          → Steps g script_db.database (member_at before k) Halted e ss.clock x y out b a
           → out ≡ outputs_of (refusals e)
       refused out model.Down y b a steps = absurd steps
       refused out (model.Halted h) y b a steps = steps.1
       refused out (model.Up s) y b a steps = steps.1
 
       of_refused : (out : List Output) → out ≡ outputs_of (refusals e) → All (IsCellPacket before.hosts.items) (filter_map packet_in out)
-      of_refused out is = subst (λ (o : List Output). All (IsCellPacket before.hosts.items) (filter_map packet_in o)) (sym is) (of_refusals e)
+      of_refused out is =
+          subst (λ (o : List Output). All (IsCellPacket before.hosts.items) (filter_map packet_in o)) (sym is) (of_refusals e)
 
       of_left : (left : List Output) → mid.outputs ≡ left → All (IsCellPacket before.hosts.items) (filter_map packet_in left)
           → All (IsCellPacket before.hosts.items) (filter_map packet_in mid.outputs)
@@ -200,22 +212,27 @@ module _ {D V : Type 0} (g : Ghosts D) (script_db : ScriptDatabase) (before mid 
           → Becomes g x ss.later ss.out ss.server mid.outputs → All (IsCellPacket before.hosts.items) (filter_map packet_in mid.outputs)
       by ended.Made step becomes = of_left ss.out becomes.1 (ends step.ends)
         where
-          ends : (step.end ≡ Done) ⊎ ((step.end ≡ Halted) × (ss.node.store.failed ≡ true)) → All (IsCellPacket before.hosts.items) (filter_map packet_in ss.out)
+          ends : (step.end ≡ Done) ⊎ ((step.end ≡ Halted) × (ss.node.store.failed ≡ true))
+              → All (IsCellPacket before.hosts.items) (filter_map packet_in ss.out)
           ends (inl done) =
               made ss.out (node_of ss.node) (node_of ss.later) ss.node.store.disk ss.later.store.disk refl
-              (subst (λ (x : StepEnd). Steps g script_db.database (member_at before k) x e ss.clock (node_of ss.node) (node_of ss.later) ss.out
+              (subst (λ (x : StepEnd). Steps g script_db.database (member_at before k) x e ss.clock (node_of ss.node)
+              (node_of ss.later) ss.out
               ss.node.store.disk ss.later.store.disk) done step.steps)
           ends (inr (halted, was)) =
               of_refused ss.out (refused ss.out (node_of ss.node) (node_of ss.later) ss.node.store.disk ss.later.store.disk
-              (subst (λ (x : StepEnd). Steps g script_db.database (member_at before k) x e ss.clock (node_of ss.node) (node_of ss.later) ss.out
+              (subst (λ (x : StepEnd). Steps g script_db.database (member_at before k) x e ss.clock (node_of ss.node)
+              (node_of ss.later) ss.out
               ss.node.store.disk ss.later.store.disk) halted step.steps))
       by ended.Halts step becomes =
-          of_left ss.out becomes.1 (of_refused ss.out (refused ss.out (node_of ss.node) (node_of ss.later) ss.node.store.disk step.failed step.steps))
+          of_left ss.out becomes.1
+          (of_refused ss.out (refused ss.out (node_of ss.node) (node_of ss.later) ss.node.store.disk step.failed step.steps))
       by ended.Stops step becomes = of_left [] becomes.1 (All-nil _)
       by ended.NoMemory step becomes = of_left ss.out becomes.1 (of_left_none (came_short step.steps).quiet)
         where
           of_left_none : ss.out ≡ [] → All (IsCellPacket before.hosts.items) (filter_map packet_in ss.out)
-          of_left_none none = subst (λ (o : List Output). All (IsCellPacket before.hosts.items) (filter_map packet_in o)) (sym none) (All-nil _)
+          of_left_none none = subst (λ (o : List Output). All (IsCellPacket before.hosts.items) (filter_map packet_in o)) (sym none)
+              (All-nil _)
 
   -- where its disk stopped it puts nothing out
   pub stops_quiet : end ≡ ended.Stops → mid.outputs ≡ []
@@ -224,9 +241,11 @@ module _ {D V : Type 0} (g : Ghosts D) (script_db : ScriptDatabase) (before mid 
   pub sound_still : after.outputs ≡ [] → (other : ℕ)
       → IsSteady g other before → IsSteady g other after
   sound_still empty other still =
-      let kept = stays_sound g script_db.database (member_at before k) ss.clock e end ss.node ss.later ss.out ss.server mid.outputs at.disk ss.step
+      let kept = stays_sound g script_db.database
+      (member_at before k) ss.clock e end ss.node ss.later ss.out ss.server mid.outputs at.disk ss.step
       ss.becomes in
-      sound_after g other before after k (up_site ss.clock ss.node) later_site still ss.there refl kept.0 kept.1 all_sites (hosts ∙ ss.hosts) empty
+      sound_after g other before after k (up_site ss.clock ss.node) later_site still ss.there refl kept.0 kept.1 all_sites
+      (hosts ∙ ss.hosts) empty
 
   -- the server takes writes still
   server_keeps : KeepsServer script_db.database before.hosts.items before.calls ss.server
@@ -237,12 +256,14 @@ module _ {D V : Type 0} (g : Ghosts D) (script_db : ScriptDatabase) (before mid 
       as_later keeps is = as_keeps script_db.database before.hosts.items before.calls ss.server (Up ss.later) is keeps
 
       -- of a halted server nothing is said
-      halted_keeps : ss.later.store.failed ≡ true → KeepsServer {D = D} {V = V} script_db.database before.hosts.items before.calls (Up ss.later)
+      halted_keeps : ss.later.store.failed ≡ true
+          → KeepsServer {D = D} {V = V} script_db.database before.hosts.items before.calls (Up ss.later)
       halted_keeps halted =
           up_keeps script_db.database before.hosts.items before.calls ss.later (λ up. absurd (false≢true (sym up ∙ halted)))
 
       made : (x : model.Node) → node_of ss.node ≡ x
-          → Steps g script_db.database (member_at before k) Done e ss.clock x (node_of ss.later) ss.out ss.node.store.disk ss.later.store.disk
+          → Steps g script_db.database (member_at before k) Done e ss.clock x
+          (node_of ss.later) ss.out ss.node.store.disk ss.later.store.disk
           → KeepsNode script_db.database before.hosts.items before.calls ss.later
       made model.Down is steps = absurd steps
       made (model.Halted h) is steps = absurd steps
@@ -258,7 +279,8 @@ module _ {D V : Type 0} (g : Ghosts D) (script_db : ScriptDatabase) (before mid 
           }
 
       -- a server that stays as it is
-      rested : node_of ss.later ≡ node_of ss.node → ss.later.store.failed ≡ false → KeepsNode script_db.database before.hosts.items before.calls ss.later
+      rested : node_of ss.later ≡ node_of ss.node → ss.later.store.failed ≡ false
+          → KeepsNode script_db.database before.hosts.items before.calls ss.later
       rested same up =
           let s = up_server ss.later in
           let is : node_of ss.later ≡ model.Up s = ap (λ (b : Bool). if b then model.Halted (model.halted_from s) else model.Up s) up in
@@ -275,15 +297,18 @@ module _ {D V : Type 0} (g : Ghosts D) (script_db : ScriptDatabase) (before mid 
               → KeepsServer {D = D} {V = V} script_db.database before.hosts.items before.calls (Up ss.later)
           ends (inl done) =
               up_keeps script_db.database before.hosts.items before.calls ss.later (λ up. made (node_of ss.node) refl
-              (subst (λ (x : StepEnd). Steps g script_db.database (member_at before k) x e ss.clock (node_of ss.node) (node_of ss.later) ss.out
+              (subst (λ (x : StepEnd). Steps g script_db.database (member_at before k) x e ss.clock (node_of ss.node)
+              (node_of ss.later) ss.out
               ss.node.store.disk ss.later.store.disk) done step.steps))
           ends (inr (halted, was)) =
               halted_keeps (halts g script_db.database (member_at before k) e ss.clock (node_of ss.node) ss.later ss.out ss.node.store.disk
               ss.later.store.disk
-              (subst (λ (x : StepEnd). Steps g script_db.database (member_at before k) x e ss.clock (node_of ss.node) (node_of ss.later) ss.out
+              (subst (λ (x : StepEnd). Steps g script_db.database (member_at before k) x e ss.clock (node_of ss.node)
+              (node_of ss.later) ss.out
               ss.node.store.disk ss.later.store.disk) halted step.steps))
       by ended.Halts step becomes =
-          as_later (halted_keeps (halts g script_db.database (member_at before k) e ss.clock (node_of ss.node) ss.later ss.out ss.node.store.disk
+          as_later (halted_keeps
+          (halts g script_db.database (member_at before k) e ss.clock (node_of ss.node) ss.later ss.out ss.node.store.disk
           step.failed step.steps)) becomes.0
       by ended.Stops step becomes =
           as_keeps script_db.database before.hosts.items before.calls ss.server (Down becomes.0.0) becomes.0.1
@@ -294,7 +319,8 @@ module _ {D V : Type 0} (g : Ghosts D) (script_db : ScriptDatabase) (before mid 
   pub keeps_still : after.packets ≡ sent_all mid.packets (filter_map packet_in mid.outputs) → after.calls ≡ mid.calls
       → Keeps script_db.database after
   keeps_still packets calls =
-      keeps_set script_db.database before after keeps (hosts ∙ ss.hosts) k later_site (filter_map packet_in mid.outputs) all_sites (calls ∙ ss.calls)
+      keeps_set script_db.database before after keeps (hosts ∙ ss.hosts) k later_site (filter_map packet_in mid.outputs) all_sites
+      (calls ∙ ss.calls)
       (packets ∙ ap (λ (t : Traffic). sent_all t (filter_map packet_in mid.outputs)) ss.packets) server_keeps all_sent
 
   module _ (given : List ℕ) (c : Cell) (stands : IsModelledBy g script_db.database given before c) (trigger : Trigger)
@@ -320,9 +346,12 @@ module _ {D V : Type 0} (g : Ghosts D) (script_db : ScriptDatabase) (before mid 
 
     -- a step is also the one with other replies for want of memory
     abbrev Picks : (List Bool → Type 0) → Type 0
-    Picks H = (s : model.Server) (short : List Bool) → mid.outputs ≡ outputs_of (step_of script_db.database (member_at before k) s ss.clock e short).shown
+    Picks H =
+        (s : model.Server) (short : List Bool)
+        → mid.outputs ≡ outputs_of (step_of script_db.database (member_at before k) s ss.clock e short).shown
         → (list : List Bool)
-        × (step_of script_db.database (member_at before k) s ss.clock e short ≡ step_of script_db.database (member_at before k) s ss.clock e list) × H list
+        × (step_of script_db.database (member_at before k) s ss.clock e short ≡ step_of script_db.database
+        (member_at before k) s ss.clock e list) × H list
 
     -- the one that it is
     any_pick : Picks (λ list. Unit {0})
@@ -345,16 +374,19 @@ module _ {D V : Type 0} (g : Ghosts D) (script_db : ScriptDatabase) (before mid 
         subst (λ (l : List (Site D V g)). HoldRun script_db.database given false c (map (held_at {V = V} g) l)) (sym all_sites)
         (hold_still script_db.database c given (helds g before) (map (held_at {V = V} g) (set before.sites.items k later_site))
         (reads_set g c.run.world.sites before.sites.items k site.s later_site stands.disks.read site.there is)
-        (moved_set g (λ j x y. y.steps ≡ x.steps) 0 k before.sites.items (up_site ss.clock ss.node) later_site ss.there same (λ j x other. refl)) stands.disks)
+        (moved_set g (λ j x y. y.steps ≡ x.steps) 0 k before.sites.items (up_site ss.clock ss.node) later_site ss.there same
+        (λ j x other. refl)) stands.disks)
 
     comes : (H : List Bool → Type 0) → H [] → Picks H → Comes H
     comes H none picks = by end ss.step ss.becomes refl
       where
         as_made : (x : SiteEnd) (server : Server D V g) (left : List Output) → end ≡ x → ss.server ≡ server → mid.outputs ≡ left
-            → StepMade g script_db c before k trigger H (end_marks k x) (up_site ss.clock ss.node) (record { clock = ss.clock; server = server }) left
+            → StepMade g script_db c before k trigger H (end_marks k x) (up_site ss.clock ss.node)
+            (record { clock = ss.clock; server = server }) left
             → Comes H
         as_made x server left is same outputs m =
-            made (subst (λ (y : SiteEnd). StepMade g script_db c before k trigger H (end_marks k y) (up_site ss.clock ss.node) later_site mid.outputs)
+            made (subst (λ (y : SiteEnd). StepMade g script_db c before k trigger H (end_marks k y)
+            (up_site ss.clock ss.node) later_site mid.outputs)
             (sym is)
             (subst (λ (y : Server D V g). StepMade g script_db c before k trigger H (end_marks k x) (up_site ss.clock ss.node)
             (record { clock = ss.clock; server = y }) mid.outputs) (sym same)
@@ -362,9 +394,11 @@ module _ {D V : Type 0} (g : Ghosts D) (script_db : ScriptDatabase) (before mid 
             (record { clock = ss.clock; server = server }) y) (sym outputs) m)))
 
         steps_as : (step : IsMade g script_db.database (member_at before k) ss.clock e ss.node ss.later ss.out) (x : StepEnd) → step.end ≡ x
-            → Steps g script_db.database (member_at before k) x e ss.clock (node_of ss.node) (node_of ss.later) ss.out ss.node.store.disk ss.later.store.disk
+            → Steps g script_db.database (member_at before k) x e ss.clock (node_of ss.node)
+            (node_of ss.later) ss.out ss.node.store.disk ss.later.store.disk
         steps_as step x is =
-            subst (λ (y : StepEnd). Steps g script_db.database (member_at before k) y e ss.clock (node_of ss.node) (node_of ss.later) ss.out ss.node.store.disk
+            subst (λ (y : StepEnd). Steps g script_db.database (member_at before k) y e ss.clock (node_of ss.node)
+            (node_of ss.later) ss.out ss.node.store.disk
             ss.later.store.disk) is step.steps
 
         by : (x : SiteEnd) → NodeStepped g script_db.database (member_at before k) ss.clock e x ss.node ss.later ss.out
@@ -373,27 +407,34 @@ module _ {D V : Type 0} (g : Ghosts D) (script_db : ScriptDatabase) (before mid 
           where
             ends : (step.end ≡ Done) ⊎ ((step.end ≡ Halted) × (ss.node.store.failed ≡ true)) → Comes H
             ends (inl done) =
-                let d = done_by g script_db given before c stands law k e trigger o site.s site.there ss.clock ss.node ss.there site.is.clock site.is.node
+                let d = done_by g script_db given before c stands law k e trigger o site.s site.there ss.clock ss.node ss.there
+                site.is.clock site.is.node
                 at.me at.moment keeps brought asks H none at.sound at.disk read ss.later ss.out ss.node.store.disk ss.later.store.disk
                 (steps_as step Done done) in
                 let pick = picks d.s d.short (becomes.1 ∙ d.makes.outputs) in
                 as_made ended.Made (Up ss.later) ss.out is becomes.0 becomes.1
-                (made_whole g script_db given before c stands law k e trigger o site.s site.there ss.clock ss.node ss.there site.is.clock site.is.node
+                (made_whole g script_db given before c stands law k e trigger o site.s site.there ss.clock ss.node ss.there site.is.clock
+                site.is.node
                 at.me at.moment keeps brought asks H none at.sound at.disk read ss.later ss.out d pick.0 pick.2 pick.1
                 (subst (λ (y : StepEnd). Calls g ss.node ss.later y) done step.calls) step.sound)
             ends (inr (halted, was)) =
                 as_made ended.Made (Up ss.later) ss.out is becomes.0 becomes.1
-                (made_rested g script_db given before c stands law k e trigger o site.s site.there ss.clock ss.node ss.there site.is.clock site.is.node
+                (made_rested g script_db given before c stands law k e trigger o site.s site.there ss.clock ss.node ss.there
+                site.is.clock site.is.node
                 at.me at.moment keeps brought asks H none at.sound at.disk read ss.later ss.out was (steps_as step Halted halted))
         by ended.Halts step becomes is =
             as_made ended.Halts (Up ss.later) ss.out is becomes.0 becomes.1
-            (made_fault g script_db given before c stands law k e trigger o site.s site.there ss.clock ss.node ss.there site.is.clock site.is.node at.me
-            at.moment keeps brought asks H none at.sound at.disk read ss.out step.failed ss.later.store.disk step.was (node_of ss.later) step.steps step.revived
+            (made_fault g script_db given before c stands law k e trigger o site.s site.there ss.clock ss.node ss.there site.is.clock
+            site.is.node at.me
+            at.moment keeps brought asks H none at.sound at.disk read ss.out step.failed ss.later.store.disk step.was
+            (node_of ss.later) step.steps step.revived
             step.sound.disk.told ss.later refl refl)
         by ended.Stops step becomes is =
             as_made ended.Stops (Down becomes.0.0) [] is becomes.0.1 becomes.1
-            (made_stop g script_db given before c stands law k e trigger o site.s site.there ss.clock ss.node ss.there site.is.clock site.is.node at.me
-            at.moment keeps brought asks H none at.sound at.disk read ss.out ss.later.store.disk becomes.0.0 step.was (node_of ss.later) step.steps becomes.0.2
+            (made_stop g script_db given before c stands law k e trigger o site.s site.there ss.clock ss.node ss.there site.is.clock
+            site.is.node at.me
+            at.moment keeps brought asks H none at.sound at.disk read ss.out ss.later.store.disk becomes.0.0 step.was
+            (node_of ss.later) step.steps becomes.0.2
             (becomes.0.2.told (step.calls.1.tells ∙ g.tells_now ss.node.store.disk at.disk.told)) step.calls step.stopped)
         by ended.NoMemory step becomes is =
             let reads = (came_short step.steps).reads in
@@ -411,12 +452,14 @@ module _ {D V : Type 0} (g : Ghosts D) (script_db : ScriptDatabase) (before mid 
 
     hold_made : (H : List Bool → Type 0) (m : made_here H) → HoldRun script_db.database given false (cell_made H m) (helds g after)
     hold_made H m =
-        subst (λ (l : List (Site D V g)). HoldRun script_db.database given false (cell_made H m) (map (held_at {V = V} g) l)) (sym all_sites)
+        subst (λ (l : List (Site D V g)). HoldRun script_db.database given false (cell_made H m) (map (held_at {V = V} g) l))
+        (sym all_sites)
         (hold_more script_db.database c (cell_made H m) given m.ev (record
         { opening = refl; events = refl; world = ap (λ (h : Happened). h.world) (sym m.happens_so) }) (helds g before)
         (map (held_at {V = V} g) (set before.sites.items k later_site)) stands.disks
         (reads_both g c.run.world.sites before.sites.items k m.h.site later_site stands.disks.read m.reads)
-        (moved_set g (λ j x y. (more : ℕ) × IsRiseIn script_db.database c.run.world m.ev j more × (y.steps ≡ x.steps + more)) 0 k before.sites.items
+        (moved_set g (λ j x y. (more : ℕ) × IsRiseIn script_db.database c.run.world m.ev j more
+        × (y.steps ≡ x.steps + more)) 0 k before.sites.items
         (up_site ss.clock ss.node) later_site ss.there
         (m.rises.0, subst (λ (n : ℕ). IsRiseIn script_db.database c.run.world m.ev n m.rises.0) (zero_add k) m.rises.1, m.rises.2)
         (λ j x other. (0, m.rests j (λ same. other (same ∙ zero_add k)), omega arith))))
@@ -427,9 +470,11 @@ module _ {D V : Type 0} (g : Ghosts D) (script_db : ScriptDatabase) (before mid 
     seen_marks : (H : List Bool → Type 0) (m : made_here H) → AreMarks m.h.marks
     seen_marks H m = subst AreMarks (sym m.marked) (are_marks k end)
 
-    rises_made : (H : List Bool → Type 0) (m : made_here H) → g.faults ss.node.store.disk + fault_count k (map Tells m.h.marks) ≤ g.faults (server_disk ss.server)
+    rises_made : (H : List Bool → Type 0) (m : made_here H)
+        → g.faults ss.node.store.disk + fault_count k (map Tells m.h.marks) ≤ g.faults (server_disk ss.server)
     rises_made H m =
-        subst (λ (marks : List Happening). g.faults ss.node.store.disk + fault_count k (map Tells marks) ≤ g.faults (server_disk ss.server)) (sym m.marked)
+        subst (λ (marks : List Happening). g.faults ss.node.store.disk + fault_count k (map Tells marks) ≤ g.faults
+        (server_disk ss.server)) (sym m.marked)
         faults
 
     others_made : (H : List Bool → Type 0) (m : made_here H) (j : ℕ) → j ≢ k → fault_count j (map Tells m.h.marks) ≡ 0
@@ -446,13 +491,15 @@ module _ {D V : Type 0} (g : Ghosts D) (script_db : ScriptDatabase) (before mid 
         → after.packets ≡ sent_all mid.packets (filter_map packet_in mid.outputs)
         → CellTold g script_db given steps_so None before after tb ta
     all_told m tb text ta told marked sends =
-        whole g script_db given before after c stands k m.ev m.h m.armed steps_so m.choices (ap Ok m.is) (seen_marks Heard m) (up_site ss.clock ss.node) later_site
+        whole g script_db given before after c stands k m.ev m.h m.armed steps_so m.choices (ap Ok m.is) (seen_marks Heard m)
+        (up_site ss.clock ss.node) later_site
         ss.there all_sites (rises_made Heard m) (others_made Heard m)
         m.heard tb text ta told
         (marked ∙ ap (λ (l : List Happening). text ++ trace script_db before.hosts.items (map Tells l)) (sym m.marked))
         (hosts ∙ ss.hosts)
         (sends ∙ ap (λ (t : Traffic). sent_all t (filter_map packet_in mid.outputs)) ss.packets
-        ∙ ap (λ (l : List Packet). sent_all before.packets l) (ap (λ (l : List Output). filter_map packet_in l) (sym m.outputs) ∙ packets_in m.h.shown))
+        ∙ ap (λ (l : List Packet). sent_all before.packets l)
+        (ap (λ (l : List Output). filter_map packet_in l) (sym m.outputs) ∙ packets_in m.h.shown))
         m.stood
         (subst (λ (l : List (Site D V g)). AreArmed g l m.armed) (sym all_sites) m.arms)
         (hold_made Heard m)
@@ -460,23 +507,29 @@ module _ {D V : Type 0} (g : Ghosts D) (script_db : ScriptDatabase) (before mid 
     -- the outputs told are those of the model
     pub told_line : (halts : Bool) → Tells_halt k end halts → (text_before text_after : List ℕ)
         → ((shown : List Shown) → outputs_of shown ≡ mid.outputs → All (AnswersOf before.calls) shown
-        → WholeTold script_db mid.hosts.items k halts (record { text = text_before; sent = mid.packets.sent }) shown text_after after.packets.sent)
+        → WholeTold script_db mid.hosts.items k halts
+        (record { text = text_before; sent = mid.packets.sent }) shown text_after after.packets.sent)
         → end ≢ ended.NoMemory → All IsNotShort mid.outputs → after.packets ≡ sent_all mid.packets (filter_map packet_in mid.outputs)
         → CellTold g script_db given steps_so None before after text_before text_after
     told_line halts tells_it tb ta tells other found sends = by (comes Heard refl (found_pick found))
       where
         by : Comes Heard → CellTold g script_db given steps_so None before after tb ta
         by (made m) =
-            let at_before : WholeTold script_db before.hosts.items k halts (record { text = tb; sent = before.packets.sent }) m.h.shown ta after.packets.sent =
-            subst (λ (h : List Host). WholeTold script_db h k halts (record { text = tb; sent = before.packets.sent }) m.h.shown ta after.packets.sent) ss.hosts
-            (subst (λ (t : Traffic). WholeTold script_db mid.hosts.items k halts (record { text = tb; sent = t.sent }) m.h.shown ta after.packets.sent)
+            let at_before : WholeTold script_db before.hosts.items k halts
+            (record { text = tb; sent = before.packets.sent }) m.h.shown ta after.packets.sent =
+            subst (λ (h : List Host). WholeTold script_db h k halts
+            (record { text = tb; sent = before.packets.sent }) m.h.shown ta after.packets.sent) ss.hosts
+            (subst (λ (t : Traffic). WholeTold script_db mid.hosts.items k halts
+            (record { text = tb; sent = t.sent }) m.h.shown ta after.packets.sent)
             ss.packets (tells m.h.shown m.outputs m.answers)) in
             all_told m tb at_before.text ta at_before.told
-            (at_before.marked ∙ ap (λ (l : List Happening). at_before.text ++ trace script_db before.hosts.items (map Tells l)) tells_it) sends
+            (at_before.marked ∙ ap (λ (l : List Happening). at_before.text ++ trace script_db before.hosts.items (map Tells l)) tells_it)
+            sends
         by (rests is hold) = absurd (other is)
 
     -- its disk stopped, which alone is told
-    pub stop_line : end ≡ ended.Stops → (text_before text_after : List ℕ) → text_after ≡ text_before ++ mark_text (mark.Stops k) → after.packets ≡ mid.packets
+    pub stop_line : end ≡ ended.Stops → (text_before text_after : List ℕ) → text_after ≡ text_before ++ mark_text (mark.Stops k)
+        → after.packets ≡ mid.packets
         → CellTold g script_db given steps_so None before after text_before text_after
     stop_line stops tb ta told sends =
         by (comes Heard refl (found_pick (subst (All IsNotShort) (sym none_out) (All-nil IsNotShort))))
@@ -523,8 +576,10 @@ module _ {D V : Type 0} (g : Ghosts D) (script_db : ScriptDatabase) (before mid 
             subst (λ (h : List Host). told_of script_db h k (record { text = tb; sent = before.packets.sent }) m.h.shown ≡ record
             { after = record { text = ta; sent = after.packets.sent }; ending = Some ending }) ss.hosts
             (subst (λ (t : Traffic). told_of script_db mid.hosts.items k (record { text = tb; sent = t.sent }) m.h.shown ≡ record
-            { after = record { text = ta; sent = after.packets.sent }; ending = Some ending }) ss.packets (tells m.h.shown m.outputs m.answers)) in
-            part g script_db given before after c stands k m.ev m.h m.armed steps_so m.choices (ap Ok m.is) (seen_marks Heard m) (up_site ss.clock ss.node) later_site
+            { after = record { text = ta; sent = after.packets.sent }; ending = Some ending }) ss.packets
+            (tells m.h.shown m.outputs m.answers)) in
+            part g script_db given before after c stands k m.ev m.h m.armed steps_so m.choices (ap Ok m.is) (seen_marks Heard m)
+            (up_site ss.clock ss.node) later_site
             ss.there all_sites (rises_made Heard m) (others_made Heard m)
             m.heard ending tb ta after.packets.sent at_before (hold_made Heard m)
         by (rests is hold) = absurd (other is)
@@ -538,6 +593,7 @@ module _ {D V : Type 0} (g : Ghosts D) (script_db : ScriptDatabase) (before mid 
       where
         by : Comes Any → IsShort g script_db.database given steps_so c before after
         by (made m) =
-            short_after g script_db given before after c stands k m.ev m.h m.armed steps_so m.choices (ap Ok m.is) (seen_marks Any m) (up_site ss.clock ss.node)
+            short_after g script_db given before after c stands k m.ev m.h m.armed steps_so m.choices (ap Ok m.is) (seen_marks Any m)
+            (up_site ss.clock ss.node)
             later_site ss.there all_sites (rises_made Any m) (others_made Any m) (hold_made Any m)
         by (rests is hold) = inl (hold_short script_db.database c given (helds g after) hold)

@@ -30,14 +30,16 @@ use Rattle.cell_sites.proofs.Nodes.{is_up}
 
 -- ---- lists
 
-got_set : {X : Type 0} (xs : List X) (k : ℕ) (y : X) (j : ℕ) (x : X) → slice_get (set xs k y) j ≡ Some x → (x ≡ y) ⊎ (slice_get xs j ≡ Some x)
+got_set : {X : Type 0} (xs : List X) (k : ℕ) (y : X) (j : ℕ) (x : X) → slice_get (set xs k y) j ≡ Some x → (x ≡ y)
+    ⊎ (slice_get xs j ≡ Some x)
 got_set [] k y j x is = inr is
 got_set (z ∷ xs) zero y zero x is = let same : y ≡ x = cc in inl (sym same)
 got_set (z ∷ xs) zero y (suc j) x is = inr is
 got_set (z ∷ xs) (suc k) y zero x is = inr is
 got_set (z ∷ xs) (suc k) y (suc j) x is = got_set xs k y j x is
 
-got_map : {X : Type 0} (f : X → X) (xs : List X) (j : ℕ) (x : X) → slice_get (map f xs) j ≡ Some x → (z : X) × (slice_get xs j ≡ Some z) × (x ≡ f z)
+got_map : {X : Type 0} (f : X → X) (xs : List X) (j : ℕ) (x : X) → slice_get (map f xs) j ≡ Some x → (z : X) × (slice_get xs j ≡ Some z)
+    × (x ≡ f z)
 got_map f [] j x is = absurd (cc)
 got_map f (z ∷ xs) zero x is = let same : f z ≡ x = cc in (z, refl, sym same)
 got_map f (z ∷ xs) (suc j) x is = got_map f xs j x is
@@ -50,7 +52,8 @@ module _ {D V : Type 0} {g : Ghosts D} (db : Database) (hosts : List Host) (call
   down_keeps disk node is up = let never : Down disk ≡ Up node = is in absurd cc
 
   -- one that is up
-  pub up_keeps : (later : Node D V g) → (later.store.failed ≡ false → KeepsNode db hosts calls later) → KeepsServer db hosts calls (Up later)
+  pub up_keeps : (later : Node D V g) → (later.store.failed ≡ false → KeepsNode db hosts calls later)
+      → KeepsServer db hosts calls (Up later)
   up_keeps later keeps node is up =
       let same : later ≡ node = cc in
       subst (KeepsNode db hosts calls) same (keeps (ap (λ (n : Node D V g). n.store.failed) same ∙ up))
@@ -59,7 +62,8 @@ module _ {D V : Type 0} {g : Ghosts D} (db : Database) (hosts : List Host) (call
   as_keeps s t is keeps = subst (KeepsServer db hosts calls) (sym is) keeps
 
   -- one with the same state
-  pub same_keeps : (node later : Node D V g) → KeepsServer db hosts calls (Up node) → up_server later ≡ up_server node → later.store.failed ≡ node.store.failed
+  pub same_keeps : (node later : Node D V g) → KeepsServer db hosts calls (Up node) → up_server later ≡ up_server node
+      → later.store.failed ≡ node.store.failed
       → KeepsServer db hosts calls (Up later)
   same_keeps node later keeps same halted =
       up_keeps later (λ up.
@@ -91,7 +95,8 @@ module _ {D V : Type 0} {g : Ghosts D} (db : Database) (hosts : List Host) (call
 
 -- ---- cells
 
-module _ {D V : Type 0} {g : Ghosts D} (db : Database) (before after : OpenCell D V g) (keeps : Keeps db before) (hosts : after.hosts.items ≡ before.hosts.items) where
+module _ {D V : Type 0} {g : Ghosts D} (db : Database) (before after : OpenCell D V g) (keeps : Keeps db before)
+    (hosts : after.hosts.items ≡ before.hosts.items) where
   packets_on : (new : List Packet) → after.packets ≡ sent_all before.packets new → All (IsCellPacket before.hosts.items) new
       → All (IsCellPacket after.hosts.items) after.packets.sent
   packets_on new sent all =
@@ -112,7 +117,8 @@ module _ {D V : Type 0} {g : Ghosts D} (db : Database) (before after : OpenCell 
   keeps_set k later new sites calls sent server all =
       record {
         servers = λ j site there. as_here calls site.server
-            (by j site (got_set before.sites.items k later j site (subst (λ (l : List (Site D V g)). slice_get l j ≡ Some site) sites there)));
+            (by j site (got_set before.sites.items k later j site
+            (subst (λ (l : List (Site D V g)). slice_get l j ≡ Some site) sites there)));
         packets = packets_on new sent all;
       }
     where
@@ -122,7 +128,8 @@ module _ {D V : Type 0} {g : Ghosts D} (db : Database) (before after : OpenCell 
       by j site (inr there) = keeps.servers j site there
 
   -- each server stays as it is
-  pub keeps_map : (f : Site D V g → Site D V g) → ((site : Site D V g) → (f site).server ≡ site.server) → after.sites.items ≡ map f before.sites.items
+  pub keeps_map : (f : Site D V g → Site D V g) → ((site : Site D V g) → (f site).server ≡ site.server)
+      → after.sites.items ≡ map f before.sites.items
       → after.calls ≡ before.calls → after.packets ≡ before.packets → Keeps db after
   keeps_map f same sites calls packets =
       record {

@@ -75,7 +75,8 @@ needs_told (body.PieceKept poll version next) tells told = told
 needs_told (body.Commit old new) tells told = told
 
 -- what a step needs
-pub needs_met : {D V : Type 0} (g : Ghosts D) (db : Database) (m : Member) (node : Node D V g) (disk : IsSoundDisk g node.store.disk) (e : NodeEvent) (now : ℕ)
+pub needs_met : {D V : Type 0} (g : Ghosts D) (db : Database) (m : Member) (node : Node D V g) (disk : IsSoundDisk g node.store.disk)
+    (e : NodeEvent) (now : ℕ)
     → Needs db m (node_of node) e now (g.files node.store.disk)
 needs_met g db m node disk e now = by (node_of node) e
   where
@@ -100,7 +101,8 @@ holds_met standing node meant = by (node_of node) refl
 
 -- ---- a step
 
-module _ {D V : Type 0} {g : Ghosts D} (db : Database) (running : OpenCell D V g) (k clock : ℕ) (node : Node D V g) (keeps : Keeps db running)
+module _ {D V : Type 0} {g : Ghosts D} (db : Database) (running : OpenCell D V g) (k clock : ℕ) (node : Node D V g)
+    (keeps : Keeps db running)
     (there : slice_get running.sites.items k ≡ Some (up_site clock node)) where
   -- the server that is up takes writes
   pub up_keeping : (s : model.Server) → node_of node ≡ model.Up s → IsKeeping db (length running.hosts.items) s

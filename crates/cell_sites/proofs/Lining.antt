@@ -31,8 +31,16 @@ module _ {D V : Type 0} (g : Ghosts D) (line run : Choices → Run_or_why) (is :
         causes = told.causes;
       }
 
-  pub short_as : {database : Database} {given : List ℕ} (c : Cell) (before after : OpenCell D V g) → IsShort g database given run c before after
+  pub short_as : {database : Database} {given : List ℕ} (c : Cell) (before after : OpenCell D V g)
+      → IsShort g database given run c before after
       → IsShort g database given line c before after
   short_as c before after (inl read) = inl read
   short_as c before after (inr after_it) =
-      inr (record { choices = after_it.choices; ran = after_it.ran; is = is after_it.choices ∙ after_it.is; disks = after_it.disks; causes = after_it.causes })
+      inr (record {
+        choices = after_it.choices;
+        ran = after_it.ran;
+        is = is after_it.choices
+            ∙ after_it.is;
+        disks = after_it.disks;
+        causes = after_it.causes;
+      })

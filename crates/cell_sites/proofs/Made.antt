@@ -67,7 +67,8 @@ marks_others k j ended.Stops other = ap (λ (b : Bool). (if b then 1 else 0) + 0
 marks_others k j ended.NoMemory other = refl
 
 -- a stop and a halt tell one
-pub marks_one : (k : ℕ) → (fault_count k (map Tells (end_marks k ended.Halts)) ≡ 1) × (fault_count k (map Tells (end_marks k ended.Stops)) ≡ 1)
+pub marks_one : (k : ℕ) → (fault_count k (map Tells (end_marks k ended.Halts)) ≡ 1)
+    × (fault_count k (map Tells (end_marks k ended.Stops)) ≡ 1)
 marks_one k = (
   ap (λ (b : Bool). (if b then 1 else 0) + 0) (eq-eqb k k refl),
   ap (λ (b : Bool). (if b then 1 else 0) + 0) (eq-eqb k k refl),
@@ -83,7 +84,8 @@ laws_of spreads memory = record { spreads = spreads; memory = memory }
 
 -- The event of the world that a step is, with the choices that bring it, and what it makes of the disk. `H` is said of the replies for want
 -- of memory in it, where the disk serves it.
-pub record StepMade {D V : Type 0} (g : Ghosts D) (script_db : ScriptDatabase) (c : Cell) (running : OpenCell D V g) (k : ℕ) (trigger : Trigger)
+pub record StepMade {D V : Type 0} (g : Ghosts D) (script_db : ScriptDatabase) (c : Cell) (running : OpenCell D V g) (k : ℕ)
+    (trigger : Trigger)
     (H : List Bool → Type 0) (marks : List Happening) (before after : Site D V g) (out : List Output) : Type 0 where
   pub ev : Event
   pub h : SiteHappened
@@ -99,7 +101,8 @@ pub record StepMade {D V : Type 0} (g : Ghosts D) (script_db : ScriptDatabase) (
   pub marked : h.marks ≡ marks
   pub arms : AreArmed g (set running.sites.items k after) armed
   pub reads : IsReadBy h.site (held g (site_disk after))
-  pub rises : (more : ℕ) × IsRiseIn script_db.database c.run.world ev k more × (g.steps (site_disk after) ≡ g.steps (site_disk before) + more)
+  pub rises : (more : ℕ) × IsRiseIn script_db.database c.run.world ev k more
+      × (g.steps (site_disk after) ≡ g.steps (site_disk before) + more)
   pub rests : (j : ℕ) → j ≢ k → IsRiseIn script_db.database c.run.world ev j 0
 
 -- a refusal is no Ok, and no packet
@@ -122,10 +125,13 @@ refusals_rest (event.Ask id call) hosts = All-nil _
 module _ {D V : Type 0} (g : Ghosts D) (script_db : ScriptDatabase) (given : List ℕ) (before : OpenCell D V g) (c : Cell)
     (stands : IsModelledBy g script_db.database given before c) (law : Laws) (k : ℕ) (e : NodeEvent) (trigger : Trigger)
     (o : occasion c.run.world trigger ≡ Some (k, e)) (site : ModelSite) (there : slice_get c.run.world.sites k ≡ Some site) (clock : ℕ)
-    (node : Node D V g) (placed : slice_get before.sites.items k ≡ Some (up_site clock node)) (clocks : site.clock ≡ clock) (stood : site.node ≡ node_of node)
-    (me : k < length before.hosts.items) (moment : IsMoment clock) (keeps : Keeps script_db.database before) (brought : IsBrought (member_at before k) e)
+    (node : Node D V g) (placed : slice_get before.sites.items k ≡ Some (up_site clock node)) (clocks : site.clock ≡ clock)
+    (stood : site.node ≡ node_of node)
+    (me : k < length before.hosts.items) (moment : IsMoment clock) (keeps : Keeps script_db.database before)
+    (brought : IsBrought (member_at before k) e)
     (asks : AsksOf before.calls e) (H : List Bool → Type 0) (none : H [])
-    (was : IsSoundNode g (member_at before k) clock node) (disk : IsSoundDisk g node.store.disk) (read : IsReadBy site (held g node.store.disk)) where
+    (was : IsSoundNode g (member_at before k) clock node) (disk : IsSoundDisk g node.store.disk)
+    (read : IsReadBy site (held g node.store.disk)) where
   -- the server in its cell, as the model has it
   same_member : member c.run.world k ≡ member_at before k
   same_member = ap (λ (hosts : List Host). record { hosts = hosts; me = k }) stands.hosts
@@ -142,7 +148,8 @@ module _ {D V : Type 0} (g : Ghosts D) (script_db : ScriptDatabase) (given : Lis
       ap (λ (m : Member). step_of script_db.database m s site.clock e short) same_member
       ∙ ap (λ (now : ℕ). step_of script_db.database (member_at before k) s now e short) clocks
 
-  step_so : (s : model.Server) → node_of node ≡ model.Up s → (short : List Bool) → IsWriteStep script_db.database (member_at before k) s e (made_of s short)
+  step_so : (s : model.Server) → node_of node ≡ model.Up s → (short : List Bool)
+      → IsWriteStep script_db.database (member_at before k) s e (made_of s short)
   step_so s up short = step_is script_db.database before k clock node keeps placed law.spreads me moment e brought s up short
 
   -- each durable call leaves a version that is not the first one
@@ -158,7 +165,8 @@ module _ {D V : Type 0} (g : Ghosts D) (script_db : ScriptDatabase) (given : Lis
   durable_is : (s : model.Server) → node_of node ≡ model.Up s → site.durable ≡ durable_in s
   durable_is s up =
       let at = files s up in
-      one_durable at.files site.durable (durable_in s) (and_some (g.files node.store.disk) at.files (StandsAs site.durable) at.is read) at.stands
+      one_durable at.files site.durable (durable_in s)
+      (and_some (g.files node.store.disk) at.files (StandsAs site.durable) at.is read) at.stands
 
   -- the stop of its disk
   stops : (s : model.Server) → node_of node ≡ model.Up s → StopsAs (armed_at c.armed k) (g.stop node.store.disk)
@@ -168,8 +176,10 @@ module _ {D V : Type 0} (g : Ghosts D) (script_db : ScriptDatabase) (given : Lis
 
   -- the entries of the step where it is made whole
   entries_are : (s : model.Server) → node_of node ≡ model.Up s → (short : List Bool) (j : ℕ)
-      → calls_of j (happens script_db.database c.run.world (Step trigger short)).entries ≡ calls_of j (entries_from k s.version (model_of s short).calls)
-  entries_are s up short j = ap (λ (h : Happened). calls_of j h.entries) (up_happens script_db.database c.run.world trigger k e site o there short s (stood ∙ up))
+      → calls_of j (happens script_db.database c.run.world (Step trigger short)).entries ≡ calls_of j
+      (entries_from k s.version (model_of s short).calls)
+  entries_are s up short j =
+      ap (λ (h : Happened). calls_of j h.entries) (up_happens script_db.database c.run.world trigger k e site o there short s (stood ∙ up))
 
   entries_none : (s : model.Server) → node_of node ≡ model.Up s → (short : List Bool) (j : ℕ) → j ≢ k
       → calls_of j (happens script_db.database c.run.world (Step trigger short)).entries ≡ []
@@ -186,14 +196,16 @@ module _ {D V : Type 0} (g : Ghosts D) (script_db : ScriptDatabase) (given : Lis
       → Steps g script_db.database (member_at before k) Done e clock (node_of node) (node_of later) out b a → DoneBy later out b a
   done_by later out b a steps = by (node_of node) refl steps
     where
-      by : (x : model.Node) → node_of node ≡ x → Steps g script_db.database (member_at before k) Done e clock x (node_of later) out b a → DoneBy later out b a
+      by : (x : model.Node) → node_of node ≡ x → Steps g script_db.database (member_at before k) Done e clock x (node_of later) out b a
+          → DoneBy later out b a
       by model.Down is steps = absurd steps
       by (model.Halted h) is steps = absurd steps
       by (model.Up s) is (short, makes) = record { s = s; short = short; up = is; makes = makes }
 
   -- ---- a step that the disk served: it is also the one with these replies for want of memory
 
-  module _ (later : Node D V g) (out : List Output) (done : DoneBy later out node.store.disk later.store.disk) (short : List Bool) (holds : H short)
+  module _ (later : Node D V g) (out : List Output) (done : DoneBy later out node.store.disk later.store.disk) (short : List Bool)
+      (holds : H short)
       (same : made_of done.s done.short ≡ made_of done.s short) (calls : Calls g node later Done)
       (sound_later : StaysSound g (member_at before k) clock later) where
     abbrev t : Stepped
@@ -226,7 +238,8 @@ module _ {D V : Type 0} (g : Ghosts D) (script_db : ScriptDatabase) (given : Lis
     -- what it shows answers calls of the cell
     answered : All (AnswersOf before.calls) (made_of done.s short).shown
     answered =
-        (line_stands script_db.database before.calls (unanswered done.s) e (made_of done.s short).shown (unanswered (made_of done.s short).server)
+        (line_stands script_db.database before.calls (unanswered done.s) e (made_of done.s short).shown
+        (unanswered (made_of done.s short).server)
         (up_line script_db.database before k clock node keeps placed done.s done.up) asks (step_so done.s done.up short).line).answers
 
     pub made_whole : StepMade g script_db c before k trigger H [] (up_site clock node) (up_site clock later) out
@@ -243,7 +256,8 @@ module _ {D V : Type 0} (g : Ghosts D) (script_db : ScriptDatabase) (given : Lis
           heard = (holds, tt);
           armed = set c.armed k (counted_on n armed);
           is =
-              stepped_served script_db c trigger k e site o there s (stood ∙ done.up) short (none_stops s.version t.calls armed (g.stop node.store.disk)
+              stepped_served script_db c trigger k e site o there s (stood ∙ done.up) short
+              (none_stops s.version t.calls armed (g.stop node.store.disk)
               (stops s done.up) runs)
               ∙ ap (happened (with_armed c (set c.armed k (counted_on n armed))) (Step trigger short)) happened_so;
           happens_so = happened_so;
@@ -273,7 +287,8 @@ module _ {D V : Type 0} (g : Ghosts D) (script_db : ScriptDatabase) (given : Lis
   made_rested later out halts steps =
       let h = model.halted_from (up_server node) in
       let halted : node_of node ≡ model.Halted h = ap (λ (b : Bool). if b then model.Halted h else model.Up (up_server node)) halts in
-      let is = subst (λ (x : model.Node). Steps g script_db.database (member_at before k) Halted e clock x (node_of later) out node.store.disk later.store.disk)
+      let is = subst (λ (x : model.Node). Steps g script_db.database (member_at before k) Halted e clock x
+      (node_of later) out node.store.disk later.store.disk)
       halted steps in
       let armed = set c.armed k (counted_on 0 (armed_at c.armed k)) in
       let happened_so = halted_happens script_db.database c.run.world trigger k e site o there [] h (stood ∙ halted) in
@@ -283,7 +298,8 @@ module _ {D V : Type 0} (g : Ghosts D) (script_db : ScriptDatabase) (given : Lis
         choices = [];
         heard = tt;
         armed = armed;
-        is = stepped_halted script_db c trigger k e site o there h (stood ∙ halted) ∙ ap (happened (with_armed c armed) (Step trigger [])) happened_so;
+        is = stepped_halted script_db c trigger k e site o there h (stood ∙ halted)
+            ∙ ap (happened (with_armed c armed) (Step trigger [])) happened_so;
         happens_so = happened_so;
         outputs = sym is.1;
         answers = refusals_answer e before.calls;
@@ -309,7 +325,9 @@ module _ {D V : Type 0} (g : Ghosts D) (script_db : ScriptDatabase) (given : Lis
     is_up_here = ap (λ (b : Bool). if b then model.Halted (model.halted_from s) else model.Up s) up
 
     pub is_so : Steps g script_db.database (member_at before k) Halted e clock (model.Up s) after out node.store.disk failed
-    is_so = subst (λ (x : model.Node). Steps g script_db.database (member_at before k) Halted e clock x after out node.store.disk failed) is_up_here steps
+    is_so =
+        subst (λ (x : model.Node). Steps g script_db.database (member_at before k) Halted e clock x after out node.store.disk failed)
+        is_up_here steps
 
     -- which of its replies were for want of memory; none of them is seen
     abbrev pub unheard : List Bool
@@ -329,13 +347,18 @@ module _ {D V : Type 0} (g : Ghosts D) (script_db : ScriptDatabase) (given : Lis
     made = if so.took then fails.whole + 1 else fails.whole
 
     reads_so : IsSomeAnd (g.files later) (StandsAs (durable_after_all site.durable (take made u.calls)))
-    reads_so = subst (λ (d : Durable). IsSomeAnd (g.files later) (StandsAs (durable_after_all d (take made u.calls)))) (sym (durable_is s is_up_here)) so.stands
+    reads_so =
+        subst (λ (d : Durable). IsSomeAnd (g.files later) (StandsAs (durable_after_all d (take made u.calls))))
+        (sym (durable_is s is_up_here)) so.stands
 
     cut_so : IsCutShort (calls_of k (happens script_db.database c.run.world (Step trigger unheard)).entries) made so.rise
-    cut_so = subst (λ (l : List ℕ). IsCutShort l made so.rise) (sym (entries_are s is_up_here unheard k ∙ calls_own k s.version u.calls)) so.cut
+    cut_so =
+        subst (λ (l : List ℕ). IsCutShort l made so.rise) (sym (entries_are s is_up_here unheard k ∙ calls_own k s.version u.calls)) so.cut
 
     cut_none : (j : ℕ) → j ≢ k → IsCutShort (calls_of j (happens script_db.database c.run.world (Step trigger unheard)).entries) made 0
-    cut_none j other = none_cut (calls_of j (happens script_db.database c.run.world (Step trigger unheard)).entries) made (entries_none s is_up_here unheard j other)
+    cut_none j other =
+        none_cut (calls_of j (happens script_db.database c.run.world (Step trigger unheard)).entries) made
+        (entries_none s is_up_here unheard j other)
 
     -- without a stop: the server is halted
     pub made_fault : (halted : Node D V g) → halted.store.disk ≡ later → node_of halted ≡ after
@@ -358,14 +381,17 @@ module _ {D V : Type 0} (g : Ghosts D) (script_db : ScriptDatabase) (given : Lis
           marked = refl;
           arms = armed_still g before.sites.items c.armed k (up_site clock halted) stands.armed
               (subst (λ (x : model.Node). IsArmedAs x (armed_at c.armed k) (g.stop halted.store.disk)) (sym (node_is ∙ is_so.0)) tt);
-          reads = subst (λ (d : D). IsSomeAnd (g.files d) (StandsAs (durable_after_all site.durable (take made u.calls)))) (sym place) reads_so;
+          reads = subst (λ (d : D). IsSomeAnd (g.files d) (StandsAs (durable_after_all site.durable (take made u.calls))))
+              (sym place) reads_so;
           rises = (so.rise, cut_so, ap g.steps place ∙ so.steps);
           rests = cut_none;
         }
 
     -- with a stop: it is down, and shows nothing
-    pub made_stop : (calls : (most : ℕ) × CallsAtMost g most node.store.disk failed ((Halted ≡ Halted) × (node.store.failed ≡ false))) → IsStopped (g.stop failed)
-        → StepMade g script_db c before k trigger H (end_marks k ended.Stops) (up_site clock node) (record { clock = clock; server = Down later }) []
+    pub made_stop : (calls : (most : ℕ) × CallsAtMost g most node.store.disk failed ((Halted ≡ Halted) × (node.store.failed ≡ false)))
+        → IsStopped (g.stop failed)
+        → StepMade g script_db c before k trigger H (end_marks k ended.Stops) (up_site clock node)
+        (record { clock = clock; server = Down later }) []
     made_stop calls stopped =
         let happened_so = stop_happens script_db.database c.run.world trigger k e site o there unheard s made (stood ∙ is_up_here) in
         let advanced = calls.1.advances in
@@ -374,8 +400,10 @@ module _ {D V : Type 0} (g : Ghosts D) (script_db : ScriptDatabase) (given : Lis
         let stop_is : g.stop failed ≡ after_changes so.rise (g.stop node.store.disk) = advanced.stop
         ∙ ap (λ (m : ℕ). after_changes m (g.stop node.store.disk)) rise_is in
         let whole = whole_before s.version u.calls (armed_at c.armed k) (g.stop node.store.disk) fails.whole so.rise (stops s is_up_here)
-        (runs_still g node s failed later u.calls (files s is_up_here) (labels s is_up_here unheard) fails) (subst IsStopped stop_is stopped)
-        (rise_most g node s failed later u.calls (files s is_up_here) (labels s is_up_here unheard) fails so.rise (sym revived.steps ∙ so.steps)) in
+        (runs_still g node s failed later u.calls (files s is_up_here) (labels s is_up_here unheard) fails)
+        (subst IsStopped stop_is stopped)
+        (rise_most g node s failed later u.calls (files s is_up_here) (labels s is_up_here unheard) fails so.rise
+        (sym revived.steps ∙ so.steps)) in
         record {
           ev = Stop trigger unheard made;
           h = stop_up k site s.version u made;
@@ -391,7 +419,8 @@ module _ {D V : Type 0} (g : Ghosts D) (script_db : ScriptDatabase) (given : Lis
           sends = All-nil _;
           stood = record { clock = clocks; node = refl };
           marked = refl;
-          arms = armed_set g before.sites.items c.armed k (record { clock = clock; server = Down later }) None stands.armed (refl, revived.unarmed);
+          arms = armed_set g before.sites.items c.armed k (record { clock = clock; server = Down later }) None stands.armed
+              (refl, revived.unarmed);
           reads = reads_so;
           rises = (so.rise, cut_so, so.steps);
           rests = cut_none;

@@ -41,7 +41,8 @@ same_or_not : (i k : ℕ) → (i ≡ k) ⊎ (i ≢ k)
 same_or_not zero zero = inl refl
 same_or_not zero (suc k) = inr (λ is. absurd (omega (arith, is)))
 same_or_not (suc i) zero = inr (λ is. absurd (omega (arith, is)))
-same_or_not (suc i) (suc k) = elim (same_or_not i k) [ inl is ↦ inl (omega (arith, is)) | inr other ↦ inr (λ is. other (omega (arith, is))) ]
+same_or_not (suc i) (suc k) =
+    elim (same_or_not i k) [ inl is ↦ inl (omega (arith, is)) | inr other ↦ inr (λ is. other (omega (arith, is))) ]
 
 length_set : (xs : List ℕ) (k x : ℕ) → length (set xs k x) ≡ length xs
 length_set [] k x = refl
@@ -117,7 +118,8 @@ both true true is is' = refl
 both true false is is' = is'
 both false b is is' = is
 
-pub moments_make : (clocks : List ℕ) → ((k : ℕ) → k < length clocks → (0 < get_or clocks k 0) × (get_or clocks k 0 ≤ MAX_MOMENT)) → are_moments clocks ≡ true
+pub moments_make : (clocks : List ℕ) → ((k : ℕ) → k < length clocks → (0 < get_or clocks k 0) × (get_or clocks k 0 ≤ MAX_MOMENT))
+    → are_moments clocks ≡ true
 moments_make clocks all =
     list_all-from_AllPass (λ (a : ℕ). nat_lt 0 a && nat_le a MAX_MOMENT) clocks (λ k d lt.
     let n = all k lt in

@@ -41,7 +41,8 @@ by_halted : (halted : Bool) (u : model.Server) (h : model.HaltedServer) → node
 by_halted true u h is = refl
 by_halted false u h is = cc
 
-pub is_up : {D V : Type 0} {g : Ghosts D} (n : Node D V g) (s : model.Server) → node_of n ≡ model.Up s → (n.store.failed ≡ false) × (up_server n ≡ s)
+pub is_up : {D V : Type 0} {g : Ghosts D} (n : Node D V g) (s : model.Server) → node_of n ≡ model.Up s → (n.store.failed ≡ false)
+    × (up_server n ≡ s)
 is_up n s is = by_up n.store.failed (up_server n) s is
 
 pub is_halted : {D V : Type 0} {g : Ghosts D} (n : Node D V g) (h : model.HaltedServer) → node_of n ≡ model.Halted h → n.store.failed ≡ true
@@ -70,14 +71,16 @@ sound_read {D} g old new sound reads =
     let only = of_some (g.files old) there.0 (λ fs. Only fs (g.may_leave old)) there.1 sound.settled in
     record {
       told = subst IsSome (sym same) sound.told;
-      settled = make_if (g.files new) there.0 (λ fs. Only fs (g.may_leave new)) (same ∙ there.1) (λ c left. only c (reads.crash.no_more c left));
+      settled =
+          make_if (g.files new) there.0 (λ fs. Only fs (g.may_leave new)) (same ∙ there.1) (λ c left. only c (reads.crash.no_more c left));
       plain = make_if (g.files new) there.0 IsPlain (same ∙ there.1) (of_some (g.files old) there.0 IsPlain there.1 sound.plain);
     }
 
 -- ---- a step
 
 -- where a step was made the server was up, and is
-pub made_up : {D : Type 0} (g : Ghosts D) (db : Database) (m : Member) (e : NodeEvent) (now : ℕ) (x after : model.Node) (out : List Output) (old new : D)
+pub made_up : {D : Type 0} (g : Ghosts D) (db : Database) (m : Member) (e : NodeEvent) (now : ℕ) (x after : model.Node)
+    (out : List Output) (old new : D)
     → Steps g db m Done e now x after out old new → ((s : model.Server) × (x ≡ model.Up s)) × ((t : model.Server) × (after ≡ model.Up t))
 made_up g db m e now model.Down after out old new steps = absurd steps
 made_up g db m e now (model.Halted h) after out old new steps = absurd steps
@@ -87,14 +90,17 @@ made_up g db m e now (model.Up s) after out old new (short, makes) = ((s, refl),
 abbrev pub Leaves : {D : Type 0} → Ghosts D → (old new : D) → Type 0
 Leaves g old new = (d : Durable) × (calls : List Made) × TakenCutNoPut calls × LeavesWithin g d old new calls
 
-pub made_leaves : {D : Type 0} (g : Ghosts D) (db : Database) (m : Member) (e : NodeEvent) (now : ℕ) (x after : model.Node) (out : List Output)
+pub made_leaves : {D : Type 0} (g : Ghosts D) (db : Database) (m : Member) (e : NodeEvent) (now : ℕ) (x after : model.Node)
+    (out : List Output)
     (old new : D) → CutsNone db m e now x → Steps g db m Done e now x after out old new → Leaves g old new
 made_leaves g db m e now model.Down after out old new cuts steps = absurd steps
 made_leaves g db m e now (model.Halted h) after out old new cuts steps = absurd steps
 made_leaves g db m e now (model.Up s) after out old new cuts (short, makes) = (_, _, cuts s refl short, makes.disk.leaves)
 
-pub halted_leaves : {D V : Type 0} (g : Ghosts D) (db : Database) (m : Member) (e : NodeEvent) (now : ℕ) (node : Node D V g) (after : model.Node)
-    (out : List Output) (old new : D) → node.store.failed ≡ false → CutsNone db m e now (node_of node) → Steps g db m Halted e now (node_of node) after out old new
+pub halted_leaves : {D V : Type 0} (g : Ghosts D) (db : Database) (m : Member) (e : NodeEvent) (now : ℕ) (node : Node D V g)
+    (after : model.Node)
+    (out : List Output) (old new : D) → node.store.failed ≡ false → CutsNone db m e now (node_of node)
+    → Steps g db m Halted e now (node_of node) after out old new
     → Leaves g old new
 halted_leaves g db m e now node after out old new up cuts steps =
     let s = up_server node in
@@ -103,7 +109,8 @@ halted_leaves g db m e now node after out old new up cuts steps =
     (_, _, cuts s is so.2, so.3.leaves)
 
 -- a step that ended so leaves the server halted
-pub halts : {D V : Type 0} (g : Ghosts D) (db : Database) (m : Member) (e : NodeEvent) (now : ℕ) (x : model.Node) (later : Node D V g) (out : List Output)
+pub halts : {D V : Type 0} (g : Ghosts D) (db : Database) (m : Member) (e : NodeEvent) (now : ℕ) (x : model.Node) (later : Node D V g)
+    (out : List Output)
     (old new : D) → Steps g db m Halted e now x (node_of later) out old new → later.store.failed ≡ true
 halts g db m e now model.Down later out old new steps = absurd steps
 halts g db m e now (model.Halted h) later out old new steps = is_halted later h steps.0
@@ -115,14 +122,16 @@ pub record IsShortStep {D : Type 0} (g : Ghosts D) (x after : model.Node) (out :
   pub quiet : out ≡ []
   pub reads : OnlyReads g old new ⊥
 
-pub short_step : {D : Type 0} (g : Ghosts D) (db : Database) (m : Member) (e : NodeEvent) (now : ℕ) (x after : model.Node) (out : List Output) (old new : D)
+pub short_step : {D : Type 0} (g : Ghosts D) (db : Database) (m : Member) (e : NodeEvent) (now : ℕ) (x after : model.Node)
+    (out : List Output) (old new : D)
     → Steps g db m NoMemory e now x after out old new → IsShortStep g x after out old new
 short_step g db m e now model.Down after out old new steps = absurd steps
 short_step g db m e now (model.Halted h) after out old new steps = absurd steps
 short_step g db m e now (model.Up s) after out old new (same, quiet, reads) = record { same = same; quiet = quiet; reads = reads }
 
 -- a halted server leaves its disk alone
-pub halted_rests : {D V : Type 0} (g : Ghosts D) (db : Database) (m : Member) (e : NodeEvent) (now : ℕ) (node : Node D V g) (after : model.Node)
+pub halted_rests : {D V : Type 0} (g : Ghosts D) (db : Database) (m : Member) (e : NodeEvent) (now : ℕ) (node : Node D V g)
+    (after : model.Node)
     (out : List Output) (old new : D) → node.store.failed ≡ true → Steps g db m Halted e now (node_of node) after out old new → new ≡ old
 halted_rests g db m e now node after out old new halted steps =
     let h = model.halted_from (up_server node) in
@@ -130,7 +139,8 @@ halted_rests g db m e now node after out old new halted steps =
     (subst (λ (x : model.Node). Steps g db m Halted e now x after out old new) is steps).2
 
 -- what is left of a plain file is plain
-pub plain_left : {D : Type 0} (g : Ghosts D) (old new : D) → IsSoundDisk g old → Leaves g old new → (fs : Files) → g.may_leave new fs → IsPlain fs
+pub plain_left : {D : Type 0} (g : Ghosts D) (old new : D) → IsSoundDisk g old → Leaves g old new → (fs : Files) → g.may_leave new fs
+    → IsPlain fs
 plain_left {D} g old new sound (d, calls, cuts, leaves) fs left =
     let there = some_of (g.files old) sound.told in
     left_plain g d old new calls there.0 fs there.1 (of_some (g.files old) there.0 IsPlain there.1 sound.plain) cuts leaves left
@@ -142,7 +152,8 @@ module _ {D V : Type 0} (g : Ghosts D) (db : Database) (m : Member) (clock : ℕ
   lasts Halted last within = omega arith
   lasts NoMemory last within = within
 
-  sound_later : (later : Node D V g) (end : StepEnd) → own_member later ≡ own_member node → later.last ≡ last_after end node.last clock → IsSoundNode g m clock later
+  sound_later : (later : Node D V g) (end : StepEnd) → own_member later ≡ own_member node → later.last ≡ last_after end node.last clock
+      → IsSoundNode g m clock later
   sound_later later end member last =
       record {
         last = let within = lasts end node.last sound.last in omega (arith, within, last);
@@ -151,7 +162,8 @@ module _ {D V : Type 0} (g : Ghosts D) (db : Database) (m : Member) (clock : ℕ
 
   -- it was made
   pub done_now : (later : Node D V g) → Steps g db m Done e clock (node_of node) (node_of later) out node.store.disk later.store.disk
-      → own_member later ≡ own_member node → (IsSome (g.files node.store.disk) → IsSome (g.files later.store.disk)) → Calls g node later Done
+      → own_member later ≡ own_member node → (IsSome (g.files node.store.disk) → IsSome (g.files later.store.disk))
+      → Calls g node later Done
       → later.last ≡ last_after Done node.last clock
       → NodeStepped g db m clock e ended.Made node later out
   done_now later steps member others calls last =
@@ -159,7 +171,8 @@ module _ {D V : Type 0} (g : Ghosts D) (db : Database) (m : Member) (clock : ℕ
       let up = (is_up later made.1.0 made.1.1).0 in
       let there = some_of (g.files later.store.disk) (others disk.told) in
       let left =
-      plain_left g node.store.disk later.store.disk disk (made_leaves g db m e clock (node_of node) (node_of later) out node.store.disk later.store.disk cuts steps)
+      plain_left g node.store.disk later.store.disk disk
+      (made_leaves g db m e clock (node_of node) (node_of later) out node.store.disk later.store.disk cuts steps)
       there.0
       (g.may_be_read later.store.disk there.0 there.1) in
       record {
@@ -178,7 +191,8 @@ module _ {D V : Type 0} (g : Ghosts D) (db : Database) (m : Member) (clock : ℕ
       }
 
   -- it was halted before
-  pub rested_now : (later : Node D V g) → node.store.failed ≡ true → Steps g db m Halted e clock (node_of node) (node_of later) out node.store.disk later.store.disk
+  pub rested_now : (later : Node D V g) → node.store.failed ≡ true
+      → Steps g db m Halted e clock (node_of node) (node_of later) out node.store.disk later.store.disk
       → own_member later ≡ own_member node → Calls g node later Halted → later.last ≡ last_after Halted node.last clock
       → NodeStepped g db m clock e ended.Made node later out
   rested_now later halted steps member calls last =
@@ -189,7 +203,8 @@ module _ {D V : Type 0} (g : Ghosts D) (db : Database) (m : Member) (clock : ℕ
         calls = calls;
         sound = record {
           node = sound_later later Halted member last;
-          disk = subst (IsSoundDisk g) (sym (halted_rests g db m e clock node (node_of later) out node.store.disk later.store.disk halted steps)) disk;
+          disk = subst (IsSoundDisk g)
+              (sym (halted_rests g db m e clock node (node_of later) out node.store.disk later.store.disk halted steps)) disk;
         };
       }
 
@@ -208,7 +223,8 @@ module _ {D V : Type 0} (g : Ghosts D) (db : Database) (m : Member) (clock : ℕ
       }
 
   -- its disk stopped
-  pub stopped_now : (later : Node D V g) → node.store.failed ≡ false → Steps g db m Halted e clock (node_of node) (node_of later) out node.store.disk later.store.disk
+  pub stopped_now : (later : Node D V g) → node.store.failed ≡ false
+      → Steps g db m Halted e clock (node_of node) (node_of later) out node.store.disk later.store.disk
       → Calls g node later Halted → IsStopped (g.stop later.store.disk)
       → NodeStepped g db m clock e ended.Stops node later out
   stopped_now later up steps calls stopped =
@@ -223,26 +239,31 @@ module _ {D V : Type 0} (g : Ghosts D) (db : Database) (m : Member) (clock : ℕ
       }
 
   -- its disk failed, and the files were opened anew
-  pub halted_now : (mid later : Node D V g) → node.store.failed ≡ false → Steps g db m Halted e clock (node_of node) (node_of mid) out node.store.disk mid.store.disk
+  pub halted_now : (mid later : Node D V g) → node.store.failed ≡ false
+      → Steps g db m Halted e clock (node_of node) (node_of mid) out node.store.disk mid.store.disk
       → Calls g node mid Halted → (IsStopped (g.stop mid.store.disk) → ⊥)
-      → IsRevived g mid.store.disk later.store.disk → (later.state ≡ mid.state) × (later.store.failed ≡ mid.store.failed) × (later.last ≡ mid.last)
+      → IsRevived g mid.store.disk later.store.disk → (later.state ≡ mid.state) × (later.store.failed ≡ mid.store.failed)
+      × (later.last ≡ mid.last)
       → own_member mid ≡ own_member node → mid.last ≡ last_after Halted node.last clock
       → NodeStepped g db m clock e ended.Halts node later out
   halted_now mid later up steps calls runs revived same member last =
       let node_same : node_of later ≡ node_of mid =
       ap (λ (h : Bool). if h then model.Halted (model.halted_from (up_server later)) else model.Up (up_server later)) same.1
-      ∙ ap (λ (u : model.Server). if mid.store.failed then model.Halted (model.halted_from u) else model.Up u) (ap (λ (st : State). server_of st) same.0) in
+      ∙ ap (λ (u : model.Server). if mid.store.failed then model.Halted (model.halted_from u) else model.Up u)
+      (ap (λ (st : State). server_of st) same.0) in
       record {
         failed = mid.store.disk;
         was = up;
-        steps = subst (λ (x : model.Node). Steps g db m Halted e clock (node_of node) x out node.store.disk mid.store.disk) (sym node_same) steps;
+        steps = subst (λ (x : model.Node). Steps g db m Halted e clock (node_of node) x out node.store.disk mid.store.disk)
+            (sym node_same) steps;
         running = runs;
         fault = calls.1.cause.rose (refl, up);
         revived = revived;
         sound = record {
           node = sound_later later Halted (ap (λ (st : State). member_of st) same.0 ∙ member) (same.2 ∙ last);
           disk = sound_revived g mid.store.disk later.store.disk revived (calls.1.tells ∙ g.tells_now node.store.disk disk.told)
-              (plain_left g node.store.disk mid.store.disk disk (halted_leaves g db m e clock node (node_of mid) out node.store.disk mid.store.disk up cuts
+              (plain_left g node.store.disk mid.store.disk disk
+              (halted_leaves g db m e clock node (node_of mid) out node.store.disk mid.store.disk up cuts
               steps));
         };
       }

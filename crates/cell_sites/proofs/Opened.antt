@@ -56,7 +56,8 @@ length_snoc [] x = refl
 length_snoc (y ∷ xs) x = let rest = length_snoc xs x in omega (arith, rest)
 
 -- as many servers were opened as it was told of
-pub opened_length : {D V : Type 0} {g : Ghosts D} (sites : List (Site D V g)) (n clock : ℕ) (failed : List Bool) → AreSitesOf sites (map (first_site n clock) failed)
+pub opened_length : {D V : Type 0} {g : Ghosts D} (sites : List (Site D V g)) (n clock : ℕ) (failed : List Bool)
+    → AreSitesOf sites (map (first_site n clock) failed)
     → length sites ≡ length failed
 opened_length sites n clock failed are =
     sym (sites_length sites (map (first_site n clock) failed) are) ∙ length-map failed (first_site n clock)
@@ -97,7 +98,8 @@ pub record OneOpened {D V : Type 0} (g : Ghosts D) (db : ScriptDatabase) (hosts 
   pub told : text_after ≡ text_before ++ trace db hosts (map Tells (first_seen me (fails ∷ [])))
 
 -- the calls of an opening over empty files
-first_calls : {D : Type 0} (g : Ghosts D) (failed : Bool) (disk after : D) → g.files disk ≡ Some no_files → (o : OpensDisk g failed disk after)
+first_calls : {D : Type 0} (g : Ghosts D) (failed : Bool) (disk after : D) → g.files disk ≡ Some no_files
+    → (o : OpensDisk g failed disk after)
     → OpensFirst failed o.rise
 first_calls g failed disk after empty o =
     let same : Some o.files ≡ Some no_files = sym o.there ∙ empty in
@@ -113,7 +115,8 @@ down_is : {D V : Type 0} (g : Ghosts D) (hosts : List Host) (me clock : ℕ) (s 
 down_is g hosts me clock (server.Down disk) is = tt
 down_is g hosts me clock (server.Up n) is = absurd (never_down n.store.failed (model.halted_from (up_server n)) (up_server n) is)
 
-module _ {D V : Type 0} (g : Ghosts D) (db : ScriptDatabase) (hosts : List Host) (me clock : ℕ) (disk : D) (s : Server D V g) (text_before text_after : List ℕ)
+module _ {D V : Type 0} (g : Ghosts D) (db : ScriptDatabase) (hosts : List Host) (me clock : ℕ) (disk : D) (s : Server D V g)
+    (text_before text_after : List ℕ)
     (empty : g.files disk ≡ Some no_files) (unarmed : g.stop disk ≡ Unarmed) where
   pub one_opened : (end : OpenEnd) → ServerOpens g (record { hosts = hosts; me = me }) clock no_database end disk s
       → end ≢ opened.NoMemory
@@ -158,7 +161,12 @@ one_emptied g hosts me clock disk s end empty one = record {
   never_falls = one.never_falls;
   empty = one.stands;
   settled = one.sound.settled;
-  few = (one.calls.rise, rises_short (is_cut_short end) one.calls.rise (first_calls g (is_cut_short end) disk (server_disk s) empty one.calls), one.calls.is);
+  few = (
+    one.calls.rise,
+    rises_short (is_cut_short end) one.calls.rise
+        (first_calls g (is_cut_short end) disk (server_disk s) empty one.calls),
+    one.calls.is,
+  );
 }
 
 -- ---- one more
@@ -170,7 +178,8 @@ read_push [] (x ∷ disks) s disk are is = absurd are
 read_push (t ∷ ss) [] s disk are is = absurd are
 read_push (t ∷ ss) (x ∷ disks) s disk are is = (are.0, read_push ss disks s disk are.1 is)
 
-counts_push : (failed : List Bool) (given : List ℕ) (disks : List Held) (fails : Bool) (before : ℕ) (disk : Held) → AreFirstCounts failed given disks
+counts_push : (failed : List Bool) (given : List ℕ) (disks : List Held) (fails : Bool) (before : ℕ) (disk : Held)
+    → AreFirstCounts failed given disks
     → (opening : ℕ) × OpensFirst fails opening × (disk.steps ≡ before + opening)
     → AreFirstCounts (failed ++ fails ∷ []) (given ++ before ∷ []) (disks ++ disk ∷ [])
 counts_push [] [] [] fails before disk are is = (is, tt)
@@ -178,16 +187,20 @@ counts_push [] [] (x ∷ disks) fails before disk are is = absurd are
 counts_push [] (b ∷ given) disks fails before disk are is = absurd are
 counts_push (f ∷ failed) [] disks fails before disk are is = absurd are
 counts_push (f ∷ failed) (b ∷ given) [] fails before disk are is = absurd are
-counts_push (f ∷ failed) (b ∷ given) (x ∷ disks) fails before disk are is = (are.0, counts_push failed given disks fails before disk are.1 is)
+counts_push (f ∷ failed) (b ∷ given) (x ∷ disks) fails before disk are is =
+    (are.0, counts_push failed given disks fails before disk are.1 is)
 
-unarmed_push : {D V : Type 0} (g : Ghosts D) (sites : List (Site D V g)) (site : Site D V g) → AreUnarmed g sites → g.stop (site_disk site) ≡ Unarmed
+unarmed_push : {D V : Type 0} (g : Ghosts D) (sites : List (Site D V g)) (site : Site D V g) → AreUnarmed g sites
+    → g.stop (site_disk site) ≡ Unarmed
     → AreUnarmed g (sites ++ site ∷ [])
 unarmed_push g [] site are is = (is, tt)
 unarmed_push g (x ∷ sites) site are is = (are.0, unarmed_push g sites site are.1 is)
 
 pub next_opened : {D V : Type 0} (g : Ghosts D) (db : ScriptDatabase) (clock : ℕ) (given : List D) (running : OpenCell D V g)
-    (before told after : List ℕ) (disk : D) (s : Server D V g) (sites : Vec (Site D V g) Global) → IsMoment clock → sites.items ≡ running.sites.items ++ record
-    { clock = clock; server = s } ∷ [] → OneOpened g db running.hosts.items (length running.sites.items) clock disk s told after → ArePartOpened g
+    (before told after : List ℕ) (disk : D) (s : Server D V g) (sites : Vec (Site D V g) Global) → IsMoment clock
+    → sites.items ≡ running.sites.items ++ record
+    { clock = clock; server = s } ∷ [] → OneOpened g db running.hosts.items (length running.sites.items) clock disk s told after
+    → ArePartOpened g
     db clock given running before told → ArePartOpened g db clock (given ++ disk ∷ []) (record running { sites = sites }) before after
 next_opened {D} {V} g db clock given running before told after disk s sites moment pushed one p =
     let items = running.sites.items in
@@ -199,7 +212,8 @@ next_opened {D} {V} g db clock given running before told after disk s sites mome
     let hosts = running.hosts.items in
     let more = map Tells (first_seen (length failed) (one.fails ∷ [])) in
     let now : helds g running ++ held g (server_disk s) ∷ [] ≡ helds g (record running { sites = sites }) =
-    sym (ap (map (λ (x : Site D V g). held g (site_disk x))) pushed ∙ map-append (λ (x : Site D V g). held g (site_disk x)) items (site ∷ [])) in
+    sym (ap (map (λ (x : Site D V g). held g (site_disk x))) pushed
+    ∙ map-append (λ (x : Site D V g). held g (site_disk x)) items (site ∷ [])) in
     record {
       failed = failed ++ one.fails ∷ [];
       each = let x = length_snoc failed one.fails in let y = length_snoc given disk in omega (arith, x, y, each);
@@ -226,7 +240,8 @@ next_opened {D} {V} g db clock given running before told after disk s sites mome
           (rises_more failed one.fails (all_held g given) (helds g running) (held g disk) (held g (server_disk s))
           (each ∙ sym (length-map given (held g))) p.causes one.cause));
       read = subst (λ (l : List Held). AreReadBy (map first (failed ++ one.fails ∷ [])) l) now
-          (subst (λ (l : List ModelSite). AreReadBy l (helds g running ++ held g (server_disk s) ∷ [])) (sym (map-append first failed (one.fails ∷ [])))
+          (subst (λ (l : List ModelSite). AreReadBy l (helds g running ++ held g (server_disk s) ∷ []))
+          (sym (map-append first failed (one.fails ∷ [])))
           (read_push (map first failed) (helds g running) (first one.fails) (held g (server_disk s)) p.read one.stands));
       counts = subst (λ (l : List Held). AreFirstCounts (failed ++ one.fails ∷ []) (counts_of g (given ++ disk ∷ [])) l) now
           (subst (λ (l : List ℕ). AreFirstCounts (failed ++ one.fails ∷ []) l (helds g running ++ held g (server_disk s) ∷ []))
@@ -237,7 +252,8 @@ next_opened {D} {V} g db clock given running before told after disk s sites mome
       blocks = p.blocks;
     }
 
-pub next_added : {D V : Type 0} (g : Ghosts D) (clock : ℕ) (running : OpenCell D V g) (disk : D) (s : Server D V g) (sites : Vec (Site D V g) Global)
+pub next_added : {D V : Type 0} (g : Ghosts D) (clock : ℕ) (running : OpenCell D V g) (disk : D) (s : Server D V g)
+    (sites : Vec (Site D V g) Global)
     → sites.items ≡ running.sites.items ++ record { clock = clock; server = s } ∷ [] → IsEmptied g disk (server_disk s)
     → IsAdded g disk running (record running { sites = sites })
 next_added {D} {V} g clock running disk s sites pushed kept =
@@ -250,7 +266,8 @@ next_added {D} {V} g clock running disk s sites pushed kept =
 
 -- the same where hosts and place are those that were handed over, and the call did not fail
 pub next_opened_at : {D V T E : Type 0} (r : Result T E) (g : Ghosts D) (db : ScriptDatabase) (clock : ℕ) (running : OpenCell D V g)
-    (told after : List ℕ) (disk : D) (s : Server D V g) (end : OpenEnd) (sites : Vec (Site D V g) Global) (hosts : List Host) (me : ℕ) → hosts ≡ running.hosts.items
+    (told after : List ℕ) (disk : D) (s : Server D V g) (end : OpenEnd) (sites : Vec (Site D V g) Global) (hosts : List Host) (me : ℕ)
+    → hosts ≡ running.hosts.items
     → me ≡ length running.sites.items → IsMoment clock → sites.items ≡ running.sites.items ++ record { clock = clock; server = s } ∷ []
     → g.files disk ≡ Some no_files → g.stop disk ≡ Unarmed → ServerOpens g (record { hosts = hosts; me = me }) clock no_database end disk s
     → OnOk r ((end ≢ opened.NoMemory) × (after ≡ told ++ marks_text (opened_marks me end)))
@@ -271,11 +288,13 @@ first_version = record { epoch = omega arith; counter = omega arith }
 
 -- a server that was just opened takes writes, where it does not stay down
 module _ {D V : Type 0} {g : Ghosts D} (db : Database) (hosts : List Host) (calls : List (List ℕ)) (law : WritesSpread) (clock : ℕ) where
-  one_keeps : (failed : Bool) (site : Site D V g) → IsSiteOf site (first_site (length hosts) clock failed) → KeepsServer db hosts calls site.server
+  one_keeps : (failed : Bool) (site : Site D V g) → IsSiteOf site (first_site (length hosts) clock failed)
+      → KeepsServer db hosts calls site.server
   one_keeps true site is = closed_keeps db hosts calls site.server (sym is.node)
   one_keeps false site is = opened_keeps db hosts calls law no_database clock first_version site.server (sym is.node)
 
-  first_keeps : (sites : List (Site D V g)) (failed : List Bool) (j : ℕ) (site : Site D V g) → AreSitesOf sites (map (first_site (length hosts) clock) failed)
+  first_keeps : (sites : List (Site D V g)) (failed : List Bool) (j : ℕ) (site : Site D V g)
+      → AreSitesOf sites (map (first_site (length hosts) clock) failed)
       → slice_get sites j ≡ Some site → KeepsServer db hosts calls site.server
   first_keeps [] failed j site are there = cc
   first_keeps (x ∷ sites) [] j site are there = absurd are
@@ -295,12 +314,14 @@ armed_none model.Down stop is = (refl, is)
 armed_none (model.Halted h) stop is = tt
 armed_none (model.Up s) stop is = is
 
-all_unarmed : {D V : Type 0} (g : Ghosts D) (sites : List (Site D V g)) → AreUnarmed g sites → AreArmed g sites (replicate (length sites) None)
+all_unarmed : {D V : Type 0} (g : Ghosts D) (sites : List (Site D V g)) → AreUnarmed g sites
+    → AreArmed g sites (replicate (length sites) None)
 all_unarmed g [] are = tt
 all_unarmed g (site ∷ sites) are = (armed_none (server_node site.server) (g.stop (site_disk site)) are.0, all_unarmed g sites are.1)
 
 -- no event was yet
-first_counts : (db : Database) (c : Cell) (k : ℕ) (failed : List Bool) (given : List ℕ) (disks : List Held) → c.events ≡ [] → AreFirstCounts failed given disks
+first_counts : (db : Database) (c : Cell) (k : ℕ) (failed : List Bool) (given : List ℕ) (disks : List Held) → c.events ≡ []
+    → AreFirstCounts failed given disks
     → AreCountsFrom db c false k failed given disks
 first_counts db c k [] [] [] none are = tt
 first_counts db c k [] [] (x ∷ disks) none are = absurd are
@@ -335,7 +356,8 @@ all_opened {D} {V} g db clock k given running before after law spreads moment ro
     let count : length items ≡ length hosts = opened_length items (length hosts) clock failed p.sites ∙ p.each ∙ same in
     let some = room.some in
     let few = room.few in
-    let near : are_near (clocks_of ss) ≡ true = near_make (clocks_of ss) (near_same (clocks_of ss) clock (first_clock (length hosts) clock failed)) in
+    let near : are_near (clocks_of ss) ≡ true = near_make (clocks_of ss)
+    (near_same (clocks_of ss) clock (first_clock (length hosts) clock failed)) in
     let opened_so : IsModelledBy g db.database (counts_of g given) running (opened_cell n clock k failed) = record {
       hosts = ap hosts_of same ∙ sym room.hosts;
       sites = subst (λ (m : ℕ). AreSitesOf items (map (first_site m clock) failed)) (sym size) p.sites;
@@ -351,7 +373,8 @@ all_opened {D} {V} g db clock k given running before after law spreads moment ro
     record {
       choices = choices;
       heard = heard failed;
-      stands = subst (λ (f : List Bool). IsModelledBy g db.database (counts_of g given) running (opened_cell n clock k f)) (sym is) opened_so;
+      stands =
+          subst (λ (f : List Bool). IsModelledBy g db.database (counts_of g given) running (opened_cell n clock k f)) (sym is) opened_so;
       sound = record {
         steady = record {
           some = omega (arith, some, count);

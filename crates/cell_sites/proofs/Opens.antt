@@ -42,18 +42,22 @@ use Rattle.cell_sites.specs.declared.sites.Server.TheVariants as server
 use Rattle.cell_sites.specs.Sound.{IsSoundDisk}
 
 -- files at rest stand for their version and their image
-rested : (fs : Files) (v : Version) (image : List ℕ) → IsAtRest v (image_of fs.database) fs → image_of fs.database ≡ image → StandsAs (durable v image) fs
+rested : (fs : Files) (v : Version) (image : List ℕ) → IsAtRest v (image_of fs.database) fs → image_of fs.database ≡ image
+    → StandsAs (durable v image) fs
 rested fs v image rests same =
     subst (λ (xs : List ℕ). StandsFor fs v xs) same (at_rest_stands fs v (image_of fs.database) rests)
 
-rested_all : (files : Option Files) (v w : Version) (image : List ℕ) → v ≡ w → IsSome files → IfSome files (λ fs. IsAtRest v (image_of fs.database) fs)
+rested_all : (files : Option Files) (v w : Version) (image : List ℕ) → v ≡ w → IsSome files
+    → IfSome files (λ fs. IsAtRest v (image_of fs.database) fs)
     → IfSome (image_in files) (λ xs. xs ≡ image)
     → IsSomeAnd files (StandsAs (durable w image))
 rested_all None v w image same some rests is = absurd (false≢true some)
-rested_all (Some fs) v w image same some rests is = rested fs w image (subst (λ (x : Version). IsAtRest x (image_of fs.database) fs) same rests) is
+rested_all (Some fs) v w image same some rests is =
+    rested fs w image (subst (λ (x : Version). IsAtRest x (image_of fs.database) fs) same rests) is
 
 -- files that stand for something are opened in some number of calls
-ends_by_label : (fs : Files) → IsDiscarded fs.log → (begun : Bool) → bytes_eq (take 4 fs.log) new_record ≡ begun → (calls : ℕ) × EndsLogIn fs calls
+ends_by_label : (fs : Files) → IsDiscarded fs.log → (begun : Bool) → bytes_eq (take 4 fs.log) new_record ≡ begun → (calls : ℕ)
+    × EndsLogIn fs calls
 ends_by_label fs discarded true is = (4, closes fs discarded ((bytes_eq-Decides (take 4 fs.log) new_record).0 is))
 ends_by_label fs discarded false is =
     (2, cuts fs discarded (λ same. false≢true (sym is ∙ (bytes_eq-Decides (take 4 fs.log) new_record).1 same)))
@@ -121,7 +125,8 @@ module _ {D : Type 0} (g : Ghosts D) (disk new : D) (F : Type 0) (d : Durable) (
 
   pub leaves_plain : Narrows IsPlain (g.may_leave new)
   leaves_plain =
-      narrowed g (of_told (g.files disk) before.fs (λ fs. IsPlain fs → LeavesOnly g.steps g.left_since disk new IsPlain) before.is opening.plain was_plain)
+      narrowed g (of_told (g.files disk) before.fs
+      (λ fs. IsPlain fs → LeavesOnly g.steps g.left_since disk new IsPlain) before.is opening.plain was_plain)
 
   pub opens : (calls : ℕ) × OpensIn before.fs calls
   opens = opens_in stood
@@ -130,7 +135,8 @@ module _ {D : Type 0} (g : Ghosts D) (disk new : D) (F : Type 0) (d : Durable) (
   pub opens_short : (after : D) → g.steps after ≡ g.steps new → OpensDisk g true disk after
   opens_short after same =
       let few : RisesAtMost opens.0 (g.steps disk) (g.steps new) =
-      of_told (g.files disk) before.fs (λ fs. (calls : ℕ) → OpensIn fs calls → RisesAtMost calls (g.steps disk) (g.steps new)) before.is opening.few opens.0
+      of_told (g.files disk) before.fs
+      (λ fs. (calls : ℕ) → OpensIn fs calls → RisesAtMost calls (g.steps disk) (g.steps new)) before.is opening.few opens.0
       opens.1 in
       let low = few.0 in
       let high = few.1 in
@@ -148,7 +154,8 @@ module _ {D : Type 0} (g : Ghosts D) (disk new : D) (F : Type 0) (d : Durable) (
 -- ---- a server that is up
 
 -- the server of a node that is not halted
-pub up_is : (halted : Bool) (s t : model.Server) → (if halted then model.Halted (model.halted_from s) else model.Up s) ≡ model.Up t → (halted ≡ false) × (s ≡ t)
+pub up_is : (halted : Bool) (s t : model.Server) → (if halted then model.Halted (model.halted_from s) else model.Up s) ≡ model.Up t
+    → (halted ≡ false) × (s ≡ t)
 up_is true s t is = let never : model.Halted (model.halted_from s) ≡ model.Up t = is in absurd cc
 up_is false s t is = (refl, cc)
 
@@ -176,9 +183,11 @@ plain_read g disk leaves = told (g.files disk) IsPlain (λ fs is. leaves fs (g.m
 
 module _ {D V : Type 0} (g : Ghosts D) (hosts cell : List Host) (me clock : ℕ) (disk : D) (n : Node D V g) (d e : Durable)
     (sound : IsSoundDisk g disk) (stands : IsSomeAnd (g.files disk) (StandsAs d)) (opening : IsOpening g disk n.store.disk ⊥)
-    (same : cell ≡ hosts) (up : node_of n ≡ model.Up (model.opened_server (length cell) e clock)) (read : IfSome (g.files disk) (StandsAs e))
+    (same : cell ≡ hosts) (up : node_of n ≡ model.Up (model.opened_server (length cell) e clock))
+    (read : IfSome (g.files disk) (StandsAs e))
     (mine : own_member n ≡ record { hosts = cell; me = me }) (kept : IsSome (g.files disk) → IsSome (g.files n.store.disk))
-    (steps : IfSome (g.files disk) (λ fs. (calls : ℕ) → OpensIn fs calls → g.steps n.store.disk ≡ g.steps disk + calls)) (last : n.last ≡ clock) where
+    (steps : IfSome (g.files disk) (λ fs. (calls : ℕ) → OpensIn fs calls → g.steps n.store.disk ≡ g.steps disk + calls))
+    (last : n.last ≡ clock) where
   abbrev pub m : Member
   m = record { hosts = hosts; me = me }
 
@@ -186,12 +195,17 @@ module _ {D V : Type 0} (g : Ghosts D) (hosts cell : List Host) (me clock : ℕ)
   there = before g disk n.store.disk ⊥ d sound stands opening
 
   is_d : e ≡ d
-  is_d = one_durable there.fs d e (stood g disk n.store.disk ⊥ d sound stands opening) (of_told (g.files disk) there.fs (StandsAs e) there.is read)
+  is_d =
+      one_durable there.fs d e (stood g disk n.store.disk ⊥ d sound stands opening)
+      (of_told (g.files disk) there.fs (StandsAs e) there.is read)
 
   server_up : (n.store.failed ≡ false) × (up_server n ≡ model.opened_server (length hosts) d clock)
   server_up =
-      let at = up_is n.store.failed (up_server n) (model.opened_server (length cell) e clock) up in
-      (at.0, at.1 ∙ ap (λ (l : List Host). model.opened_server (length l) e clock) same ∙ ap (λ (x : Durable). model.opened_server (length hosts) x clock) is_d)
+      let at = up_is n.store.failed (up_server n) (model.opened_server (length cell) e clock) up in (
+        at.0,
+        at.1 ∙ ap (λ (l : List Host). model.opened_server (length l) e clock) same
+            ∙ ap (λ (x : Durable). model.opened_server (length hosts) x clock) is_d,
+      )
 
   some : IsSome (g.files n.store.disk)
   some = kept (some_told (g.files disk) there.fs there.is)
@@ -219,7 +233,8 @@ module _ {D V : Type 0} (g : Ghosts D) (hosts cell : List Host) (me clock : ℕ)
           opens = o.1;
           rise = o.0;
           rises = refl;
-          is = of_told (g.files disk) there.fs (λ fs. (calls : ℕ) → OpensIn fs calls → g.steps n.store.disk ≡ g.steps disk + calls) there.is steps o.0 o.1;
+          is = of_told (g.files disk) there.fs
+              (λ fs. (calls : ℕ) → OpensIn fs calls → g.steps n.store.disk ≡ g.steps disk + calls) there.is steps o.0 o.1;
         };
     unarmed = unarmed_after (g.steps disk) (g.steps n.store.disk) (g.stop disk) (g.stop n.store.disk) opening.calls.advances;
     never_falls = opening.calls.cause.never_falls;
@@ -249,7 +264,8 @@ module _ {D : Type 0} (g : Ghosts D) (m : Member) (clock : ℕ) (disk refused re
     (sound : IsSoundDisk g disk) (stands : IsSomeAnd (g.files disk) (StandsAs d)) (opening : IsOpening g disk refused (why ≡ DiskFault))
     (refuses : IfSome (g.files disk) (λ fs. RefusesFiles fs why)) (unarmed : g.stop revived ≡ Unarmed)
     (left : IfSome (g.files revived) (λ fs. g.may_leave refused fs × Only fs (g.may_leave revived)))
-    (told_then : g.tells refused ≡ true → IsSome (g.files revived)) (steps : g.steps revived ≡ g.steps refused) (faults : g.faults revived ≡ g.faults refused)
+    (told_then : g.tells refused ≡ true → IsSome (g.files revived)) (steps : g.steps revived ≡ g.steps refused)
+    (faults : g.faults revived ≡ g.faults refused)
   where
     abbrev there_then : Told (g.files disk)
     there_then = before g disk refused (why ≡ DiskFault) d sound stands opening
@@ -271,7 +287,9 @@ module _ {D : Type 0} (g : Ghosts D) (m : Member) (clock : ℕ) (disk refused re
         plain = if_told (g.files revived) now_told.fs IsPlain now_told.is
             (leaves_plain g disk refused (why ≡ DiskFault) d sound stands opening now_told.fs now_left.0);
       };
-      calls = subst (λ (b : Bool). OpensDisk g b disk revived) (sym is_cut) (opens_short g disk refused (why ≡ DiskFault) d sound stands opening revived steps);
+      calls =
+          subst (λ (b : Bool). OpensDisk g b disk revived) (sym is_cut)
+          (opens_short g disk refused (why ≡ DiskFault) d sound stands opening revived steps);
       unarmed = λ was. unarmed;
       never_falls = let kept = opening.calls.cause.never_falls in omega (arith, kept, faults);
       is = is;

@@ -58,7 +58,8 @@ taken_cut [] puts = tt
 taken_cut (made ∷ calls) puts = (one_cut made.reason made.call puts.0, taken_cut calls puts.1)
 
 -- plain files stay plain
-pub left_plain : {D : Type 0} (g : Ghosts D) (d : Durable) (old new : D) (calls : List Made) (fs later : Files) → g.files old ≡ Some fs → IsPlain fs
+pub left_plain : {D : Type 0} (g : Ghosts D) (d : Durable) (old new : D) (calls : List Made) (fs later : Files) → g.files old ≡ Some fs
+    → IsPlain fs
     → TakenCutNoPut calls → LeavesWithin g d old new calls → g.may_leave new later → IsPlain later
 left_plain g d old new calls fs later is plain cuts leaves left =
     let run = of_some (g.files old) fs (λ fs. IsPlain fs → LeavesOnly g.steps g.left_since old new IsPlain) is (leaves.plain cuts) plain in

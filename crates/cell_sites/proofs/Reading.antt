@@ -20,10 +20,12 @@ read_at g (x ∷ ss) [] k s site read there placed = absurd read
 read_at {D} {V} g (x ∷ ss) (y ∷ sites) zero s site read there placed =
     let one : x ≡ s = cc in
     let other : y ≡ site = cc in
-    subst (λ (z : Site D V g). IsReadBy s (held g (site_disk z))) other (subst (λ (z : ModelSite). IsReadBy z (held g (site_disk y))) one read.0)
+    subst (λ (z : Site D V g). IsReadBy s (held g (site_disk z))) other
+    (subst (λ (z : ModelSite). IsReadBy z (held g (site_disk y))) one read.0)
 read_at g (x ∷ ss) (y ∷ sites) (suc k) s site read there placed = read_at g ss sites k s site read.1 there placed
 
 -- memory ran out before anything was done
-pub nothing_done : {D V : Type 0} (g : Ghosts D) (db : Database) (given : List ℕ) (running : OpenCell D V g) (c : Cell) → IsModelledBy g db given running c
+pub nothing_done : {D V : Type 0} (g : Ghosts D) (db : Database) (given : List ℕ) (running : OpenCell D V g) (c : Cell)
+    → IsModelledBy g db given running c
     → HoldRun db given true c (helds g running)
 nothing_done g db given running c stands = hold_short db c given (helds g running) stands.disks

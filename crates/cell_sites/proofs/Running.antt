@@ -55,7 +55,8 @@ module _ {D V : Type 0} (g : Ghosts D) where
       )
 
   -- a site that became another one moves its disk alone
-  pub moved_set : (R : ℕ → Held → Held → Type 0) (p k : ℕ) (sites : List (Site D V g)) (site later : Site D V g) → slice_get sites k ≡ Some site
+  pub moved_set : (R : ℕ → Held → Held → Type 0) (p k : ℕ) (sites : List (Site D V g)) (site later : Site D V g)
+      → slice_get sites k ≡ Some site
       → R (p + k) (held_at site) (held_at later) → ((j : ℕ) (x : Held) → j ≢ p + k → R j x x)
       → AreMoved R p (map held_at sites) (map held_at (set sites k later))
   moved_set R p k [] site later there one others = cc
@@ -77,7 +78,8 @@ module _ {D V : Type 0} (g : Ghosts D) where
             (λ j y other. others j y (λ e. other (e ∙ here))),
       )
 
-  pub reads_set : (ss : List ModelSite) (sites : List (Site D V g)) (k : ℕ) (s : ModelSite) (later : Site D V g) → AreReadBy ss (map held_at sites)
+  pub reads_set : (ss : List ModelSite) (sites : List (Site D V g)) (k : ℕ) (s : ModelSite) (later : Site D V g)
+      → AreReadBy ss (map held_at sites)
       → slice_get ss k ≡ Some s → IsReadBy s (held_at later) → AreReadBy ss (map held_at (set sites k later))
   reads_set [] sites k s later read there is = cc
   reads_set (x ∷ ss) [] k s later read there is = absurd read
@@ -85,7 +87,8 @@ module _ {D V : Type 0} (g : Ghosts D) where
       let same : s ≡ x = cc in (subst (λ (z : ModelSite). IsReadBy z (held_at later)) same is, read.1)
   reads_set (x ∷ ss) (y ∷ sites) (suc k) s later read there is = (read.0, reads_set ss sites k s later read.1 there is)
 
-  pub reads_both : (ss : List ModelSite) (sites : List (Site D V g)) (k : ℕ) (s : ModelSite) (later : Site D V g) → AreReadBy ss (map held_at sites)
+  pub reads_both : (ss : List ModelSite) (sites : List (Site D V g)) (k : ℕ) (s : ModelSite) (later : Site D V g)
+      → AreReadBy ss (map held_at sites)
       → IsReadBy s (held_at later) → AreReadBy (set ss k s) (map held_at (set sites k later))
   reads_both [] [] k s later read is = tt
   reads_both [] (y ∷ sites) k s later read is = absurd read
@@ -102,10 +105,12 @@ whole_choices choices = record { each = choices; most = MAX_PACKETS }
 -- a line of a cell whose disks are armed so
 module _ {D V : Type 0} (g : Ghosts D) (script_db : ScriptDatabase) (given : List ℕ) (before after : OpenCell D V g) (c : Cell)
     (stands : IsModelledBy g script_db.database given before c) (k : ℕ) (ev : Event) (h : SiteHappened) (armed : List (Option Armed))
-    (run : Choices → Run_or_why) (choices : List Choice) (is : run (whole_choices choices) ≡ Ok (happened (with_armed c armed) ev (happened_at c.run.world k
+    (run : Choices → Run_or_why) (choices : List Choice)
+    (is : run (whole_choices choices) ≡ Ok (happened (with_armed c armed) ev (happened_at c.run.world k
     h)))
     (marks : AreMarks h.marks) (site later : Site D V g) (there : slice_get before.sites.items k ≡ Some site)
-    (sites : after.sites.items ≡ set before.sites.items k later) (rises : g.faults (site_disk site) + fault_count k (map Tells h.marks) ≤ g.faults
+    (sites : after.sites.items ≡ set before.sites.items k later)
+    (rises : g.faults (site_disk site) + fault_count k (map Tells h.marks) ≤ g.faults
     (site_disk later)) (others : (j : ℕ) → j ≢ k → fault_count j (map Tells h.marks) ≡ 0) where
   -- the cell after it
   abbrev pub cell_then : Cell
@@ -129,7 +134,8 @@ module _ {D V : Type 0} (g : Ghosts D) (script_db : ScriptDatabase) (given : Lis
       let here = few k in
       subst (λ (l : List (Site D V g)). AreRises 0 told_in.items (helds g before) (map (held_at {V = V} g) l)) (sym sites)
       (rises_set g told_in.items 0 k before.sites.items site later there
-      (let first : fault_count (0 + k) told_in.items ≡ fault_count k told_in.items = ap (λ (n : ℕ). fault_count n told_in.items) (zero_add k) in omega
+      (let first : fault_count (0 + k) told_in.items ≡ fault_count k told_in.items = ap (λ (n : ℕ). fault_count n told_in.items)
+      (zero_add k) in omega
       (arith, rises, here, first))
       (λ j other. let none = others j (λ e. other (e ∙ sym (zero_add k))) in let less = few j in omega (arith, none, less)))
     where
@@ -160,7 +166,8 @@ module _ {D V : Type 0} (g : Ghosts D) (script_db : ScriptDatabase) (given : Lis
               (sites_set before.sites.items c.run.world.sites k later h.site stands.sites stood);
           sent = ap (λ (l : List Packet). l ++ packets_of h.shown) stands.sent ∙ sym (ap (λ (t : Traffic). t.sent) packets);
           handed =
-              ap (λ (n : ℕ). c.handed ++ replicate n false) (let len = length-append c.run.world.packets (packets_of h.shown) in omega (arith, len))
+              ap (λ (n : ℕ). c.handed ++ replicate n false)
+              (let len = length-append c.run.world.packets (packets_of h.shown) in omega (arith, len))
               ∙ ap (λ (l : List Bool). l ++ replicate (length (packets_of h.shown)) false) stands.handed
               ∙ sym (ap (λ (t : Traffic). t.handed) packets);
           armed = arms;
@@ -180,7 +187,8 @@ module _ {D V : Type 0} (g : Ghosts D) (script_db : ScriptDatabase) (given : Lis
       → CellTold g script_db given run (Some ending) before after text_before text_after
   part heard ending tb ta sent told hold =
       let agree = agrees script_db before.hosts.items k (record { text = tb; sent = before.packets.sent }) h.shown h.marks marks in
-      let ended : (told_of script_db before.hosts.items k (record { text = tb; sent = before.packets.sent }) h.shown).ending ≡ Some ending = ap
+      let ended : (told_of script_db before.hosts.items k (record { text = tb; sent = before.packets.sent }) h.shown).ending ≡ Some
+      ending = ap
       (λ (r : TellingRun). r.ending) told in
       record {
         choices = whole_choices choices;

@@ -58,16 +58,19 @@ unlabelled file v is short = by (length file == 0) refl
   where
     by : (b : Bool) → (length file == 0) ≡ b → v ≡ zero_version
     by true empty =
-        let first : Some zero_version ≡ Some v = sym (ap (λ (b : Bool). if b then Some zero_version else version_by (length file) (take LABEL_LEN file)) empty)
+        let first : Some zero_version ≡ Some v = sym
+        (ap (λ (b : Bool). if b then Some zero_version else version_by (length file) (take LABEL_LEN file)) empty)
         ∙ is in cc
     by false some =
         let none : None ≡ Some v =
         sym (ap (λ (b : Bool). if b then Some zero_version else version_by (length file) (take LABEL_LEN file)) some
-        ∙ ap (λ (b : Bool). if b then None else (if nat_lt (LABEL_LEN + MAX_IMAGE) (length file) then None else version_of_label (take LABEL_LEN file))) short)
+        ∙ ap (λ (b : Bool). if b then None
+        else (if nat_lt (LABEL_LEN + MAX_IMAGE) (length file) then None else version_of_label (take LABEL_LEN file))) short)
         ∙ is in cc
 
 -- at rest a database file has a label where its version is not the first one
-pub label_says : (fs : Files) (v : Version) → IsAtRest v (image_of fs.database) fs → IsPlain fs → has_label fs.database ≡ not (version_eq v zero_version)
+pub label_says : (fs : Files) (v : Version) → IsAtRest v (image_of fs.database) fs → IsPlain fs
+    → has_label fs.database ≡ not (version_eq v zero_version)
 label_says fs v rests plain = by (version_eq v zero_version) refl
   where
     by : (b : Bool) → version_eq v zero_version ≡ b → has_label fs.database ≡ not b
@@ -112,7 +115,8 @@ files_at {D} {V} g m clock node s sound disk up =
     let version : node.store.version ≡ s.version = node.stored.version is_it.0 ∙ ap (λ (u : model.Server). u.version) is_it.1 in
     let rests = subst (λ (v : Version). IsAtRest v (image_of there.0.database) there.0) version
     (of_some (g.files node.store.disk) there.0 (λ fs. IsAtRest node.store.version (image_of fs.database) fs) there.1 ready.rests) in
-    let image : image_of there.0.database ≡ s.image = image_at (g.files node.store.disk) there.0 node.state.image there.1 (node.stored.image is_it.0)
+    let image : image_of there.0.database ≡ s.image = image_at (g.files node.store.disk) there.0 node.state.image there.1
+    (node.stored.image is_it.0)
     ∙ ap (λ (u : model.Server). u.image) is_it.1 in
     let plain = of_some (g.files node.store.disk) there.0 IsPlain there.1 disk.plain in
     record {
@@ -125,26 +129,31 @@ files_at {D} {V} g m clock node s sound disk up =
       runs = ready.runs;
     }
   where
-    image_at : (o : Option Files) (fs : Files) (image : List ℕ) → o ≡ Some fs → IfSome (image_in o) (λ i. i ≡ image) → image_of fs.database ≡ image
+    image_at : (o : Option Files) (fs : Files) (image : List ℕ) → o ≡ Some fs → IfSome (image_in o) (λ i. i ≡ image)
+        → image_of fs.database ≡ image
     image_at o fs image is same = subst (λ (x : Option Files). IfSome (image_in x) (λ i. i ≡ image)) is same
 
 -- ---- a step that was made
 
 -- its durable calls made just these changing calls
-pub served_rise : {D V : Type 0} (g : Ghosts D) (node : Node D V g) (s : model.Server) (new : D) (calls : List Made) → FilesAt g node s → AllLater calls
+pub served_rise : {D V : Type 0} (g : Ghosts D) (node : Node D V g) (s : model.Server) (new : D) (calls : List Made) → FilesAt g node s
+    → AllLater calls
     → Serves g (durable_in s) node.store.disk new calls → g.steps new ≡ g.steps node.store.disk + calls_on_all s.version calls
 served_rise {D} g node s new calls at labels serves =
-    of_some (g.files node.store.disk) at.files (λ fs. g.steps new ≡ g.steps node.store.disk + calls_made (has_label fs.database) calls) at.is serves.steps
+    of_some (g.files node.store.disk) at.files
+    (λ fs. g.steps new ≡ g.steps node.store.disk + calls_made (has_label fs.database) calls) at.is serves.steps
     ∙ ap (λ (n : ℕ). g.steps node.store.disk + n) (made_on (has_label at.files.database) s.version calls labels at.label)
 
 -- ---- a step in which the disk failed
 
 -- A disk that failed in a step without a durable call failed as well before the end of the first of any, none of which took place.
-pub fails_first : {D : Type 0} (g : Ghosts D) (d : Durable) (old new : D) (calls : List Made) → FailsIn g d old new [] → FailsIn g d old new calls
+pub fails_first : {D : Type 0} (g : Ghosts D) (d : Durable) (old new : D) (calls : List Made) → FailsIn g d old new []
+    → FailsIn g d old new calls
 fails_first {D} g d old new calls fails =
     record {
       leaves = record {
-        moments = if_more (g.files old) _ _ (λ fs run. widened g.steps g.left_since old new (StandsWithin d []) (StandsWithin d calls) within run)
+        moments = if_more (g.files old) _ _
+            (λ fs run. widened g.steps g.left_since old new (StandsWithin d []) (StandsWithin d calls) within run)
             fails.leaves.moments;
         plain = λ _. fails.leaves.plain tt;
       };
@@ -152,7 +161,9 @@ fails_first {D} g d old new calls fails =
       now = if_more (g.files old) _ _ (λ fs narrows c left. between c (narrows c left)) fails.now;
       least = if_more (g.files old) _ _ (λ fs least. let none = none_made fs fails.whole in omega (arith, least, none)) fails.least;
       most = if_more (g.files old) _ _ (λ fs most. let none = none_made fs (fails.whole + 1) in omega (arith, most, none)) fails.most;
-      running = if_more (g.files old) _ _ (λ fs runs stopped. runs (subst (λ (n : ℕ). IsStopped (after_changes n (g.stop old))) (sym (none_made fs fails.whole))
+      running =
+          if_more (g.files old) _ _
+          (λ fs runs stopped. runs (subst (λ (n : ℕ). IsStopped (after_changes n (g.stop old))) (sym (none_made fs fails.whole))
           stopped)) fails.running;
     }
   where
@@ -177,7 +188,8 @@ pub record Failed {D : Type 0} (g : Ghosts D) (s : model.Server) (old later : D)
   pub steps : g.steps later ≡ g.steps old + rise
   pub cut : IsCutShort (each_on s.version calls) (if took then whole + 1 else whole) rise
 
-module _ {D V : Type 0} (g : Ghosts D) (node : Node D V g) (s : model.Server) (failed later : D) (calls : List Made) (at : FilesAt g node s) (labels : AllLater
+module _ {D V : Type 0} (g : Ghosts D) (node : Node D V g) (s : model.Server) (failed later : D) (calls : List Made)
+    (at : FilesAt g node s) (labels : AllLater
     calls)
     (fails : FailsIn g (durable_in s) node.store.disk failed calls) where
   abbrev old : D
@@ -188,20 +200,23 @@ module _ {D V : Type 0} (g : Ghosts D) (node : Node D V g) (s : model.Server) (f
 
   low : g.steps old + calls_on_all s.version (take fails.whole calls) ≤ g.steps failed
   low =
-      let least = of_some (g.files old) at.files (λ fs. g.steps old + calls_made (has_label fs.database) (take fails.whole calls) ≤ g.steps failed) at.is
+      let least = of_some (g.files old) at.files
+      (λ fs. g.steps old + calls_made (has_label fs.database) (take fails.whole calls) ≤ g.steps failed) at.is
       fails.least in
       let made = made_of fails.whole in omega (arith, least, made)
 
   high : g.steps failed ≤ g.steps old + calls_on_all s.version (take (fails.whole + 1) calls)
   high =
-      let most = of_some (g.files old) at.files (λ fs. g.steps failed ≤ g.steps old + calls_made (has_label fs.database) (take (fails.whole + 1) calls)) at.is
+      let most = of_some (g.files old) at.files
+      (λ fs. g.steps failed ≤ g.steps old + calls_made (has_label fs.database) (take (fails.whole + 1) calls)) at.is
       fails.most in
       let made = made_of (fails.whole + 1) in omega (arith, most, made)
 
   -- the disk had not stopped once the whole calls were made
   pub runs_still : IsStopped (after_changes (calls_on_all s.version (take fails.whole calls)) (g.stop old)) → ⊥
   runs_still stopped =
-      of_some (g.files old) at.files (λ fs. IsStopped (after_changes (calls_made (has_label fs.database) (take fails.whole calls)) (g.stop old)) → ⊥) at.is
+      of_some (g.files old) at.files
+      (λ fs. IsStopped (after_changes (calls_made (has_label fs.database) (take fails.whole calls)) (g.stop old)) → ⊥) at.is
       fails.running
       (subst (λ (n : ℕ). IsStopped (after_changes n (g.stop old))) (sym (made_of fails.whole)) stopped)
 
@@ -210,7 +225,8 @@ module _ {D V : Type 0} (g : Ghosts D) (node : Node D V g) (s : model.Server) (f
 
   pub failed_in : (revived : IsRevived g failed later) → IsSome (g.files later) → Failed g s old later calls fails.whole
   failed_in revived told =
-      by (of_some (g.files old) at.files (λ _. Narrows (StandsBetween (durable_in s) calls fails.whole) (g.may_leave failed)) at.is fails.now there.0 left)
+      by (of_some (g.files old) at.files
+      (λ _. Narrows (StandsBetween (durable_in s) calls fails.whole) (g.may_leave failed)) at.is fails.now there.0 left)
     where
       there : (fs : Files) × (g.files later ≡ Some fs)
       there = some_of (g.files later) told
@@ -221,7 +237,8 @@ module _ {D V : Type 0} (g : Ghosts D) (node : Node D V g) (s : model.Server) (f
       steps_are : g.steps later ≡ g.steps old + (g.steps failed - g.steps old)
       steps_are = let same = revived.steps in omega (arith, low, same)
 
-      cut_at : (made : ℕ) → fails.whole ≤ made → made ≤ fails.whole + 1 → IsCutShort (each_on s.version calls) made (g.steps failed - g.steps old)
+      cut_at : (made : ℕ) → fails.whole ≤ made → made ≤ fails.whole + 1
+          → IsCutShort (each_on s.version calls) made (g.steps failed - g.steps old)
       cut_at made less more =
           record {
             whole = fails.whole;
@@ -241,7 +258,8 @@ module _ {D V : Type 0} (g : Ghosts D) (node : Node D V g) (s : model.Server) (f
       }
       by (inr next) = record {
         took = true;
-        stands = make_some (g.files later) there.0 (StandsAs (durable_after_all (durable_in s) (take (fails.whole + 1) calls))) there.1 next;
+        stands = make_some (g.files later) there.0
+            (StandsAs (durable_after_all (durable_in s) (take (fails.whole + 1) calls))) there.1 next;
         rise = g.steps failed - g.steps old;
         steps = steps_are;
         cut = cut_at (fails.whole + 1) (omega arith) (omega arith);

@@ -63,7 +63,8 @@ module _ {D V : Type 0} (g : Ghosts D) where
   -- ---- a step
 
   server_rests : (db : Database) (m : Member) (clock : ℕ) (e : NodeEvent) (end : SiteEnd) (node later : Node D V g) (out left : List Output)
-      (server : Server D V g) → NodeStepped g db m clock e end node later out → Becomes g end later out server left → AtRest g (server_disk server)
+      (server : Server D V g) → NodeStepped g db m clock e end node later out → Becomes g end later out server left
+      → AtRest g (server_disk server)
   server_rests db m clock e ended.Made node later out left server step is =
       subst (λ (s : Server D V g). AtRest g (server_disk s)) (sym is.0) step.sound.disk.settled
   server_rests db m clock e ended.Halts node later out left server step is =

@@ -34,8 +34,10 @@ shows_none : (k j clock : ℕ) (showing : Option Showing) (disks : List Held) �
 shows_none k j clock showing [] = tt
 shows_none k j clock showing (disk ∷ disks) = (omega arith, shows_none (k + 1) j clock showing disks)
 
-shown_is : {D V : Type 0} {gs : Ghosts D} {database : Database} {given : List ℕ} (running : OpenCell D V gs) (c : Cell) (k : ℕ) (site : Site D V gs)
-    (showing : Option Showing) → IsModelledBy gs database given running c → slice_get running.sites.items k ≡ Some site → showing ≡ showing_of (cell_size_of c)
+shown_is : {D V : Type 0} {gs : Ghosts D} {database : Database} {given : List ℕ} (running : OpenCell D V gs) (c : Cell) (k : ℕ)
+    (site : Site D V gs)
+    (showing : Option Showing) → IsModelledBy gs database given running c → slice_get running.sites.items k ≡ Some site
+    → showing ≡ showing_of (cell_size_of c)
     (server_node site.server) → shown_site (cell_size_of c) k (site_of c.run.world k) ≡ Shows k site.clock showing ∷ []
 shown_is running c k site showing stands there is =
     let at = site_at running.sites.items c.run.world.sites k site stands.sites there in
@@ -44,10 +46,13 @@ shown_is running c k site showing stands there is =
     ∙ ap (λ (n : model.Node). Shows k site.clock (showing_of (cell_size_of c) n) ∷ []) at.is.node
     ∙ ap (λ (o : Option Showing). Shows k site.clock o ∷ []) (sym is)
 
-pub show_told : {D V : Type 0} {given : List ℕ} (g : Ghosts D) (db : ScriptDatabase) (running : OpenCell D V g) (c : Cell) (k : ℕ) (site : Site D V g)
+pub show_told : {D V : Type 0} {given : List ℕ} (g : Ghosts D) (db : ScriptDatabase) (running : OpenCell D V g) (c : Cell) (k : ℕ)
+    (site : Site D V g)
     (showing : Option Showing) (run : Run_or_why) (hosts : List Host) (before after : List ℕ) → IsModelledBy g db.database given running c →
-    slice_get running.sites.items k ≡ Some site → hosts ≡ running.hosts.items → showing ≡ showing_of (cell_size_of c) (server_node site.server) → run ≡ Ok
-    (record { cell = c; items = shown_site (cell_size_of c) k (site_of c.run.world k); ending = None }) → after ≡ before ++ item_text db hosts
+    slice_get running.sites.items k ≡ Some site → hosts ≡ running.hosts.items
+    → showing ≡ showing_of (cell_size_of c) (server_node site.server) → run ≡ Ok
+    (record { cell = c; items = shown_site (cell_size_of c) k (site_of c.run.world k); ending = None }) → after ≡ before
+    ++ item_text db hosts
     (Shows k site.clock showing) → CellTold g db given (λ choices. run) None running running before after
 show_told g db running c k site showing run hosts before after stands there same is does told =
     let items = shown_is running c k site showing stands there is in
@@ -66,7 +71,8 @@ show_told g db running c k site showing run hosts before after stands there same
           (shows_none 0 k site.clock showing (helds g running));
     }
 
-pub showing_down : {D V : Type 0} {g : Ghosts D} (n : ℕ) (s : Server D V g) (disk : D) (showing : Option Showing) → s ≡ server.Down disk → showing ≡ None
+pub showing_down : {D V : Type 0} {g : Ghosts D} (n : ℕ) (s : Server D V g) (disk : D) (showing : Option Showing) → s ≡ server.Down disk
+    → showing ≡ None
     → showing ≡ showing_of n (server_node s)
 showing_down {D} {V} {g} n s disk showing is none = none ∙ ap (λ (t : Server D V g). showing_of n (server_node t)) (sym is)
 
@@ -76,11 +82,13 @@ showing_up : (halted : Bool) (n : ℕ) (u : model.Server)
 showing_up true n u = refl
 showing_up false n u = refl
 
-mine : {D V : Type 0} (g : Ghosts D) (m : Member) (clock : ℕ) (s : Server D V g) (n : Node D V g) → s ≡ server.Up n → IsSoundServer g m clock s → own_member n ≡ m
+mine : {D V : Type 0} (g : Ghosts D) (m : Member) (clock : ℕ) (s : Server D V g) (n : Node D V g) → s ≡ server.Up n
+    → IsSoundServer g m clock s → own_member n ≡ m
 mine {D} {V} g m clock s n is sound = (subst (λ (t : Server D V g). IsSoundServer g m clock t) is sound).member
 
 pub shown_up : {D V : Type 0} {database : Database} {given : List ℕ} (g : Ghosts D) (bound : ℕ) (running : OpenCell D V g) (c : Cell)
-    (k : ℕ) (site : Site D V g) (n : Node D V g) (showing : Option Showing) → IsSteady g bound running → IsModelledBy g database given running c →
+    (k : ℕ) (site : Site D V g) (n : Node D V g) (showing : Option Showing) → IsSteady g bound running
+    → IsModelledBy g database given running c →
     slice_get running.sites.items k ≡ Some site → site.server ≡ server.Up n → showing ≡ Some
     (record {
       version = (up_server n).version;
@@ -95,11 +103,13 @@ shown_up {D} {V} g bound running c k site n showing sound stands there is told =
     let own = mine g (record { hosts = running.hosts.items; me = 0 + k }) site.clock site.server n is at.server in
     let size : member_size (own_member n) ≡ cell_size_of c = ap member_size own ∙ ap (λ (l : List Host). length l) (sym stands.hosts) in
     told
-    ∙ ap (λ (m : ℕ). Some (record { version = u.version; phase = phase_of u.phase; until = lease_end m u.starts; len = length u.image })) size
+    ∙ ap (λ (m : ℕ). Some (record { version = u.version; phase = phase_of u.phase; until = lease_end m u.starts; len = length u.image }))
+    size
     ∙ sym (showing_up n.store.failed (cell_size_of c) u)
     ∙ ap (λ (t : Server D V g). showing_of (cell_size_of c) (server_node t)) (sym is)
 
 -- a line is refused for the reason that was found
-pub line_refused : {T : Type 0} (r : Result T LineFault) (w w' : Why) → IsErrAnd r (λ e. e ≡ fault.Refused w) → r ≡ Err (fault.Refused w') → w ≡ w'
+pub line_refused : {T : Type 0} (r : Result T LineFault) (w w' : Why) → IsErrAnd r (λ e. e ≡ fault.Refused w)
+    → r ≡ Err (fault.Refused w') → w ≡ w'
 line_refused (Ok x) w w' is is' = absurd is
 line_refused (Err e) w w' is is' = cc

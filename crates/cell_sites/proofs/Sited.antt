@@ -54,11 +54,14 @@ module _ {D V : Type 0} (g : Ghosts D) (db : Database) (k : ℕ) (e : NodeEvent)
   pub placed : k < length mid.sites.items
   placed =
       let there = slice_get_within before.sites.items k (up_site up.clock up.node) up.there in
-      let many : length mid.sites.items ≡ length before.sites.items = ap length up.sites ∙ length-set before.sites.items k (up_site up.clock up.later) in
+      let many : length mid.sites.items ≡ length before.sites.items = ap length up.sites
+      ∙ length-set before.sites.items k (up_site up.clock up.later) in
       omega (arith, there, many)
 
-  pub goes_down : end ≡ ended.Stops → (quiet after : OpenCell D V g) → quiet.sites.items ≡ mid.sites.items → quiet.hosts.items ≡ mid.hosts.items
-      → quiet.packets ≡ mid.packets → quiet.calls ≡ mid.calls → quiet.outputs ≡ [] → TakenDown g k quiet after → SiteStepped g db k e end before after
+  pub goes_down : end ≡ ended.Stops → (quiet after : OpenCell D V g) → quiet.sites.items ≡ mid.sites.items
+      → quiet.hosts.items ≡ mid.hosts.items
+      → quiet.packets ≡ mid.packets → quiet.calls ≡ mid.calls → quiet.outputs ≡ [] → TakenDown g k quiet after
+      → SiteStepped g db k e end before after
   goes_down is quiet after sites hosts packets calls none down =
       let was : Some (up_site up.clock up.later) ≡ Some (record { clock = down.clock; server = down.server }) =
       sym (get_set before.sites.items k (up_site up.clock up.later) (up_site up.clock up.node) up.there)
@@ -74,8 +77,11 @@ module _ {D V : Type 0} (g : Ghosts D) (db : Database) (k : ℕ) (e : NodeEvent)
         out = mid.outputs;
         step = up.step;
         server = Down down.disk;
-        becomes = subst (λ (x : SiteEnd). Becomes g x up.later mid.outputs (Down down.disk) after.outputs) (sym is)
-            ((down.disk, refl, subst (λ (s : Server D V g). IsRevived g (server_disk s) down.disk) server down.revived), down.outputs ∙ none);
+        becomes = subst (λ (x : SiteEnd). Becomes g x up.later mid.outputs (Down down.disk) after.outputs) (sym is) (
+          (down.disk, refl, subst (λ (s : Server D V g). IsRevived g (server_disk s) down.disk) server down.revived),
+          down.outputs
+              ∙ none,
+        );
         sites = down.sites ∙ ap (λ (n : ℕ). set quiet.sites.items k (record { clock = n; server = Down down.disk })) clock
             ∙ ap (λ (l : List (Site D V g)). set l k (record { clock = up.clock; server = Down down.disk })) (sites ∙ up.sites)
             ∙ set-set before.sites.items k (up_site up.clock up.later) (record { clock = up.clock; server = Down down.disk });

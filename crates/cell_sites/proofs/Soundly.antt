@@ -52,7 +52,8 @@ here g bound running k clock node sound there =
     }
 
 -- a clock that stays
-pub clocks_set : {D V : Type 0} {g : Ghosts D} (sites : List (Site D V g)) (k : ℕ) (site later : Site D V g) → slice_get sites k ≡ Some site → later.clock ≡ site.clock
+pub clocks_set : {D V : Type 0} {g : Ghosts D} (sites : List (Site D V g)) (k : ℕ) (site later : Site D V g)
+    → slice_get sites k ≡ Some site → later.clock ≡ site.clock
     → clocks_in (set sites k later) ≡ clocks_in sites
 clocks_set [] k site later there same = cc
 clocks_set {D} {V} {g} (x ∷ sites) zero site later there same =
@@ -63,7 +64,8 @@ clocks_set (x ∷ sites) (suc k) site later there same = ap (λ (l : List ℕ). 
 pub sound_after : {D V : Type 0} (g : Ghosts D) (bound : ℕ) (before after : OpenCell D V g) (k : ℕ) (site later : Site D V g)
     → IsSteady g bound before → slice_get before.sites.items k ≡ Some site → later.clock ≡ site.clock
     → IsSoundServer g (member_at before k) later.clock later.server → IsSoundDisk g (site_disk later)
-    → after.sites.items ≡ set before.sites.items k later → after.hosts.items ≡ before.hosts.items → after.outputs ≡ [] → IsSteady g bound after
+    → after.sites.items ≡ set before.sites.items k later → after.hosts.items ≡ before.hosts.items → after.outputs ≡ []
+    → IsSteady g bound after
 sound_after {D} {V} g bound before after k site later sound there clock is disk sites hosts empty =
     let at = sound_at g before.hosts.items 0 bound before.sites.items k site sound.sites there in
     let many : length after.sites.items ≡ length before.sites.items = ap length sites ∙ length-set before.sites.items k later in
@@ -80,7 +82,9 @@ sound_after {D} {V} g bound before after k site later sound there clock is disk 
           subst (λ (h : List Host). AreSound g h 0 bound after.sites.items) (sym hosts)
           (subst (λ (l : List (Site D V g)). AreSound g before.hosts.items 0 bound l) (sym sites)
           (sound_set g before.hosts.items 0 bound before.sites.items k later sound.sites one));
-      near = ap (λ (l : List (Site D V g)). are_near (clocks_in l)) sites ∙ ap are_near (clocks_set before.sites.items k site later there clock) ∙ sound.near;
+      near =
+          ap (λ (l : List (Site D V g)). are_near (clocks_in l)) sites
+          ∙ ap are_near (clocks_set before.sites.items k site later there clock) ∙ sound.near;
       told = empty;
     }
 
@@ -96,7 +100,8 @@ pub disk_here : {D V : Type 0} (g : Ghosts D) (bound : ℕ) (running : OpenCell 
 disk_here g bound running k site sound there = (sound_at g running.hosts.items 0 bound running.sites.items k site sound.sites there).disk
 
 -- the site at a place, as an index reads it
-pub found_up : {D V : Type 0} {g : Ghosts D} (running : OpenCell D V g) (k : ℕ) (site : Site D V g) (node : Node D V g) → IsUpAt running k → site ≡ get_or running.sites.items k site
+pub found_up : {D V : Type 0} {g : Ghosts D} (running : OpenCell D V g) (k : ℕ) (site : Site D V g) (node : Node D V g)
+    → IsUpAt running k → site ≡ get_or running.sites.items k site
     → site.server ≡ Up node → slice_get running.sites.items k ≡ Some (up_site site.clock node)
 found_up {D} {V} {g} running k site node up value is =
     let lt = slice_get_within running.sites.items k (up_site up.clock up.node) up.there in
@@ -104,7 +109,8 @@ found_up {D} {V} {g} running k site node up value is =
     ∙ ap (λ (s : Server D V g). Some (record { clock = site.clock; server = s })) is
 
 -- it is not down
-pub not_down : {D V : Type 0} {g : Ghosts D} (running : OpenCell D V g) (k : ℕ) (site : Site D V g) (disk : D) → IsUpAt running k → site ≡ get_or running.sites.items k site
+pub not_down : {D V : Type 0} {g : Ghosts D} (running : OpenCell D V g) (k : ℕ) (site : Site D V g) (disk : D) → IsUpAt running k
+    → site ≡ get_or running.sites.items k site
     → site.server ≡ Down disk → ⊥
 not_down {D} {V} {g} running k site disk up value is =
     let lt = slice_get_within running.sites.items k (up_site up.clock up.node) up.there in

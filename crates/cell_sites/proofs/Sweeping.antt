@@ -46,7 +46,8 @@ either : (P : ℕ → Type 0) (b : Bool) (end below : ℕ) → (b ≡ true → P
 either P true end below at_end as_before = at_end refl
 either P false end below at_end as_before = as_before
 
-pub swept_within : (host : Host) (end n : ℕ) (swept : List Swept) → end ≤ n → AreWithin n swept → AreWithin n (map (swept_to host end) swept)
+pub swept_within : (host : Host) (end n : ℕ) (swept : List Swept) → end ≤ n → AreWithin n swept
+    → AreWithin n (map (swept_to host end) swept)
 swept_within host end n swept near within =
     All-map (λ (s : Swept). s.below ≤ n) (swept_to host end) swept
     (All-weaker (λ (s : Swept). s.below ≤ n) (λ (s : Swept). (swept_to host end s).below ≤ n)
@@ -60,7 +61,8 @@ pub dropped_are_swept : (host : Host) (end : ℕ) (sent : List Packet) (handed :
     → AreSwept sent handed swept → AreSwept sent (dropped_of host sent handed) (map (swept_to host end) swept)
 dropped_are_swept host end sent handed swept same are =
     All-map (λ (s : Swept). HasSwept sent after s.host s.below) (swept_to host end) swept
-    (All-weaker (λ (s : Swept). HasSwept sent handed s.host s.below) (λ (s : Swept). HasSwept sent after s.host (swept_to host end s).below) one swept are)
+    (All-weaker (λ (s : Swept). HasSwept sent handed s.host s.below)
+    (λ (s : Swept). HasSwept sent after s.host (swept_to host end s).below) one swept are)
   where
     after : List Bool
     after = dropped_of host sent handed
@@ -74,12 +76,15 @@ dropped_are_swept host end sent handed swept same are =
         (λ is. of_host s (eqb-true s.host.0 host.0 is))
         (covers_swept sent handed after s.host s.below (dropped_covers host sent handed same) before)
 
-pub covers_are_swept : (sent : List Packet) (before after : List Bool) (swept : List Swept) → Covers before after → AreSwept sent before swept
+pub covers_are_swept : (sent : List Packet) (before after : List Bool) (swept : List Swept) → Covers before after
+    → AreSwept sent before swept
     → AreSwept sent after swept
 covers_are_swept sent before after swept covers are =
     All-weaker (λ (s : Swept). HasSwept sent before s.host s.below) (λ (s : Swept). HasSwept sent after s.host s.below)
     (λ s one. covers_swept sent before after s.host s.below covers one) swept are
 
-pub push_are_swept : (sent : List Packet) (handed : List Bool) (p : Packet) (swept : List Swept) → AreWithin (length sent) swept → AreSwept sent handed swept
+pub push_are_swept : (sent : List Packet) (handed : List Bool) (p : Packet) (swept : List Swept) → AreWithin (length sent) swept
+    → AreSwept sent handed swept
     → AreSwept (sent ++ p ∷ []) (handed ++ false ∷ []) swept
-push_are_swept sent handed p swept within are = λ k d lt. push_swept sent handed p (get_or swept k d).host (get_or swept k d).below (within k d lt) (are k d lt)
+push_are_swept sent handed p swept within are =
+    λ k d lt. push_swept sent handed p (get_or swept k d).host (get_or swept k d).below (within k d lt) (are k d lt)

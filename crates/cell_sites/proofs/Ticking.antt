@@ -38,7 +38,8 @@ use Rattle.cell_sites.proofs.Waiting.{items_with}
 
 -- ---- one site
 
-pub server_later : {D V : Type 0} (g : Ghosts D) (m : Member) (clock later : ℕ) (s : Server D V g) → clock ≤ later → IsSoundServer g m clock s
+pub server_later : {D V : Type 0} (g : Ghosts D) (m : Member) (clock later : ℕ) (s : Server D V g) → clock ≤ later
+    → IsSoundServer g m clock s
     → IsSoundServer g m later s
 server_later g m clock later (server.Down disk) le sound = sound
 server_later g m clock later (server.Up n) le sound =
@@ -89,7 +90,8 @@ moments_in g hosts place bound (site ∷ sites) sound zero less =
     (sound.0.moment.some, omega (arith, fits, end))
 moments_in g hosts place bound (site ∷ sites) sound (suc k) less = moments_in g hosts (place + 1) bound sites sound.1 k (omega arith)
 
-clock_there : {D V : Type 0} {g : Ghosts D} (sites : List (Site D V g)) (k : ℕ) (site : Site D V g) → slice_get sites k ≡ Some site → get_or (clocks_in sites) k 0 ≡ site.clock
+clock_there : {D V : Type 0} {g : Ghosts D} (sites : List (Site D V g)) (k : ℕ) (site : Site D V g) → slice_get sites k ≡ Some site
+    → get_or (clocks_in sites) k 0 ≡ site.clock
 clock_there [] k site there = cc
 clock_there {D} {V} {g} (x ∷ sites) zero site there = let same : x ≡ site = cc in ap (λ (s : Site D V g). s.clock) same
 clock_there (x ∷ sites) (suc k) site there = clock_there sites k site there
@@ -148,7 +150,8 @@ tick_sound {D} {V} g bound most running k seconds site sound fits there near =
           (site_later g (record { hosts = running.hosts.items; me = 0 + k }) bound seconds site fits
           (sound_at g running.hosts.items 0 bound items k site sound.sites there));
       near = ap are_near clocks ∙ near_make (set (clocks_in items) k x.clock)
-          (near_set (clocks_in items) k x.clock (near_read (clocks_in items) sound.near) (omega (arith, within, as_many)) (omega (arith, old))
+          (near_set (clocks_in items) k x.clock (near_read (clocks_in items) sound.near) (omega (arith, within, as_many))
+          (omega (arith, old))
           (λ j less other.
           let one = some_site items j less in
           let e : get_or (clocks_in items) j 0 ≡ one.site.clock = clock_there items j one.site one.there in
@@ -158,13 +161,15 @@ tick_sound {D} {V} g bound most running k seconds site sound fits there near =
     }
 
 -- by no second
-pub tick_rests : {D V : Type 0} {g : Ghosts D} (running : OpenCell D V g) (k seconds : ℕ) (site : Site D V g) → slice_get running.sites.items k ≡ Some site → seconds ≡ 0
+pub tick_rests : {D V : Type 0} {g : Ghosts D} (running : OpenCell D V g) (k seconds : ℕ) (site : Site D V g)
+    → slice_get running.sites.items k ≡ Some site → seconds ≡ 0
     → (ticked_at running k seconds site).sites.items ≡ running.sites.items
 tick_rests {D} {V} {g} running k seconds site there none =
     let clock : site.clock + seconds ≡ site.clock = omega (arith, none) in
     ap (λ (n : ℕ). set running.sites.items k (record site { clock = n })) clock ∙ set_same running.sites.items k site there
 
-pub tick_keeps : {D V : Type 0} {g : Ghosts D} (db : Database) (running : OpenCell D V g) (k seconds : ℕ) (site : Site D V g) → slice_get running.sites.items k ≡ Some site
+pub tick_keeps : {D V : Type 0} {g : Ghosts D} (db : Database) (running : OpenCell D V g) (k seconds : ℕ) (site : Site D V g)
+    → slice_get running.sites.items k ≡ Some site
     → Keeps db running → Keeps db (ticked_at running k seconds site)
 tick_keeps db running k seconds site there keeps =
     keeps_set db running (ticked_at running k seconds site) keeps refl k (ticked_on seconds site) [] refl refl (none_sent running.packets)
@@ -175,7 +180,8 @@ none_more xs handed =
     let none : length xs - length xs ≡ 0 = omega arith in
     ap (λ (n : ℕ). handed ++ replicate n false) none ∙ append-nil handed
 
-pub tick_sites_of : {D V : Type 0} {gs : Ghosts D} {database : Database} {given : List ℕ} (running : OpenCell D V gs) (c : Cell) (k seconds : ℕ) (site : Site D V gs)
+pub tick_sites_of : {D V : Type 0} {gs : Ghosts D} {database : Database} {given : List ℕ} (running : OpenCell D V gs) (c : Cell)
+    (k seconds : ℕ) (site : Site D V gs)
     → IsModelledBy gs database given running c → slice_get running.sites.items k ≡ Some site
     → AreSitesOf (ticked_at running k seconds site).sites.items (tick_at c.run.world.sites k seconds)
 tick_sites_of {D} {V} {gs} running c k seconds site stands there =
@@ -183,7 +189,8 @@ tick_sites_of {D} {V} {gs} running c k seconds site stands there =
     subst (λ (s : Site D V gs). AreSitesOf (set running.sites.items k (ticked_on seconds s)) (tick_at c.run.world.sites k seconds)) same
     (sites_ticked running.sites.items c.run.world.sites k seconds site stands.sites)
 
-pub helds_ticked : {D V : Type 0} (g : Ghosts D) (running : OpenCell D V g) (k seconds : ℕ) (site : Site D V g) → slice_get running.sites.items k ≡ Some site
+pub helds_ticked : {D V : Type 0} (g : Ghosts D) (running : OpenCell D V g) (k seconds : ℕ) (site : Site D V g)
+    → slice_get running.sites.items k ≡ Some site
     → helds g (ticked_at running k seconds site) ≡ helds g running
 helds_ticked {D} {V} g running k seconds site there =
     let same : get_or running.sites.items k site ≡ site = get_or_from_slice_get running.sites.items k site site there in
@@ -209,7 +216,8 @@ armed_all g [] (a ∷ armed) seconds are = absurd are
 armed_all g (x ∷ sites) [] seconds are = absurd are
 armed_all g (x ∷ sites) (a ∷ armed) seconds are = (are.0, armed_all g sites armed seconds are.1)
 
-pub tick_stands : {D V : Type 0} {given : List ℕ} (gs : Ghosts D) (db : ScriptDatabase) (running : OpenCell D V gs) (c : Cell) (k seconds : ℕ) (site : Site D V gs)
+pub tick_stands : {D V : Type 0} {given : List ℕ} (gs : Ghosts D) (db : ScriptDatabase) (running : OpenCell D V gs) (c : Cell)
+    (k seconds : ℕ) (site : Site D V gs)
     → IsModelledBy gs db.database given running c → slice_get running.sites.items k ≡ Some site
     → IsModelledBy gs db.database given (ticked_at running k seconds site) (with_event db c (Tick k seconds)).cell
 tick_stands {D} {V} {given} gs db running c k seconds site stands there =
@@ -223,16 +231,20 @@ tick_stands {D} {V} {given} gs db running c k seconds site stands there =
       disks =
           subst (λ (l : List Held). HoldRun db.database given false (with_event db c (Tick k seconds)).cell l)
           (sym (helds_ticked gs running k seconds site there))
-          (hold_more db.database c (with_event db c (Tick k seconds)).cell given (Tick k seconds) (record { opening = refl; events = refl; world = refl })
+          (hold_more db.database c (with_event db c (Tick k seconds)).cell given (Tick k seconds)
+          (record { opening = refl; events = refl; world = refl })
           (helds gs running) (helds gs running) stands.disks
           (reads_ticked c.run.world.sites k seconds (helds gs running) stands.disks.read)
           (moved_same _ 0 (helds gs running) (λ j x. (0, refl, omega arith))));
     }
 
 pub tick_told : {D V : Type 0} {given : List ℕ} (g : Ghosts D) (db : ScriptDatabase) (bound : ℕ) (running : OpenCell D V g) (c : Cell)
-    (k seconds : ℕ) (site : Site D V g) (run : Run_or_why) (text : List ℕ) → IsSteady g bound running → bound + seconds ≤ MAX_MOMENT → IsModelledBy g
-    db.database given running c → slice_get running.sites.items k ≡ Some site → IsNearAt running.sites.items k (site.clock + seconds) → run ≡ unless_skewed db c
-    (tick_at c.run.world.sites k seconds) (Tick k seconds) → CellTold g db given (λ choices. run) None running (ticked_at running k seconds site) text text
+    (k seconds : ℕ) (site : Site D V g) (run : Run_or_why) (text : List ℕ) → IsSteady g bound running → bound + seconds ≤ MAX_MOMENT
+    → IsModelledBy g
+    db.database given running c → slice_get running.sites.items k ≡ Some site → IsNearAt running.sites.items k (site.clock + seconds)
+    → run ≡ unless_skewed db c
+    (tick_at c.run.world.sites k seconds) (Tick k seconds)
+    → CellTold g db given (λ choices. run) None running (ticked_at running k seconds site) text text
 tick_told g db bound running c k seconds site run text sound fits stands there near is =
     let at = sound_at g running.hosts.items 0 bound running.sites.items k site sound.sites there in
     let within = at.within in
@@ -251,8 +263,10 @@ tick_told g db bound running c k seconds site run text sound fits stands there n
     }
 
 -- one that would part the clocks
-pub tick_skews : {D V : Type 0} {gs : Ghosts D} {given : List ℕ} (db : ScriptDatabase) (running : OpenCell D V gs) (c : Cell) (k seconds : ℕ) (site : Site D V gs)
-    → IsModelledBy gs db.database given running c → slice_get running.sites.items k ≡ Some site → (IsNearAt running.sites.items k (site.clock + seconds) → ⊥)
+pub tick_skews : {D V : Type 0} {gs : Ghosts D} {given : List ℕ} (db : ScriptDatabase) (running : OpenCell D V gs) (c : Cell)
+    (k seconds : ℕ) (site : Site D V gs)
+    → IsModelledBy gs db.database given running c → slice_get running.sites.items k ≡ Some site
+    → (IsNearAt running.sites.items k (site.clock + seconds) → ⊥)
     → unless_skewed db c (tick_at c.run.world.sites k seconds) (Tick k seconds) ≡ Err why.Skew
 tick_skews {D} {V} {gs} db running c k seconds site stands there parted = by (may_tick ss) refl
   where
@@ -266,7 +280,8 @@ tick_skews {D} {V} {gs} db running c k seconds site stands there parted = by (ma
     near_then is j other at less =
         let x = ticked_on seconds site in
         let are = tick_sites_of running c k seconds site stands there in
-        let clocks : clocks_of ss ≡ set (clocks_in items) k x.clock = sites_clocks (set items k x) ss are ∙ map-set (λ (s : Site D V gs). s.clock) items k x in
+        let clocks : clocks_of ss ≡ set (clocks_in items) k x.clock = sites_clocks (set items k x) ss are
+        ∙ map-set (λ (s : Site D V gs). s.clock) items k x in
         let near = near_read (set (clocks_in items) k x.clock) (subst (λ (l : List ℕ). are_near l ≡ true) clocks
         (left_of (are_near (clocks_of ss)) (are_moments (clocks_of ss)) is)) in
         let as_many : length (clocks_in items) ≡ length items = length-map items (λ (s : Site D V gs). s.clock) in
@@ -285,7 +300,8 @@ tick_skews {D} {V} {gs} db running c k seconds site stands there parted = by (ma
 abbrev pub all_ticked : {D V : Type 0} {g : Ghosts D} → OpenCell D V g → List (Site D V g) → OpenCell D V g
 all_ticked running sites = record running { sites = with_items running.sites sites }
 
-all_items : {D V : Type 0} {g : Ghosts D} (running : OpenCell D V g) (sites : List (Site D V g)) (seconds : ℕ) → sites ≡ map (ticked_on seconds) running.sites.items
+all_items : {D V : Type 0} {g : Ghosts D} (running : OpenCell D V g) (sites : List (Site D V g)) (seconds : ℕ)
+    → sites ≡ map (ticked_on seconds) running.sites.items
     → (all_ticked running sites).sites.items ≡ map (ticked_on seconds) running.sites.items
 all_items running sites seconds are =
     items_with running.sites sites (ap length are ∙ length-map running.sites.items (ticked_on seconds)) ∙ are
@@ -314,17 +330,20 @@ none_ticked {D} {V} {g} (site ∷ sites) seconds none =
     ∙ ap (λ (l : List (Site D V g)). site ∷ l) (none_ticked sites seconds none)
 
 -- by no second
-pub all_rests : {D V : Type 0} {g : Ghosts D} (running : OpenCell D V g) (sites : List (Site D V g)) (seconds : ℕ) → sites ≡ map (ticked_on seconds) running.sites.items
+pub all_rests : {D V : Type 0} {g : Ghosts D} (running : OpenCell D V g) (sites : List (Site D V g)) (seconds : ℕ)
+    → sites ≡ map (ticked_on seconds) running.sites.items
     → seconds ≡ 0 → (all_ticked running sites).sites.items ≡ running.sites.items
 all_rests running sites seconds are none = all_items running sites seconds are ∙ none_ticked running.sites.items seconds none
 
 pub all_keeps : {D V : Type 0} {g : Ghosts D} (db : Database) (running : OpenCell D V g) (sites : List (Site D V g)) (seconds : ℕ)
     → sites ≡ map (ticked_on seconds) running.sites.items → Keeps db running → Keeps db (all_ticked running sites)
 all_keeps db running sites seconds are keeps =
-    keeps_map db running (all_ticked running sites) keeps refl (ticked_on seconds) (λ site. refl) (all_items running sites seconds are) refl refl
+    keeps_map db running (all_ticked running sites) keeps refl (ticked_on seconds) (λ site. refl)
+    (all_items running sites seconds are) refl refl
 
 pub all_sound : {D V : Type 0} (g : Ghosts D) (bound bound' : ℕ) (running : OpenCell D V g) (sites : List (Site D V g)) (seconds : ℕ)
-    → sites ≡ map (ticked_on seconds) running.sites.items → IsSteady g bound running → bound + seconds ≤ MAX_MOMENT → IsSteady g bound' running
+    → sites ≡ map (ticked_on seconds) running.sites.items → IsSteady g bound running → bound + seconds ≤ MAX_MOMENT
+    → IsSteady g bound' running
     → IsSteady g (bound' + seconds) (all_ticked running sites)
 all_sound {D} {V} g bound bound' running sites seconds are sound fits sound' =
     let items = running.sites.items in
@@ -340,14 +359,17 @@ all_sound {D} {V} g bound bound' running sites seconds are sound fits sound' =
       sites = subst (λ (l : List (Site D V g)). AreSound g running.hosts.items 0 (bound' + seconds) l) (sym is)
           (sound_ticked g running.hosts.items 0 bound bound' seconds items fits sound.sites sound'.sites);
       near = ap (λ (l : List (Site D V g)). are_near (clocks_in l)) is ∙ ap are_near (clocks_ticked items seconds)
-          ∙ near_make (map (λ (n : ℕ). n + seconds) (clocks_in items)) (near_all (clocks_in items) seconds (near_read (clocks_in items) sound.near));
+          ∙ near_make (map (λ (n : ℕ). n + seconds) (clocks_in items))
+          (near_all (clocks_in items) seconds (near_read (clocks_in items) sound.near));
       told = sound.told;
     }
 
 pub all_told : {D V : Type 0} {given : List ℕ} (g : Ghosts D) (db : ScriptDatabase) (bound : ℕ) (running : OpenCell D V g)
-    (sites : List (Site D V g)) (c : Cell) (seconds : ℕ) (text : List ℕ) → sites ≡ map (ticked_on seconds) running.sites.items → IsSteady g bound running
+    (sites : List (Site D V g)) (c : Cell) (seconds : ℕ) (text : List ℕ) → sites ≡ map (ticked_on seconds) running.sites.items
+    → IsSteady g bound running
     → bound + seconds ≤ MAX_MOMENT → IsModelledBy g db.database given running c
-    → CellTold g db given (λ choices. unless_skewed db c (map (ticked seconds) c.run.world.sites) (Tick_all seconds)) None running (all_ticked running sites)
+    → CellTold g db given (λ choices. unless_skewed db c (map (ticked seconds) c.run.world.sites) (Tick_all seconds)) None running
+    (all_ticked running sites)
     text text
 all_told {D} {V} {given} g db bound running sites c seconds text are sound fits stands =
     let is = all_items running sites seconds are in
@@ -366,10 +388,13 @@ all_told {D} {V} {given} g db bound running sites c seconds text are sound fits 
         sites = ss;
         sent = stands.sent;
         handed = none_more c.run.world.packets c.handed ∙ stands.handed;
-        armed = subst (λ (l : List (Site D V g)). AreArmed g l c.armed) (sym is) (armed_all g running.sites.items c.armed seconds stands.armed);
+        armed = subst (λ (l : List (Site D V g)). AreArmed g l c.armed) (sym is)
+            (armed_all g running.sites.items c.armed seconds stands.armed);
         disks =
-            subst (λ (l : List Held). HoldRun db.database given false (with_event db c (Tick_all seconds)).cell l) (sym (helds_all g running sites seconds are))
-            (hold_more db.database c (with_event db c (Tick_all seconds)).cell given (Tick_all seconds) (record { opening = refl; events = refl; world = refl })
+            subst (λ (l : List Held). HoldRun db.database given false (with_event db c (Tick_all seconds)).cell l)
+            (sym (helds_all g running sites seconds are))
+            (hold_more db.database c (with_event db c (Tick_all seconds)).cell given (Tick_all seconds)
+            (record { opening = refl; events = refl; world = refl })
             (helds g running) (helds g running) stands.disks
             (reads_all c.run.world.sites seconds (helds g running) stands.disks.read)
             (moved_same _ 0 (helds g running) (λ j x. (0, refl, omega arith))));
@@ -379,7 +404,8 @@ all_told {D} {V} {given} g db bound running sites c seconds text are sound fits 
     }
 
 pub fits_at : {D V : Type 0} (g : Ghosts D) (bound seconds : ℕ) (running : OpenCell D V g) (k : ℕ) (site : Site D V g)
-    → IsSteady g bound running → bound + seconds ≤ MAX_MOMENT → slice_get running.sites.items k ≡ Some site → site.clock + seconds ≤ MAX_MOMENT
+    → IsSteady g bound running → bound + seconds ≤ MAX_MOMENT → slice_get running.sites.items k ≡ Some site
+    → site.clock + seconds ≤ MAX_MOMENT
 fits_at g bound seconds running k site sound fits there =
     let at = sound_at g running.hosts.items 0 bound running.sites.items k site sound.sites there in
     let within = at.within in
@@ -392,9 +418,12 @@ refused_so (Ok x) w w' is is' = absurd is
 refused_so (Err e) w w' is is' = cc
 
 -- a site that is written as it was read, but for its clock
-pub ticked_so : {D V : Type 0} {g : Ghosts D} (running : OpenCell D V g) (k seconds : ℕ) (site other : Site D V g) → slice_get running.sites.items k ≡ Some site
+pub ticked_so : {D V : Type 0} {g : Ghosts D} (running : OpenCell D V g) (k seconds : ℕ) (site other : Site D V g)
+    → slice_get running.sites.items k ≡ Some site
     → slice_get running.sites.items k ≡ Some other
-    → ticked_at running k seconds site ≡ record running { sites = with_item running.sites k (record { clock = site.clock + seconds; server = other.server }) }
+    → ticked_at running k seconds site ≡ record running
+    { sites = with_item running.sites k (record { clock = site.clock + seconds; server = other.server }) }
 ticked_so {D} {V} {g} running k seconds site other there there' =
     let same : site ≡ other = cc in
-    ap (λ (s : Site D V g). record running { sites = with_item running.sites k (record { clock = site.clock + seconds; server = s.server }) }) same
+    ap (λ (s : Site D V g). record running
+    { sites = with_item running.sites k (record { clock = site.clock + seconds; server = s.server }) }) same

@@ -24,10 +24,12 @@ zero_is = record { epoch = omega arith; counter = omega arith }
 
 labelled : (bytes : List ℕ) (v : Version) → version_of_label bytes ≡ Some v → IsVersion v
 labelled bytes v is =
-    by (nat_le (version_in bytes).epoch MAX_COUNTER && nat_le (version_in bytes).counter MAX_COUNTER && bytes_eq bytes (label (version_in bytes))) refl
+    by (nat_le (version_in bytes).epoch MAX_COUNTER && nat_le (version_in bytes).counter MAX_COUNTER
+    && bytes_eq bytes (label (version_in bytes))) refl
   where
     by : (b : Bool)
-        → (nat_le (version_in bytes).epoch MAX_COUNTER && nat_le (version_in bytes).counter MAX_COUNTER && bytes_eq bytes (label (version_in bytes))) ≡ b
+        → (nat_le (version_in bytes).epoch MAX_COUNTER && nat_le (version_in bytes).counter MAX_COUNTER
+        && bytes_eq bytes (label (version_in bytes))) ≡ b
         → IsVersion v
     by true fits =
         let all = both_true (nat_le (version_in bytes).epoch MAX_COUNTER && nat_le (version_in bytes).counter MAX_COUNTER)

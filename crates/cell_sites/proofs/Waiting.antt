@@ -48,7 +48,8 @@ Covers before after = (k : ℕ) → get_or before k false ≡ true → get_or af
 pub covers_none : (before after : List Bool) (low : ℕ) → Covers before after → NoneWaits before low → NoneWaits after low
 covers_none before after low covers none k lt = covers k (none k lt)
 
-pub covers_swept : (sent : List Packet) (before after : List Bool) (host : Host) (below : ℕ) → Covers before after → HasSwept sent before host below
+pub covers_swept : (sent : List Packet) (before after : List Bool) (host : Host) (below : ℕ) → Covers before after
+    → HasSwept sent before host below
     → HasSwept sent after host below
 covers_swept sent before after host below covers swept k p lt there is = covers k (swept k p lt there is)
 
@@ -76,7 +77,8 @@ or_right : (b c : Bool) → c ≡ true → (b || c) ≡ true
 or_right true c is = refl
 or_right false c is = is
 
-pub dropped_covers : (host : Host) (sent : List Packet) (handed : List Bool) → length handed ≡ length sent → Covers handed (dropped_of host sent handed)
+pub dropped_covers : (host : Host) (sent : List Packet) (handed : List Bool) → length handed ≡ length sent
+    → Covers handed (dropped_of host sent handed)
 dropped_covers host [] handed same k is = is
 dropped_covers host (p ∷ sent) [] same k is = is
 dropped_covers host (p ∷ sent) (h ∷ more) same zero is = or_left h (is_of_host host p) is
@@ -93,7 +95,8 @@ dropped_swept host (q ∷ sent) (h ∷ more) below same zero p lt there is =
 dropped_swept host (q ∷ sent) (h ∷ more) below same (suc k) p lt there is =
     dropped_swept host sent more (suc k) (omega arith) k p (omega arith) there is
 
-pub length-dropped : (host : Host) (sent : List Packet) (handed : List Bool) → length handed ≡ length sent → length (dropped_of host sent handed) ≡ length sent
+pub length-dropped : (host : Host) (sent : List Packet) (handed : List Bool) → length handed ≡ length sent
+    → length (dropped_of host sent handed) ≡ length sent
 length-dropped host [] handed same = same
 length-dropped host (p ∷ sent) [] same = same
 length-dropped host (p ∷ sent) (h ∷ more) same =
@@ -102,14 +105,16 @@ length-dropped host (p ∷ sent) (h ∷ more) same =
 -- ---- the walk
 
 -- where it begins: none of those before it waits
-pub walk_begins : (host : Host) (sent : List Packet) (handed : List Bool) (from : ℕ) → length handed ≡ length sent → HasSwept sent handed host from
+pub walk_begins : (host : Host) (sent : List Packet) (handed : List Bool) (from : ℕ) → length handed ≡ length sent
+    → HasSwept sent handed host from
     → from ≤ length sent → dropped_of host sent handed ≡ take from handed ++ dropped_of host (drop from sent) (drop from handed)
 walk_begins host sent handed zero same swept within = refl
 walk_begins host [] handed (suc from) same swept within = absurd (omega arith)
 walk_begins host (p ∷ sent) [] (suc from) same swept within = absurd (omega arith)
 walk_begins host (p ∷ sent) (h ∷ more) (suc from) same swept within =
     ap (λ (b : Bool). b ∷ dropped_of host sent more) (by (is_of_host host p) refl)
-    ∙ ap (λ (l : List Bool). h ∷ l) (walk_begins host sent more from (omega arith) (λ k q lt there is. swept (suc k) q (omega arith) there is) (omega arith))
+    ∙ ap (λ (l : List Bool). h ∷ l)
+    (walk_begins host sent more from (omega arith) (λ k q lt there is. swept (suc k) q (omega arith) there is) (omega arith))
   where
     by : (b : Bool) → is_of_host host p ≡ b → (h || is_of_host host p) ≡ h
     by true is = let one : h ≡ true = swept 0 p (omega arith) refl is in or_left h (is_of_host host p) one ∙ sym one
@@ -120,9 +125,11 @@ walk_begins host (p ∷ sent) (h ∷ more) (suc from) same swept within =
         none false = refl
 
 -- a packet of the host
-pub walk_drops : (host : Host) (sent : List Packet) (handed : List Bool) (k : ℕ) (p : Packet) → length handed ≡ length sent → slice_get sent k ≡ Some p
+pub walk_drops : (host : Host) (sent : List Packet) (handed : List Bool) (k : ℕ) (p : Packet) → length handed ≡ length sent
+    → slice_get sent k ≡ Some p
     → is_of_host host p ≡ true
-    → take k handed ++ dropped_of host (drop k sent) (drop k handed) ≡ take (suc k) (set handed k true) ++ dropped_of host (drop (suc k) sent)
+    → take k handed ++ dropped_of host (drop k sent) (drop k handed) ≡ take (suc k) (set handed k true)
+    ++ dropped_of host (drop (suc k) sent)
     (drop (suc k) (set handed k true))
 walk_drops host [] handed k p same there is = cc
 walk_drops host (q ∷ sent) [] k p same there is = absurd (omega arith)
@@ -133,9 +140,11 @@ walk_drops host (q ∷ sent) (h ∷ more) (suc k) p same there is =
     ap (λ (l : List Bool). h ∷ l) (walk_drops host sent more k p (omega arith) there is)
 
 -- another packet
-pub walk_passes : (host : Host) (sent : List Packet) (handed : List Bool) (k : ℕ) (p : Packet) → length handed ≡ length sent → slice_get sent k ≡ Some p
+pub walk_passes : (host : Host) (sent : List Packet) (handed : List Bool) (k : ℕ) (p : Packet) → length handed ≡ length sent
+    → slice_get sent k ≡ Some p
     → is_of_host host p ≡ false
-    → take k handed ++ dropped_of host (drop k sent) (drop k handed) ≡ take (suc k) handed ++ dropped_of host (drop (suc k) sent) (drop (suc k) handed)
+    → take k handed ++ dropped_of host (drop k sent) (drop k handed) ≡ take (suc k) handed
+    ++ dropped_of host (drop (suc k) sent) (drop (suc k) handed)
 walk_passes host [] handed k p same there is = cc
 walk_passes host (q ∷ sent) [] k p same there is = absurd (omega arith)
 walk_passes host (q ∷ sent) (h ∷ more) zero p same there is =
@@ -167,7 +176,8 @@ bytes_of-push [] p = omega arith
 bytes_of-push (q ∷ sent) p = let rest = bytes_of-push sent p in omega (arith, rest)
 
 -- a packet below a place is none that is sent now
-pub push_swept : (sent : List Packet) (handed : List Bool) (p : Packet) (host : Host) (below : ℕ) → below ≤ length sent → HasSwept sent handed host below
+pub push_swept : (sent : List Packet) (handed : List Bool) (p : Packet) (host : Host) (below : ℕ) → below ≤ length sent
+    → HasSwept sent handed host below
     → HasSwept (sent ++ p ∷ []) (handed ++ false ∷ []) host below
 push_swept sent handed p host below within swept k q lt there is =
     push_covers handed k (swept k q lt (front sent k (omega arith) there) is)
@@ -180,9 +190,11 @@ push_swept sent handed p host below within swept k q lt there is =
 -- ---- places in the words of the code
 
 -- the walk goes on over a packet of the host
-pub walk_drops_at : (host : Host) (sent : List Packet) (handed after : List Bool) (k : ℕ) (p : Packet) → length handed ≡ length sent → slice_get sent k ≡ Some p
+pub walk_drops_at : (host : Host) (sent : List Packet) (handed after : List Bool) (k : ℕ) (p : Packet) → length handed ≡ length sent
+    → slice_get sent k ≡ Some p
     → is_of_host host p ≡ true → after ≡ set handed k true
-    → take k handed ++ dropped_of host (drop k sent) (drop k handed) ≡ take (k + 1) after ++ dropped_of host (drop (k + 1) sent) (drop (k + 1) after)
+    → take k handed ++ dropped_of host (drop k sent) (drop k handed) ≡ take (k + 1) after
+    ++ dropped_of host (drop (k + 1) sent) (drop (k + 1) after)
 walk_drops_at host sent handed after k p same there is e =
     walk_drops host sent handed k p same there is
     ∙ ap (λ (h : List Bool). take (suc k) h ++ dropped_of host (drop (suc k) sent) (drop (suc k) h)) (sym e)
@@ -190,7 +202,8 @@ walk_drops_at host sent handed after k p same there is e =
 
 pub walk_passes_at : (host : Host) (sent : List Packet) (handed after : List Bool) (k : ℕ) (p : Packet) → length handed ≡ length sent
     → slice_get sent k ≡ Some p → is_of_host host p ≡ false → after ≡ handed
-    → take k handed ++ dropped_of host (drop k sent) (drop k handed) ≡ take (k + 1) after ++ dropped_of host (drop (k + 1) sent) (drop (k + 1) after)
+    → take k handed ++ dropped_of host (drop k sent) (drop k handed) ≡ take (k + 1) after
+    ++ dropped_of host (drop (k + 1) sent) (drop (k + 1) after)
 walk_passes_at host sent handed after k p same there is e =
     walk_passes host sent handed k p same there is
     ∙ ap (λ (h : List Bool). take (suc k) h ++ dropped_of host (drop (suc k) sent) (drop (suc k) h)) (sym e)
@@ -198,7 +211,8 @@ walk_passes_at host sent handed after k p same there is e =
 
 pub walk_ends_at : (host : Host) (sent : List Packet) (handed : List Bool) (k : ℕ) → k ≡ length sent
     → take k handed ++ dropped_of host (drop k sent) (drop k handed) ≡ handed
-walk_ends_at host sent handed k is = ap (λ (n : ℕ). take n handed ++ dropped_of host (drop n sent) (drop n handed)) is ∙ walk_ends host sent handed
+walk_ends_at host sent handed k is =
+    ap (λ (n : ℕ). take n handed ++ dropped_of host (drop n sent) (drop n handed)) is ∙ walk_ends host sent handed
 
 pub is_of : (host : Host) (p : Packet) → p.from.0 ≡ host.0 → is_of_host host p ≡ true
 is_of host p is = or_left (p.from.0 == host.0) (p.to.0 == host.0) (eq-eqb p.from.0 host.0 is)
@@ -222,11 +236,14 @@ ltb_not m n is = grind (arith, nat_tests)
 pub passed_none : (number bytes : ℕ) → passed_by number bytes ≡ None → (number ≤ MAX_PACKETS) × (bytes ≤ MAX_PACKET_BYTES)
 passed_none number bytes none = by (nat_lt MAX_PACKETS number) refl (nat_lt MAX_PACKET_BYTES bytes) refl
   where
-    by : (b : Bool) → nat_lt MAX_PACKETS number ≡ b → (c : Bool) → nat_lt MAX_PACKET_BYTES bytes ≡ c → (number ≤ MAX_PACKETS) × (bytes ≤ MAX_PACKET_BYTES)
+    by : (b : Bool) → nat_lt MAX_PACKETS number ≡ b → (c : Bool) → nat_lt MAX_PACKET_BYTES bytes ≡ c → (number ≤ MAX_PACKETS)
+        × (bytes ≤ MAX_PACKET_BYTES)
     by true is c eq = let over : Some (Limit Packets) ≡ None = sym
-        (ap (λ (b : Bool). if b then Some (Limit Packets) else (if nat_lt MAX_PACKET_BYTES bytes then Some (Limit PacketBytes) else None)) is)
+        (ap (λ (b : Bool). if b then Some
+        (Limit Packets) else (if nat_lt MAX_PACKET_BYTES bytes then Some (Limit PacketBytes) else None)) is)
         ∙ none in absurd cc
     by false is true eq = let over : Some (Limit PacketBytes) ≡ None = sym
-        (ap (λ (b : Bool). if b then Some (Limit Packets) else (if nat_lt MAX_PACKET_BYTES bytes then Some (Limit PacketBytes) else None)) is
+        (ap (λ (b : Bool). if b then Some
+        (Limit Packets) else (if nat_lt MAX_PACKET_BYTES bytes then Some (Limit PacketBytes) else None)) is
         ∙ ap (λ (b : Bool). if b then Some (Limit PacketBytes) else None) eq) ∙ none in absurd cc
     by false is false eq = (ltb_not MAX_PACKETS number is, ltb_not MAX_PACKET_BYTES bytes eq)

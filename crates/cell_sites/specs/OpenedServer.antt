@@ -44,7 +44,8 @@ pub record OpensDisk {D : Type 0} (g : Ghosts D) (failed : Bool) (before after :
 -- which server stands there then: it was opened on a durable state; or it stays down, since the disk failed or memory ran out
 abbrev pub ServerIs : {D V : Type 0} (g : Ghosts D) → Member → (clock : ℕ) → Durable → OpenEnd → D → Server D V g → Type 0
 ServerIs g m clock d (opened.Up version) disk server =
-    (server_node server ≡ Up (opened_server (length m.hosts) d clock)) × (version ≡ d.version) × IsSoundServer g m clock server × IsVersion d.version
+    (server_node server ≡ Up (opened_server (length m.hosts) d clock)) × (version ≡ d.version) × IsSoundServer g m clock server
+    × IsVersion d.version
 ServerIs g m clock d opened.StaysDown disk server = (server_node server ≡ Down) × (g.faults disk < g.faults (server_disk server))
 ServerIs g m clock d opened.NoMemory disk server = server_node server ≡ Down
 

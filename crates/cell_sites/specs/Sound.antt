@@ -62,12 +62,14 @@ pub record IsSteady {D V : Type 0} (g : Ghosts D) (bound : ℕ) (running : OpenC
   pub told : running.outputs ≡ []
 
 -- A server that is up and not halted takes writes, and the calls that it has not answered are calls of the cell, each under its id.
-pub record KeepsNode {D V : Type 0} {g : Ghosts D} (db : Database) (hosts : List Host) (calls : List (List ℕ)) (node : Node D V g) : Type 0 where
+pub record KeepsNode {D V : Type 0} {g : Ghosts D} (db : Database) (hosts : List Host) (calls : List (List ℕ))
+    (node : Node D V g) : Type 0 where
   pub takes : IsKeeping db (length hosts) (up_server node)
   pub line : AllStandUnder calls (unanswered (up_server node))
 
 abbrev pub KeepsServer : {D V : Type 0} {g : Ghosts D} → Database → List Host → List (List ℕ) → Server D V g → Type 0
-KeepsServer {D} {V} {g} db hosts calls s = (node : Node D V g) → s ≡ server.Up node → node.store.failed ≡ false → KeepsNode db hosts calls node
+KeepsServer {D} {V} {g} db hosts calls s = (node : Node D V g) → s ≡ server.Up node → node.store.failed ≡ false
+    → KeepsNode db hosts calls node
 
 -- so each server of a cell; and its packets go from host to host of it
 pub record Keeps {D V : Type 0} {g : Ghosts D} (db : Database) (running : OpenCell D V g) : Type 0 where

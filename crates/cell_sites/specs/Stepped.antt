@@ -72,7 +72,8 @@ pub record IsShortIn {D V : Type 0} (g : Ghosts D) (db : Database) (m : Member) 
   pub sound : StaysSound g m clock later
 
 -- A server made a step of the rules at its clock, with these outputs, by how it ended for the cell.
-abbrev pub NodeStepped : {D V : Type 0} (g : Ghosts D) → Database → Member → (clock : ℕ) → NodeEvent → SiteEnd → (node later : Node D V g) → List Output
+abbrev pub NodeStepped : {D V : Type 0} (g : Ghosts D) → Database → Member → (clock : ℕ) → NodeEvent → SiteEnd
+    → (node later : Node D V g) → List Output
     → Type 0
 NodeStepped g db m clock event ended.Made node later out = IsMade g db m clock event node later out
 NodeStepped g db m clock event ended.Halts node later out = IsHalted g db m clock event node later out

@@ -67,7 +67,8 @@ abbrev pub halt_marks : ℕ → Bool → List Happening
 halt_marks k halts = if halts then Halts k ∷ [] else []
 
 -- all of a step was told: its outputs, and then whether its server was halted
-pub record WholeTold (script_db : ScriptDatabase) (hosts : List Host) (k : ℕ) (halts : Bool) (t : Telling) (shown : List Shown) (text_after : List ℕ)
+pub record WholeTold (script_db : ScriptDatabase) (hosts : List Host) (k : ℕ) (halts : Bool) (t : Telling) (shown : List Shown)
+    (text_after : List ℕ)
     (sent_after : List Packet) : Type 0 where
   pub text : List ℕ
   pub told : told_of script_db hosts k t shown ≡ record { after = record { text = text; sent = sent_after }; ending = None }

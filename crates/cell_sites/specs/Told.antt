@@ -18,7 +18,8 @@ IsAfter g db given None running c = IsModelledBy g db given running c
 IsAfter g db given (Some ending) running c = HoldRun db given false c (helds g running)
 
 -- A line was run to its end with some choices: it ended so, what it told was added to a text, and each fault that it told is one of that disk.
-pub record CellTold {D V : Type 0} (g : Ghosts D) (db : ScriptDatabase) (given : List ℕ) (run : Choices → Run_or_why) (ended : Option Ending)
+pub record CellTold {D V : Type 0} (g : Ghosts D) (db : ScriptDatabase) (given : List ℕ) (run : Choices → Run_or_why)
+    (ended : Option Ending)
     (before after : OpenCell D V g) (text_before text_after : List ℕ) : Type 0 where
   pub choices : Choices
   pub whole : IsWhole choices
@@ -43,5 +44,6 @@ pub record IsShortAfter {D V : Type 0} (g : Ghosts D) (db : Database) (given : L
   pub causes : AreRises 0 ran.items (helds g before) (helds g after)
 
 -- Memory ran out in a line: the disks hold what was before it, or what it left.
-abbrev pub IsShort : {D V : Type 0} (g : Ghosts D) → Database → List ℕ → (Choices → Run_or_why) → Cell → (before after : OpenCell D V g) → Type 0
+abbrev pub IsShort : {D V : Type 0} (g : Ghosts D) → Database → List ℕ → (Choices → Run_or_why) → Cell → (before after : OpenCell D V g)
+    → Type 0
 IsShort g db given run c before after = HoldRun db given true c (helds g after) ⊎ IsShortAfter g db given run before after

@@ -17,7 +17,8 @@ last_is [] rest some none = absurd (omega arith)
 last_is (b ∷ line) rest some none = ap (λ (r : List ℕ). (b ∷ line) ∷ lines_of r) (sym none)
 
 -- a line that was read is the first of those that were left
-pub first_line : (ended : Bool) (text line rest : List ℕ) → HasNoLf line → IsFirstLine ended text line rest → lines_of text ≡ line ∷ lines_of rest
+pub first_line : (ended : Bool) (text line rest : List ℕ) → HasNoLf line → IsFirstLine ended text line rest
+    → lines_of text ≡ line ∷ lines_of rest
 first_line false text line rest no_lf read = ap lines_of read ∙ lines_of-line line rest no_lf
 first_line true text line rest no_lf read = ap lines_of read.0 ∙ lines_of-part line no_lf ∙ last_is line rest read.2 read.1
 
@@ -50,14 +51,16 @@ done_within begun tool hosts line before after status within done =
 
 -- one line more
 done_more : (begun : Begun) (tool : Tool) (hosts : List ℕ) (lines : List (List ℕ)) (line : List ℕ) (before middle after : Standing) →
-    LinesDone begun tool hosts lines before middle → LineDone begun tool hosts line middle after 0 → LinesDone begun tool hosts (lines ++ line ∷ []) before after
+    LinesDone begun tool hosts lines before middle → LineDone begun tool hosts line middle after 0
+    → LinesDone begun tool hosts (lines ++ line ∷ []) before after
 done_more begun tool hosts [] line before middle after ran done =
     (after, subst (λ (s : Standing). LineDone begun tool hosts line s after 0) ran done, refl)
 done_more begun tool hosts (first ∷ lines) line before middle after (between, one, others) done =
     (between, one, done_more begun tool hosts lines line between middle after others done)
 
 -- the lines of a text so far, of which each ended with 0, and what is left of it
-pub record SoFar (begun : Begun) (tool : Tool) (hosts text : List ℕ) (number : ℕ) (ended : Bool) (left : Option (List ℕ)) (before now : Standing) : Type 0 where
+pub record SoFar (begun : Begun) (tool : Tool) (hosts text : List ℕ) (number : ℕ) (ended : Bool) (left : Option (List ℕ))
+    (before now : Standing) : Type 0 where
   pub lines : List (List ℕ)
   pub rest : List ℕ
   pub text_is : lines_of text ≡ lines ++ lines_of rest
@@ -91,7 +94,8 @@ module _ (begun : Begun) (tool : Tool) (hosts : List ℕ) where
     lines = so.lines ++ one.line ∷ [];
     rest = one.taken.rest;
     text_is =
-        so.text_is ∙ ap (λ (m : List (List ℕ)). so.lines ++ m) (first_line now so.rest one.line one.taken.rest one.taken.no_lf one.taken.read)
+        so.text_is ∙ ap (λ (m : List (List ℕ)). so.lines ++ m)
+        (first_line now so.rest one.line one.taken.rest one.taken.no_lf one.taken.read)
         ∙ sym (append_assoc so.lines (one.line ∷ []) (lines_of one.taken.rest));
     count = omega (arith, length_push so.lines one.line, so.count);
     remains = one.taken.left;
@@ -106,19 +110,28 @@ module _ (begun : Begun) (tool : Tool) (hosts : List ℕ) where
       IfSome first (λ text. SoFar begun tool hosts text (number + 1) now later before after)
   so_far_on None number failed was now left later before middle after r none so one = tt
   so_far_on (Some text) number failed was now left later before middle after r none so one =
-      let turned = of_left (λ (rest : List ℕ). Turned begun tool hosts number failed was rest later now middle after r) left so.rest so.remains one in
+      let turned = of_left
+      (λ (rest : List ℕ). Turned begun tool hosts number failed was rest later now middle after r) left so.rest so.remains one in
       more_so_far text number was now left later before middle after so
       (subst (λ (o : Option ℕ). Turned begun tool hosts number failed was so.rest later now middle after o) none turned)
 
   -- ---- no line more
 
-  ends_since : (number : ℕ) (failed failed_since : Type 0) (rest : List ℕ) (later : Option (List ℕ)) (before after : Standing) (status : ℕ) →
+  ends_since : (number : ℕ) (failed failed_since : Type 0) (rest : List ℕ) (later : Option (List ℕ)) (before after : Standing)
+      (status : ℕ) →
       (failed → failed_since) → Ends begun tool hosts number failed rest later before after status →
       Ends begun tool hosts number failed_since rest later before after status
   ends_since number failed failed_since rest later before after status since (inl all) = inl all
   ends_since number failed failed_since rest later before after status since (inr (inl line)) = inr (inl line)
   ends_since number failed failed_since rest later before after status since (inr (inr (inl read))) =
-      inr (inr (inl (record { fault = since read.fault; between = read.between; own = read.own; refused = read.refused; named = read.named })))
+      inr (inr (inl (record {
+        fault = since read.fault;
+        between = read.between;
+        own = read.own;
+        refused = read.refused;
+        named =
+            read.named;
+      })))
   ends_since number failed failed_since rest later before after status since (inr (inr (inr short))) = inr (inr (inr short))
 
   turn_ends : (number : ℕ) (failed : Type 0) (was : Bool) (rest : List ℕ) (later : Option (List ℕ)) (before after : Standing) (status : ℕ) →
@@ -134,7 +147,8 @@ module _ (begun : Begun) (tool : Tool) (hosts : List ℕ) where
       IfSome first (λ text. SourceRan begun tool hosts text failed_since later before after status)
   ran_to None number failed failed_since was left later before middle after status since so ends = tt
   ran_to (Some text) number failed failed_since was left later before middle after status since so ends =
-      let last = of_left (λ (rest : List ℕ). TurnEnds begun tool hosts number failed was rest later middle after status) left so.rest so.remains ends in
+      let last = of_left (λ (rest : List ℕ). TurnEnds begun tool hosts number failed was rest later middle after status) left so.rest
+      so.remains ends in
       let ended = turn_ends number failed was so.rest later middle after status so.no_more last in
       record {
         lines = so.lines;
@@ -147,7 +161,8 @@ module _ (begun : Begun) (tool : Tool) (hosts : List ℕ) where
       }
 
   -- memory ran out, between two lines or before the first
-  pub ran_short : (first : Option (List ℕ)) (number : ℕ) (failed : Type 0) (was : Bool) (left : Option (List ℕ)) (before now : Standing) (status : ℕ) →
+  pub ran_short : (first : Option (List ℕ)) (number : ℕ) (failed : Type 0) (was : Bool) (left : Option (List ℕ)) (before now : Standing)
+      (status : ℕ) →
       status ≡ 5 → IfSome first (λ text. SoFar begun tool hosts text number was left before now) →
       IfSome first (λ text. SourceRan begun tool hosts text failed left before now status)
   ran_short None number failed was left before now status is so = tt
@@ -180,7 +195,8 @@ module _ (begun : Begun) (tool : Tool) (hosts : List ℕ) where
       absurd (named_bad number read.own read.between after status read.named well)
   whole_at number failed rest later before after status well (inr (inr (inr short))) = absurd (omega (arith, short.0, well))
 
-  pub read_whole : (first : Option (List ℕ)) (failed : Type 0) (later : Option (List ℕ)) (before after : Standing) (status : ℕ) → status ≡ 0 →
+  pub read_whole : (first : Option (List ℕ)) (failed : Type 0) (later : Option (List ℕ)) (before after : Standing) (status : ℕ)
+      → status ≡ 0 →
       IfSome first (λ text. SourceRan begun tool hosts text failed later before after status) → IfSome first (λ _. later ≡ Some [])
   read_whole None failed later before after status well ran = tt
   read_whole (Some text) failed later before after status well ran =

@@ -5,7 +5,8 @@ use Rattle.tool_base.specs.Ending.{Appended}
 use Rattle.client_shell.specs.Runs.{Told}
 use Rattle.client_shell.specs.Sources.{Named, line_named}
 
-pub named_told : (tool : Tool) (number own : ℕ) (bytes : List ℕ) (status : ℕ) (before after : Option (List ℕ)) → bytes ≡ line_named tool number own →
+pub named_told : (tool : Tool) (number own : ℕ) (bytes : List ℕ) (status : ℕ) (before after : Option (List ℕ))
+    → bytes ≡ line_named tool number own →
     Told bytes own status before after → Named tool number own before after status
 named_told tool number own bytes status before after same (inl whole) =
     inl (whole.0, subst (λ (t : List ℕ). Appended before after t) same whole.1)

@@ -28,7 +28,8 @@ pub told_whole : (text bytes : List ℕ) (own : ℕ) (before after : Option (Lis
     Told text own own before after
 told_whole text bytes own before after same said = inl (refl, subst (λ (t : List ℕ). Appended before after t) same said)
 
-pub told_front : (text bytes : List ℕ) (own status : ℕ) (before after : Option (List ℕ)) → bytes ≡ text → status ≡ 4 → FrontOf before after bytes →
+pub told_front : (text bytes : List ℕ) (own status : ℕ) (before after : Option (List ℕ)) → bytes ≡ text → status ≡ 4
+    → FrontOf before after bytes →
     Told text own status before after
 told_front text bytes own status before after same is said = inr (is, subst (λ (t : List ℕ). FrontOf before after t) same said)
 
@@ -58,7 +59,8 @@ declines_bad line status before after (inr (inl four, front)) = λ none. absurd 
 declines_bad line status before after (inr (inr five, front)) = λ none. absurd (omega (arith, five, none))
 
 -- words were refused on standard error
-pub refused_at : (tool : Tool) (why : List ℕ) (kept : List Exchange) (out before after : Option (List ℕ)) (others faults faults_after status : ℕ) →
+pub refused_at : (tool : Tool) (why : List ℕ) (kept : List Exchange) (out before after : Option (List ℕ))
+    (others faults faults_after status : ℕ) →
     Declines (line_of tool why) status before after → HasCause faults faults_after (status ≡ 4) →
     Refused tool why (standing kept out before others faults) (standing kept out after others faults_after) status
 refused_at tool why kept out before after others faults faults_after status said cause = record {
@@ -69,28 +71,34 @@ refused_at tool why kept out before after others faults faults_after status said
 }
 
 -- memory ran out before it was known whether hosts are named
-pub short_runs : (begun : Begun) (b : Bool) (tool : Tool) (words : List (List ℕ)) (before after : Standing) (status : ℕ) → RanShort before after status →
+pub short_runs : (begun : Begun) (b : Bool) (tool : Tool) (words : List (List ℕ)) (before after : Standing) (status : ℕ)
+    → RanShort before after status →
     RunsIf begun b tool words before after status
 short_runs begun true tool words before after status short = inr short
 short_runs begun false tool words before after status short = inr short
 
 pub runs_named : (begun : Begun) (b : Bool) (tool : Tool) (words : List (List ℕ)) (before after : Standing) (status : ℕ) → b ≡ true →
     CommandRan begun words before after status → RunsIf begun b tool words before after status
-runs_named begun b tool words before after status is ran = subst (λ (x : Bool). RunsIf begun x tool words before after status) (sym is) (inl ran)
+runs_named begun b tool words before after status is ran =
+    subst (λ (x : Bool). RunsIf begun x tool words before after status) (sym is) (inl ran)
 
 pub runs_refused : (begun : Begun) (b : Bool) (tool : Tool) (words : List (List ℕ)) (before after : Standing) (status : ℕ) → b ≡ false →
     RunsIf begun false tool words before after status → RunsIf begun b tool words before after status
-runs_refused begun b tool words before after status is refused = subst (λ (x : Bool). RunsIf begun x tool words before after status) (sym is) refused
+runs_refused begun b tool words before after status is refused =
+    subst (λ (x : Bool). RunsIf begun x tool words before after status) (sym is) refused
 
 -- a plan is this one
-pub plan_is : (begun : Begun) (tool : Tool) (plan one : Plan) (before after : Standing) (status : ℕ) → plan ≡ one → PlanDone begun tool one before after status →
+pub plan_is : (begun : Begun) (tool : Tool) (plan one : Plan) (before after : Standing) (status : ℕ) → plan ≡ one
+    → PlanDone begun tool one before after status →
     PlanDone begun tool plan before after status
 plan_is begun tool plan one before after status is done = subst (λ (p : Plan). PlanDone begun tool p before after status) (sym is) done
 
 -- a line is passed over, or is not
-pub passed : (begun : Begun) (b : Bool) (tool : Tool) (hosts line : List ℕ) (at : Standing) → b ≡ true → DoneUnless begun b tool hosts line at at 0
+pub passed : (begun : Begun) (b : Bool) (tool : Tool) (hosts line : List ℕ) (at : Standing) → b ≡ true
+    → DoneUnless begun b tool hosts line at at 0
 passed begun b tool hosts line at is = subst (λ (x : Bool). DoneUnless begun x tool hosts line at at 0) (sym is) (refl, refl)
 
 pub not_passed : (begun : Begun) (b : Bool) (tool : Tool) (hosts line : List ℕ) (before after : Standing) (status : ℕ) → b ≡ false →
     WordsDone begun tool hosts line before after status → DoneUnless begun b tool hosts line before after status
-not_passed begun b tool hosts line before after status is done = subst (λ (x : Bool). DoneUnless begun x tool hosts line before after status) (sym is) done
+not_passed begun b tool hosts line before after status is done =
+    subst (λ (x : Bool). DoneUnless begun x tool hosts line before after status) (sym is) done

@@ -24,7 +24,8 @@ abbrev GoesOn : Tool → ℕ → ℕ → Standing → Standing → Option ℕ �
 GoesOn tool number own before after None = (own ≡ 0) × (after ≡ before)
 GoesOn tool number own before after (Some status) = IsNamed tool number own before after status
 
-goes_on : (tool : Tool) (number own : ℕ) (kept : List Exchange) (out before after : Option (List ℕ)) (others faults faults_after : ℕ) (r : Option ℕ) →
+goes_on : (tool : Tool) (number own : ℕ) (kept : List Exchange) (out before after : Option (List ℕ)) (others faults faults_after : ℕ)
+    (r : Option ℕ) →
     NamedUnlessWell tool number own before after faults faults_after r →
     GoesOn tool number own (standing kept out before others faults) (standing kept out after others faults_after) r
 goes_on tool number own kept out before after others faults faults_after None well =
@@ -49,14 +50,16 @@ module _ (begun : Begun) (tool : Tool) (hosts : List ℕ) (number : ℕ) (failed
       inl (record { no_more = none; read = ended refl ∙ ap (λ (t : List ℕ). Some t) none; well = refl; still = refl })
 
   line_turned : (text line : List ℕ) (before between after : Standing) (own : ℕ) (r : Option ℕ) →
-      ReadsLine MAX_COMMAND line_end.Line text later line now → LineWithin begun tool hosts line before between own → GoesOn tool number own between after r →
+      ReadsLine MAX_COMMAND line_end.Line text later line now → LineWithin begun tool hosts line before between own
+      → GoesOn tool number own between after r →
       Turned begun tool hosts number failed false text later now before after r
   line_turned text line before between after own None read done goes = record {
     going = refl;
     line = line;
     taken = read;
     done = subst (λ (s : Standing). LineDone begun tool hosts line before s 0) (sym goes.1)
-        (subst (λ (n : ℕ). LineDone begun tool hosts line before between n) goes.0 (done_within begun tool hosts line before between own read.bound done));
+        (subst (λ (n : ℕ). LineDone begun tool hosts line before between n) goes.0
+        (done_within begun tool hosts line before between own read.bound done));
   }
   line_turned text line before between after own (Some status) read done goes = inr (inl (record {
     line = line;
@@ -105,31 +108,39 @@ module _ (begun : Begun) (tool : Tool) (hosts : List ℕ) (number : ℕ) (failed
   pub turned_line : (was : Bool) (left : Option (List ℕ)) (read line : List ℕ) (before : Standing) (kept : List Exchange)
       (out err err_after : Option (List ℕ)) (others faults faults_after own : ℕ) (r : Option ℕ) → was ≡ false →
       (was ≡ false → IfSome left (λ text. ReadsLine MAX_COMMAND line_end.Line text later read now)) → line ≡ read →
-      LineWithin begun tool hosts line before (standing kept out err others faults) own → NamedUnlessWell tool number own err err_after faults faults_after r →
-      IfSome left (λ text. Turned begun tool hosts number failed was text later now before (standing kept out err_after others faults_after) r)
+      LineWithin begun tool hosts line before (standing kept out err others faults) own
+      → NamedUnlessWell tool number own err err_after faults faults_after r →
+      IfSome left (λ text. Turned begun tool hosts number failed was text later now before
+      (standing kept out err_after others faults_after) r)
   turned_line was left read line before kept out err err_after others faults faults_after own r going told same done named =
       let at : List ℕ → Type 0 = λ l. LineWithin begun tool hosts l before (standing kept out err others faults) own in
       turned_so (λ (text : List ℕ). ReadsLine MAX_COMMAND line_end.Line text later read now) was left before
       (standing kept out err_after others faults_after) r going (told going)
-      (λ text reads. line_turned text read before (standing kept out err others faults) (standing kept out err_after others faults_after) own r reads
+      (λ text reads. line_turned text read before (standing kept out err others faults)
+      (standing kept out err_after others faults_after) own r reads
       (subst at same done) (goes_on tool number own kept out err err_after others faults faults_after r named))
 
   pub turned_long : (was : Bool) (left : Option (List ℕ)) (read : List ℕ) (before : Standing) (kept : List Exchange)
       (out err err_after : Option (List ℕ)) (others faults faults_after own : ℕ) (r : Option ℕ) → was ≡ false →
       (was ≡ false → IfSome left (λ text. ReadsLine MAX_COMMAND line_end.TooLong text later read now)) → own ≢ 0 →
-      Refused tool LONG_LINE.now before (standing kept out err others faults) own → NamedUnlessWell tool number own err err_after faults faults_after r →
-      IfSome left (λ text. Turned begun tool hosts number failed was text later now before (standing kept out err_after others faults_after) r)
+      Refused tool LONG_LINE.now before (standing kept out err others faults) own
+      → NamedUnlessWell tool number own err err_after faults faults_after r →
+      IfSome left (λ text. Turned begun tool hosts number failed was text later now before
+      (standing kept out err_after others faults_after) r)
   turned_long was left read before kept out err err_after others faults faults_after own r going told bad refused named =
       turned_so (λ (text : List ℕ). ReadsLine MAX_COMMAND line_end.TooLong text later read now) was left before
       (standing kept out err_after others faults_after) r going (told going)
-      (λ text reads. long_turned text read before (standing kept out err others faults) (standing kept out err_after others faults_after) own r reads
+      (λ text reads. long_turned text read before (standing kept out err others faults)
+      (standing kept out err_after others faults_after) own r reads
       bad refused (goes_on tool number own kept out err err_after others faults faults_after r named))
 
   pub turned_fault : (was : Bool) (left : Option (List ℕ)) (read : List ℕ) (before : Standing) (kept : List Exchange)
       (out err err_after : Option (List ℕ)) (others faults faults_after own : ℕ) (r : Option ℕ) → was ≡ false →
       (was ≡ false → IfSome left (λ text. ReadsLine MAX_COMMAND line_end.Failed text later read now)) → failed → own ≢ 0 →
-      Refused tool NO_READ.now before (standing kept out err others faults) own → NamedUnlessWell tool number own err err_after faults faults_after r →
-      IfSome left (λ text. Turned begun tool hosts number failed was text later now before (standing kept out err_after others faults_after) r)
+      Refused tool NO_READ.now before (standing kept out err others faults) own
+      → NamedUnlessWell tool number own err err_after faults faults_after r →
+      IfSome left (λ text. Turned begun tool hosts number failed was text later now before
+      (standing kept out err_after others faults_after) r)
   turned_fault was left read before kept out err err_after others faults faults_after own r going told fault bad refused named =
       turned_so (λ (text : List ℕ). ReadsLine MAX_COMMAND line_end.Failed text later read now) was left before
       (standing kept out err_after others faults_after) r going (told going)

@@ -43,7 +43,8 @@ DoneUnlessLong begun false tool hosts line before after status = LineWithin begu
 
 -- what comes of a line
 abbrev pub LineDone : Begun → Tool → List ℕ → List ℕ → Standing → Standing → ℕ → Type 0
-LineDone begun tool hosts line before after status = DoneUnlessLong begun (nat_lt MAX_COMMAND (length line)) tool hosts line before after status
+LineDone begun tool hosts line before after status =
+    DoneUnlessLong begun (nat_lt MAX_COMMAND (length line)) tool hosts line before after status
 
 -- lines one behind the other, each of which ended with 0
 abbrev pub LinesDone : Begun → Tool → List ℕ → List (List ℕ) → Standing → Standing → Type 0
@@ -76,7 +77,8 @@ pub record AllDone (rest : List ℕ) (left : Option (List ℕ)) (before after : 
   pub still : after ≡ before
 
 -- The first of these lines did not end with 0.
-pub record LineFails (begun : Begun) (tool : Tool) (hosts : List ℕ) (number : ℕ) (lines : List (List ℕ)) (before after : Standing) (status : ℕ) : Type 0 where
+pub record LineFails (begun : Begun) (tool : Tool) (hosts : List ℕ) (number : ℕ) (lines : List (List ℕ)) (before after : Standing)
+    (status : ℕ) : Type 0 where
   pub line : List ℕ
   pub later : List (List ℕ)
   pub first : lines ≡ line ∷ later
@@ -102,7 +104,8 @@ Ends begun tool hosts number failed rest left before after status =
     ⊎ RanShort before after status
 
 -- The commands of a text were run one behind the other, in the order of its lines, up to the first that did not end with 0.
-pub record SourceRan (begun : Begun) (tool : Tool) (hosts text : List ℕ) (failed : Type 0) (left : Option (List ℕ)) (before after : Standing) (status : ℕ) : Type 0 where
+pub record SourceRan (begun : Begun) (tool : Tool) (hosts text : List ℕ) (failed : Type 0) (left : Option (List ℕ))
+    (before after : Standing) (status : ℕ) : Type 0 where
   pub lines : List (List ℕ)
   pub rest : List ℕ
   pub text_is : lines_of text ≡ lines ++ lines_of rest

@@ -34,7 +34,8 @@ use Rattle.node_server.specs.Ends.{Explains, FollowsWords, IsComplete, IsQuiet, 
 use Rattle.node_server.proofs.Showing.{shows_refused}
 
 -- an opening that fails under one name fails under another
-calls_as : {D : Type 0} (g : Ghosts D) (most : ℕ) (old new : D) (A B : Type 0) → (A → B) → (B → A) → CallsAtMost g most old new A → CallsAtMost g most old new B
+calls_as : {D : Type 0} (g : Ghosts D) (most : ℕ) (old new : D) (A B : Type 0) → (A → B) → (B → A) → CallsAtMost g most old new A
+    → CallsAtMost g most old new B
 calls_as g most old new A B to from c = record {
   at_most = c.at_most;
   advances = c.advances;
@@ -42,7 +43,13 @@ calls_as g most old new A B to from c = record {
   room = c.room;
   tells = c.tells;
   cause = record { never_falls = c.cause.never_falls; rose = λ b. c.cause.rose (from b) };
-  own = record { raised = λ b runs. c.own.raised (from b) runs; brought = λ b stops. c.own.brought (from b) stops; kept = λ no. c.own.kept (λ a. no (to a)) };
+  own =
+      record {
+        raised = λ b runs. c.own.raised (from b) runs;
+        brought = λ b stops. c.own.brought (from b) stops;
+        kept = λ no. c.own.kept
+            (λ a. no (to a));
+      };
 }
 
 opening_as : {D : Type 0} (g : Ghosts D) (old new : D) (A B : Type 0) → (A → B) → (B → A) → IsOpening g old new A → IsOpening g old new B
@@ -92,7 +99,8 @@ alike None new is = tt
 alike (Some fs) new is = λ some.
     (let P : Option Files → Type 0 = λ files. IsSomeAnd files (StandAlike fs) in subst P (sym is) (some.0, some.1, some.2, some.2))
 
-reads_same : {D : Type 0} (g : Ghosts D) (old new : D) → IsSettled (g.files new) (g.may_leave new) → g.files new ≡ g.files old → ReadsAsBefore g old new
+reads_same : {D : Type 0} (g : Ghosts D) (old new : D) → IsSettled (g.files new) (g.may_leave new) → g.files new ≡ g.files old
+    → ReadsAsBefore g old new
 reads_same g old new settled same = (settled, alike (g.files old) (g.files new) same)
 
 leaves_unopened : {D : Type 0} (g : Ghosts D) (old new : D) (why : StoreFault) → (why ≢ fault.DiskFault → OnlyReads g old new ⊥)
@@ -103,9 +111,11 @@ leaves_unopened g old new (fault.TooLarge bytes) unchanged settled =
     reads_same g old new (settled (λ is. absurd cc)) ((unchanged (λ is. absurd cc)).files (λ no. no))
 leaves_unopened g old new (fault.NotNewer own given) unchanged settled =
     reads_same g old new (settled (λ is. absurd cc)) ((unchanged (λ is. absurd cc)).files (λ no. no))
-leaves_unopened g old new fault.NoMemory unchanged settled = reads_same g old new (settled (λ is. absurd cc)) ((unchanged (λ is. absurd cc)).files (λ no. no))
+leaves_unopened g old new fault.NoMemory unchanged settled =
+    reads_same g old new (settled (λ is. absurd cc)) ((unchanged (λ is. absurd cc)).files (λ no. no))
 
-refused_as : {D J : Type 0} (g : Ghosts D) (items_of : J → List JournalItem) (limits_of : J → Limits) (limits : Limits) (may_close may_refuse : Type 0) (old new : D) (why : StoreFault)
+refused_as : {D J : Type 0} (g : Ghosts D) (items_of : J → List JournalItem) (limits_of : J → Limits) (limits : Limits)
+    (may_close may_refuse : Type 0) (old new : D) (why : StoreFault)
     → IfSome (g.files old) (λ fs. RefusesFiles fs why) → (why ≢ fault.DiskFault → OnlyReads g old new ⊥)
     → (why ≢ fault.DiskFault → IsSettled (g.files new) (g.may_leave new)) → IsOpening g old new (why ≡ fault.DiskFault)
     → Explains g items_of limits_of limits may_close may_refuse old new (kind_of_fault why) None
@@ -118,11 +128,16 @@ refused_as g items_of limits_of limits may_close may_refuse old new why files un
   run = λ none. not_run why;
   opened = tt;
   kept = tt;
-  disk = (leaves_unopened g old new why unchanged settled, inr (opening_as g old new (why ≡ fault.DiskFault) (kind_of_fault why ≡ kind.DiskFault) (to_kind why) (from_kind why) opening));
+  disk = (
+    leaves_unopened g old new why unchanged settled,
+    inr
+        (opening_as g old new (why ≡ fault.DiskFault) (kind_of_fault why ≡ kind.DiskFault) (to_kind why) (from_kind why) opening),
+  );
 }
 
 -- a server that its store refuses
-pub refused : {D J : Type 0} (g : Ghosts D) (items_of : J → List JournalItem) (limits_of : J → Limits) (limits : Limits) (may_close may_refuse : Type 0) (old new : D) (why : StoreFault) (ended : ServerKind)
+pub refused : {D J : Type 0} (g : Ghosts D) (items_of : J → List JournalItem) (limits_of : J → Limits) (limits : Limits)
+    (may_close may_refuse : Type 0) (old new : D) (why : StoreFault) (ended : ServerKind)
     → ended ≡ kind_of_fault why → IfSome (g.files old) (λ fs. RefusesFiles fs why) → (why ≢ fault.DiskFault → OnlyReads g old new ⊥)
     → (why ≢ fault.DiskFault → IsSettled (g.files new) (g.may_leave new)) → IsOpening g old new (why ≡ fault.DiskFault)
     → Explains g items_of limits_of limits may_close may_refuse old new ended None
@@ -138,8 +153,10 @@ shows_no_memory : (files : Option Files) → IfSome files (λ fs. ShowsFiles fs 
 shows_no_memory None = tt
 shows_no_memory (Some fs) = tt
 
-unread_as : {D J : Type 0} (g : Ghosts D) (items_of : J → List JournalItem) (limits_of : J → Limits) (limits : Limits) (may_close may_refuse : Type 0) (disk : D) (why : WordsFault)
-    → IsSettled (g.files disk) (g.may_leave disk) → Explains g items_of limits_of limits may_close may_refuse disk disk (kind_of_words why) None
+unread_as : {D J : Type 0} (g : Ghosts D) (items_of : J → List JournalItem) (limits_of : J → Limits) (limits : Limits)
+    (may_close may_refuse : Type 0) (disk : D) (why : WordsFault)
+    → IsSettled (g.files disk) (g.may_leave disk)
+    → Explains g items_of limits_of limits may_close may_refuse disk disk (kind_of_words why) None
 unread_as g items_of limits_of limits may_close may_refuse disk (Word place) settled = record {
   closed = λ is. absurd cc;
   refused = λ is. absurd cc;
@@ -164,8 +181,10 @@ unread_as g items_of limits_of limits may_close may_refuse disk NoMemory settled
 }
 
 -- a server whose words are refused
-pub unread : {D J : Type 0} (g : Ghosts D) (items_of : J → List JournalItem) (limits_of : J → Limits) (limits : Limits) (may_close may_refuse : Type 0) (disk : D) (why : WordsFault) (ended : ServerKind)
-    → IsSettled (g.files disk) (g.may_leave disk) → ended ≡ kind_of_words why → Explains g items_of limits_of limits may_close may_refuse disk disk ended None
+pub unread : {D J : Type 0} (g : Ghosts D) (items_of : J → List JournalItem) (limits_of : J → Limits) (limits : Limits)
+    (may_close may_refuse : Type 0) (disk : D) (why : WordsFault) (ended : ServerKind)
+    → IsSettled (g.files disk) (g.may_leave disk) → ended ≡ kind_of_words why
+    → Explains g items_of limits_of limits may_close may_refuse disk disk ended None
 unread g items_of limits_of limits may_close may_refuse disk why ended settled is =
     let P : ServerKind → Type 0 = λ e. Explains g items_of limits_of limits may_close may_refuse disk disk e None in
     subst P (sym is) (unread_as g items_of limits_of limits may_close may_refuse disk why settled)
@@ -175,7 +194,8 @@ stands_for_some None d is = tt
 stands_for_some (Some fs) d is = (d.version, d.image, is)
 
 -- What is known of a server that was opened, at its end: against the disk over which it was opened.
-pub record Served {D J : Type 0} (g : Ghosts D) (items_of : J → List JournalItem) (limits_of : J → Limits) (limits : Limits) (may_close may_refuse : Type 0) (before now : D) (ended : ServerKind) (run : Option (ServerRun J)) : Type 0 where
+pub record Served {D J : Type 0} (g : Ghosts D) (items_of : J → List JournalItem) (limits_of : J → Limits) (limits : Limits)
+    (may_close may_refuse : Type 0) (before now : D) (ended : ServerKind) (run : Option (ServerRun J)) : Type 0 where
   pub closed : ended ≡ kind.Closed → may_close
   pub refused : ended ≡ kind.NoThread → may_refuse
   pub journal_full : (entries bytes : ℕ) → ended ≡ kind.JournalFull entries bytes
@@ -186,8 +206,10 @@ pub record Served {D J : Type 0} (g : Ghosts D) (items_of : J → List JournalIt
   pub short : IsNone run → ended ≡ kind.NoMemory
   pub disk : MatchOption run (now ≡ before) (λ _. (g.faults before ≤ g.faults now) × ((g.faults before < g.faults now) ⊎ IsQuiet g now))
 
-served_with : {D J : Type 0} (g : Ghosts D) (items_of : J → List JournalItem) (limits_of : J → Limits) (limits : Limits) (may_close may_refuse : Type 0) (old before now : D) (ended : ServerKind) (run : Option (ServerRun J))
-    → IsOpening g old before ⊥ → ReadsAsBefore g old before → IfSome (g.files old) StandsForSome → Served g items_of limits_of limits may_close may_refuse before now ended run
+served_with : {D J : Type 0} (g : Ghosts D) (items_of : J → List JournalItem) (limits_of : J → Limits) (limits : Limits)
+    (may_close may_refuse : Type 0) (old before now : D) (ended : ServerKind) (run : Option (ServerRun J))
+    → IsOpening g old before ⊥ → ReadsAsBefore g old before → IfSome (g.files old) StandsForSome
+    → Served g items_of limits_of limits may_close may_refuse before now ended run
     → Explains g items_of limits_of limits may_close may_refuse old now ended run
 served_with {D = D} g items_of limits_of limits may_close may_refuse old before now ended None opening reads stands is =
     let short : ended ≡ kind.NoMemory = is.short refl in
@@ -202,7 +224,11 @@ served_with {D = D} g items_of limits_of limits may_close may_refuse old before 
       run = λ none. subst IsNotRun (sym short) tt;
       opened = tt;
       kept = tt;
-      disk = (subst (LeavesUnopened g old now) (sym short) (subst (ReadsAsBefore g old) (sym is.disk) reads), inr (subst P (sym is.disk) (opening_as g old before ⊥ (ended ≡ kind.DiskFault) (λ no. absurd no) never opening)));
+      disk = (
+        subst (LeavesUnopened g old now) (sym short) (subst (ReadsAsBefore g old) (sym is.disk) reads),
+        inr
+            (subst P (sym is.disk) (opening_as g old before ⊥ (ended ≡ kind.DiskFault) (λ no. absurd no) never opening)),
+      );
     }
 served_with g items_of limits_of limits may_close may_refuse old before now ended (Some r) opening reads stands is =
     let low : g.faults old ≤ g.faults before = opening.calls.cause.never_falls in
@@ -220,13 +246,17 @@ served_with g items_of limits_of limits may_close may_refuse old before now ende
     }
 
 -- a server that was opened
-pub served : {D J : Type 0} (g : Ghosts D) (items_of : J → List JournalItem) (limits_of : J → Limits) (limits : Limits) (may_close may_refuse : Type 0) (old before now : D) (d : Durable) (ended : ServerKind) (run : Option (ServerRun J))
-    → IsOpening g old before ⊥ → ReadsAsBefore g old before → IfSome (g.files old) (StandsAs d) → Served g items_of limits_of limits may_close may_refuse before now ended run
+pub served : {D J : Type 0} (g : Ghosts D) (items_of : J → List JournalItem) (limits_of : J → Limits) (limits : Limits)
+    (may_close may_refuse : Type 0) (old before now : D) (d : Durable) (ended : ServerKind) (run : Option (ServerRun J))
+    → IsOpening g old before ⊥ → ReadsAsBefore g old before → IfSome (g.files old) (StandsAs d)
+    → Served g items_of limits_of limits may_close may_refuse before now ended run
     → Explains g items_of limits_of limits may_close may_refuse old now ended run
 served g items_of limits_of limits may_close may_refuse old before now d ended run opening reads stands is =
-    served_with g items_of limits_of limits may_close may_refuse old before now ended run opening reads (stands_for_some (g.files old) d stands) is
+    served_with g items_of limits_of limits may_close may_refuse old before now ended run opening reads
+    (stands_for_some (g.files old) d stands) is
 
-stands_at_rest : (files : Option Files) (version : Version) → IfSome files (λ fs. IsAtRest version (image_of fs.database) fs) → IfSome files StandsForSome
+stands_at_rest : (files : Option Files) (version : Version) → IfSome files (λ fs. IsAtRest version (image_of fs.database) fs)
+    → IfSome files StandsForSome
 stands_at_rest None version rests = tt
 stands_at_rest (Some fs) version rests =
     (version, image_of fs.database, at_rest_stands fs version (image_of fs.database) rests)
@@ -235,7 +265,8 @@ quiet : {D : Type 0} (g : Ghosts D) (s : Store D) → IsReady g s → IsQuiet g 
 quiet g s ready = (ready.settled, stands_at_rest (g.files s.disk) s.version ready.rests)
 
 -- the disk of a node has failed, or is quiet
-pub quiet_or_failed : {D V : Type 0} (g : Ghosts D) (n : Node D V g) (failed_before : ℕ) → (n.store.failed ≡ true → failed_before < g.faults n.store.disk)
+pub quiet_or_failed : {D V : Type 0} (g : Ghosts D) (n : Node D V g) (failed_before : ℕ)
+    → (n.store.failed ≡ true → failed_before < g.faults n.store.disk)
     → (failed_before < g.faults n.store.disk) ⊎ IsQuiet g n.store.disk
 quiet_or_failed g n failed_before halted = by n.store.failed refl
   where
@@ -260,7 +291,8 @@ some_and None P Q to is = is
 some_and (Some fs) P Q to is = to fs is
 
 -- a node that was just opened left its disk so that it reads as before
-pub opened_reads : {D V : Type 0} (g : Ghosts D) (old : D) (n : Node D V g) (size now : ℕ) (d : Durable) → node_of n ≡ model.Up (model.opened_server size d now)
+pub opened_reads : {D V : Type 0} (g : Ghosts D) (old : D) (n : Node D V g) (size now : ℕ) (d : Durable)
+    → node_of n ≡ model.Up (model.opened_server size d now)
     → IfSome (g.files old) (StandsAs d) → (IsSome (g.files old) → IsSome (g.files n.store.disk)) → ReadsAsBefore g old n.store.disk
 opened_reads g old n size now d opened stands told = ((n.stored.sound.ready up).settled, over (g.files old) stands told)
   where
@@ -270,7 +302,8 @@ opened_reads g old n size now d opened stands told = ((n.stored.sound.ready up).
     there : IsSome (g.files n.store.disk) → IsSomeAnd (g.files n.store.disk) (StandsAs d)
     there tells =
         let same = up_as n.store.failed (model.halted_from (up_server n)) (up_server n) (model.opened_server size d now) opened in
-        let P : model.Server → Type 0 = λ s. IsSomeAnd (g.files n.store.disk) (StandsAs (durable_in s)) in subst P same (stands_up g n up tells)
+        let P : model.Server
+        → Type 0 = λ s. IsSomeAnd (g.files n.store.disk) (StandsAs (durable_in s)) in subst P same (stands_up g n up tells)
 
     over : (files : Option Files) → IfSome files (StandsAs d) → (IsSome files → IsSome (g.files n.store.disk))
         → IfSome files (λ fs. StandsForSome fs → IsSomeAnd (g.files n.store.disk) (StandAlike fs))
@@ -280,12 +313,15 @@ opened_reads g old n size now d opened stands told = ((n.stored.sound.ready up).
 
 -- ---- in no other way
 
-stands_against : (files : Option Files) (len : ℕ) (head : List ℕ) → IfSome files (λ fs. ShowsFiles fs (kind.BadFiles len head)) → ¬ (IsSomeAnd files StandsForSome)
+stands_against : (files : Option Files) (len : ℕ) (head : List ℕ) → IfSome files (λ fs. ShowsFiles fs (kind.BadFiles len head))
+    → ¬ (IsSomeAnd files StandsForSome)
 stands_against None len head shown some = absurd some
 stands_against (Some fs) len head shown some = shown.0 some.0 some.1 some.2
 
-unforced : {D : Type 0} (g : Ghosts D) (old new : D) (ended : ServerKind) → IsNotForWords ended → (ended ≡ kind.DiskFault → g.faults old < g.faults new)
-    → IfSome (g.files old) (λ fs. ShowsFiles fs ended) → IsSomeAnd (g.files old) StandsForSome → g.faults new ≡ g.faults old → IsUnforced ended
+unforced : {D : Type 0} (g : Ghosts D) (old new : D) (ended : ServerKind) → IsNotForWords ended
+    → (ended ≡ kind.DiskFault → g.faults old < g.faults new)
+    → IfSome (g.files old) (λ fs. ShowsFiles fs ended) → IsSomeAnd (g.files old) StandsForSome → g.faults new ≡ g.faults old
+    → IsUnforced ended
 unforced g old new kind.Closed fits fails shown some same = tt
 unforced g old new kind.NoThread fits fails shown some same = tt
 unforced g old new (kind.JournalFull entries bytes) fits fails shown some same = tt
@@ -294,7 +330,9 @@ unforced g old new (kind.Words place) fits fails shown some same = absurd fits
 unforced g old new kind.DiskFault fits fails shown some same = let rose = fails refl in absurd (omega (arith, rose, same))
 unforced g old new (kind.BadFiles len head) fits fails shown some same = absurd (stands_against (g.files old) len head shown some)
 
-pub complete : {D : Type 0} (g : Ghosts D) (old new : D) (meaning : Result Named WordsFault) (ended : ServerKind) → FollowsWords meaning ended
-    → (ended ≡ kind.DiskFault → g.faults old < g.faults new) → IfSome (g.files old) (λ fs. ShowsFiles fs ended) → IsComplete g old new meaning ended
+pub complete : {D : Type 0} (g : Ghosts D) (old new : D) (meaning : Result Named WordsFault) (ended : ServerKind)
+    → FollowsWords meaning ended
+    → (ended ≡ kind.DiskFault → g.faults old < g.faults new) → IfSome (g.files old) (λ fs. ShowsFiles fs ended)
+    → IsComplete g old new meaning ended
 complete g old new (Ok named) ended words fails shown = unforced g old new ended words fails shown
 complete g old new (Err fault) ended words fails shown = tt

@@ -46,7 +46,8 @@ pub record IsFullAt (limits : Limits) (before : List JournalItem) (len entries b
   pub framed : bytes ≤ bytes_of before + 2097184
   pub past : is_past limits (record { entries = entries; bytes = bytes; asks = asks_of before + 1 }) ≡ true
 
-read_at : (limits : Limits) (before : List JournalItem) (len entries bytes : ℕ) → full_at limits before len entries bytes ≡ true → IsFullAt limits before len entries bytes
+read_at : (limits : Limits) (before : List JournalItem) (len entries bytes : ℕ) → full_at limits before len entries bytes ≡ true
+    → IsFullAt limits before len entries bytes
 read_at limits before len entries bytes is =
     let a = nat_le 1 entries in
     let b = nat_le entries (len + 1) in
@@ -65,7 +66,8 @@ read_at limits before len entries bytes is =
       past = four.1;
     }
 
-pub test_at : (limits : Limits) (before : List JournalItem) (len entries bytes : ℕ) → IsFullAt limits before len entries bytes → full_at limits before len entries bytes ≡ true
+pub test_at : (limits : Limits) (before : List JournalItem) (len entries bytes : ℕ) → IsFullAt limits before len entries bytes
+    → full_at limits before len entries bytes ≡ true
 test_at limits before len entries bytes is =
     let a = nat_le 1 entries in
     let b = nat_le entries (len + 1) in
@@ -87,19 +89,23 @@ read limits items entries bytes is = read_at limits (take (entries - 1) items) (
 few_before : (n : ℕ) (items : List JournalItem) → asks_of (take n items) ≤ length items
 few_before n items = omega (arith, few_asks (take n items), length-take n items)
 
-in_limits : (limits : Limits) (items : List JournalItem) (entries bytes : ℕ) (a b : Bool) → length items ≤ limits.entries → limits.entries < 4294967295
-    → IsFullAt limits (take (entries - 1) items) (length items) entries bytes → nat_lt limits.entries entries ≡ a → nat_lt limits.bytes bytes ≡ b
+in_limits : (limits : Limits) (items : List JournalItem) (entries bytes : ℕ) (a b : Bool) → length items ≤ limits.entries
+    → limits.entries < 4294967295
+    → IsFullAt limits (take (entries - 1) items) (length items) entries bytes → nat_lt limits.entries entries ≡ a
+    → nat_lt limits.bytes bytes ≡ b
     → IsFullIn limits items entries bytes
 in_limits limits items entries bytes true b short few is more heavy =
     let past = lt_of limits.entries entries more in inl (omega (arith, past, is.within, short), omega (arith, past, is.within, short))
 in_limits limits items entries bytes false true short few is more heavy = inr (lt_of limits.bytes bytes heavy, is.framed)
 in_limits limits items entries bytes false false short few is more heavy =
     let asks = asks_of (take (entries - 1) items) + 1 in
-    let over : nat_lt 4294967295 asks ≡ true = last_of (nat_lt limits.entries entries) (nat_lt limits.bytes bytes) (nat_lt 4294967295 asks) more heavy is.past in
+    let over : nat_lt 4294967295 asks ≡ true = last_of (nat_lt limits.entries entries) (nat_lt limits.bytes bytes)
+    (nat_lt 4294967295 asks) more heavy is.past in
     absurd (omega (arith, lt_of 4294967295 asks over, few_before (entries - 1) items, short, few))
 
 -- a journal that ends before its ids do, at most so many items of it there
 pub full_in : (limits : Limits) (items : List JournalItem) (entries bytes : ℕ) → length items ≤ limits.entries → limits.entries < 4294967295
     → was_full limits items entries bytes ≡ true → IsFullIn limits items entries bytes
 full_in limits items entries bytes short few is =
-    in_limits limits items entries bytes (nat_lt limits.entries entries) (nat_lt limits.bytes bytes) short few (read limits items entries bytes is) refl refl
+    in_limits limits items entries bytes (nat_lt limits.entries entries) (nat_lt limits.bytes bytes) short few
+    (read limits items entries bytes is) refl refl

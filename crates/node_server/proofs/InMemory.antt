@@ -6,14 +6,16 @@ use Rattle.node_server.specs.declared.ends.ServerRun.{ServerRun}
 use Rattle.node_server.specs.Causes.{IsFullIn, was_full}
 use Rattle.node_server.proofs.Filling.{full_in}
 
-full_of : (limits : Limits) (j : Journal) (entries bytes : ℕ) → limits.entries < 4294967295 → j.limits ≡ limits → was_full limits j.held.items entries bytes ≡ true
+full_of : (limits : Limits) (j : Journal) (entries bytes : ℕ) → limits.entries < 4294967295 → j.limits ≡ limits
+    → was_full limits j.held.items entries bytes ≡ true
     → IsFullIn limits j.held.items entries bytes
 full_of limits j entries bytes few is full =
     let same : j.limits.entries ≡ limits.entries = ap (λ (l : Limits). l.entries) is in
     full_in limits j.held.items entries bytes (omega (arith, j.few, j.entries, same)) few full
 
 -- the journal of a run that is full has as many items as it may have, or would have had too many bytes
-pub full_in_memory : (given limits : Limits) (run : Option (ServerRun Journal)) (entries bytes : ℕ) → given ≡ limits → limits.entries < 4294967295
+pub full_in_memory : (given limits : Limits) (run : Option (ServerRun Journal)) (entries bytes : ℕ) → given ≡ limits
+    → limits.entries < 4294967295
     → IfSome run (λ r. r.journal.limits ≡ given) → IfSome run (λ r. was_full given r.journal.held.items entries bytes ≡ true)
     → IfSome run (λ r. IsFullIn limits r.journal.held.items entries bytes)
 full_in_memory given limits None entries bytes is few kept full = tt

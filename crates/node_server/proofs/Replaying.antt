@@ -27,7 +27,8 @@ use Rattle.node_server.specs.Replays.{IsOpenedAs, IsReplayed, ReplaysNamed, RunR
 -- ---- a server that has ended
 
 module _ {D V : Type 0} (g : Ghosts D) (d : Standing) (opened n : Node D V g) (kept : List JournalItem) (outputs : List Output)
-    (server : model.Node) (member : Member) (knows : Bool) (failed : ℕ) (fails : n.store.failed ≡ true → failed < g.faults n.store.disk) where
+    (server : model.Node) (member : Member) (knows : Bool) (failed : ℕ)
+    (fails : n.store.failed ≡ true → failed < g.faults n.store.disk) where
   -- a halted node is one whose store has failed
   has_failed : (h : model.HaltedServer) → node_of n ≡ model.Halted h → n.store.failed ≡ true
   has_failed h is = by n.store.failed is
@@ -37,7 +38,8 @@ module _ {D V : Type 0} (g : Ghosts D) (d : Standing) (opened n : Node D V g) (k
       by false clash = absurd cc
 
   replayed_by : IsOpenedAs g opened server member knows
-      → IsReplay g d (own_member opened) (node_of opened) kept (node_of n) outputs n.store.disk → IsReplayed g d member server failed kept n.store.disk
+      → IsReplay g d (own_member opened) (node_of opened) kept (node_of n) outputs n.store.disk
+      → IsReplayed g d member server failed kept n.store.disk
   replayed_by o r =
       let P : Member → Type 0 = λ m. IsReplay g d m (node_of opened) kept (node_of n) outputs n.store.disk in
       let Q : model.Node → Type 0 = λ s. IsReplay g d member s kept (node_of n) outputs n.store.disk in
@@ -55,62 +57,85 @@ module _ {D V : Type 0} (g : Ghosts D) (d : Standing) (opened n : Node D V g) (k
       (λ (o : IsOpenedAs g opened server member knows). ∥∥₁_map (replays (o.tells ∙ known)) (replayed_by o))
 
 -- the journal is one of the server that was opened
-pub own_journal : {D V : Type 0} {g : Ghosts D} (opened n : Node D V g) (kept : List JournalItem) (server : model.Node) (member : Member) (knows : Bool)
+pub own_journal : {D V : Type 0} {g : Ghosts D} (opened n : Node D V g) (kept : List JournalItem) (server : model.Node) (member : Member)
+    (knows : Bool)
     → own_member n ≡ own_member opened → are_numbered 0 kept ≡ true → are_taken (own_member n) kept ≡ true
     → ∥ IsOpenedAs g opened server member knows ∥₁ → IsOwnJournal member kept
 own_journal {D} {V} {g} opened n kept server member knows same numbered taken first =
-    let P : Member → Type 0 = λ m. are_taken m kept ≡ true in
-    (numbered, ∥∥₁_elim first (Bool-set (are_taken member kept) true) (λ (o : IsOpenedAs g opened server member knows). subst P (same ∙ o.member) taken))
+    let P : Member → Type 0 = λ m. are_taken m kept ≡ true in (
+      numbered,
+      ∥∥₁_elim first (Bool-set (are_taken member kept) true)
+          (λ (o : IsOpenedAs g opened server member knows). subst P (same ∙ o.member) taken),
+    )
 
 -- ---- a server that was opened
 
 -- a disk that has failed since an opening has failed since what was before it
-replayed_since : {D : Type 0} (g : Ghosts D) (d : Standing) (m : Member) (opened : model.Node) (before failed : ℕ) (kept : List JournalItem) (disk : D)
+replayed_since : {D : Type 0} (g : Ghosts D) (d : Standing) (m : Member) (opened : model.Node) (before failed : ℕ)
+    (kept : List JournalItem) (disk : D)
     → before ≤ failed → IsReplayed g d m opened failed kept disk → IsReplayed g d m opened before kept disk
 replayed_since g d m opened before failed kept disk low is =
-    record { node = is.node; outputs = is.outputs; replay = is.replay; fails = λ h down. let more = is.fails h down in omega (arith, low, more) }
+    record {
+      node = is.node;
+      outputs = is.outputs;
+      replay = is.replay;
+      fails = λ h down. let more = is.fails h down in omega
+          (arith, low, more);
+    }
 
-abbrev IsReplayedFrom : {D : Type 0} (g : Ghosts D) (d : Standing) (m : Member) (files : Files) (now failed : ℕ) (kept : List JournalItem) → D → Type 0
+abbrev IsReplayedFrom : {D : Type 0} (g : Ghosts D) (d : Standing) (m : Member) (files : Files) (now failed : ℕ)
+    (kept : List JournalItem) → D → Type 0
 IsReplayedFrom g d m files now failed kept left =
     (found : Durable) × StandsAs found files × IsReplayed g d m (model.Up (model.opened_server (cell_size m) found now)) failed kept left
 
-from_opening : {D J : Type 0} (g : Ghosts D) (items_of : J → List JournalItem) (d : Standing) (hosts : List Host) (me now before failed : ℕ) (fs : Files) (run : ServerRun J)
+from_opening : {D J : Type 0} (g : Ghosts D) (items_of : J → List JournalItem) (d : Standing) (hosts : List Host)
+    (me now before failed : ℕ) (fs : Files) (run : ServerRun J)
     (disk : D) (found : Durable) (server : model.Node) (member : Member)
-    → server ≡ model.Up (model.opened_server (length hosts) found now) → StandsAs found fs → member ≡ record { hosts = hosts; me = me } → before ≤ failed → run.opened ≡ now
+    → server ≡ model.Up (model.opened_server (length hosts) found now) → StandsAs found fs → member ≡ record { hosts = hosts; me = me }
+    → before ≤ failed → run.opened ≡ now
     → IsReplayed g d member server failed (items_of run.journal) disk
     → IsReplayedFrom g d (record { hosts = hosts; me = me }) fs run.opened before (items_of run.journal) disk
 from_opening g items_of d hosts me now before failed fs run disk found server member is there cell low moment ended =
     let P : Member → Type 0 = λ m. IsReplayed g d m server failed (items_of run.journal) disk in
     let Q : model.Node → Type 0 = λ s. IsReplayed g d (record { hosts = hosts; me = me }) s failed (items_of run.journal) disk in
-    let R : ℕ → Type 0 = λ t. IsReplayed g d (record { hosts = hosts; me = me }) (model.Up (model.opened_server (length hosts) found t)) failed (items_of run.journal) disk in (
+    let R : ℕ → Type 0 = λ t. IsReplayed g d (record { hosts = hosts; me = me })
+    (model.Up (model.opened_server (length hosts) found t)) failed (items_of run.journal) disk in (
       found,
       there,
       replayed_since g d (record { hosts = hosts; me = me }) (model.Up (model.opened_server (length hosts) found run.opened)) before failed
           (items_of run.journal) disk low (subst R (sym moment) (subst Q is (subst P cell ended))),
     )
 
-replays_over : {D J : Type 0} (g : Ghosts D) (items_of : J → List JournalItem) (d : Standing) (hosts : List Host) (me now before failed : ℕ) (files held : Option Files)
+replays_over : {D J : Type 0} (g : Ghosts D) (items_of : J → List JournalItem) (d : Standing) (hosts : List Host)
+    (me now before failed : ℕ) (files held : Option Files)
     (ran : Option (ServerRun J)) (disk : D) (found : Durable) (server : model.Node) (member : Member)
-    → server ≡ model.Up (model.opened_server (length hosts) found now) → IfSome files (StandsAs found) → member ≡ record { hosts = hosts; me = me } → before ≤ failed
+    → server ≡ model.Up (model.opened_server (length hosts) found now) → IfSome files (StandsAs found)
+    → member ≡ record { hosts = hosts; me = me } → before ≤ failed
     → (IsSome files → IsSome held) → IfSome ran (λ run. run.opened ≡ now) → IfSome ran (λ run. IsOwnJournal member (items_of run.journal))
     → IfSome ran (λ run. is_some held ≡ true → ∥ IsReplayed g d member server failed (items_of run.journal) disk ∥₁)
     → IfSome ran (λ run. IsOwnJournal (record { hosts = hosts; me = me }) (items_of run.journal)
     × IfSome files (λ fs. ∥ IsReplayedFrom g d (record { hosts = hosts; me = me }) fs run.opened before (items_of run.journal) disk ∥₁))
-replays_over g items_of d hosts me now before failed files held None disk found server member is there cell low knows moment own replays = tt
-replays_over g items_of d hosts me now before failed files held (Some run) disk found server member is there cell low knows moment own replays =
+replays_over g items_of d hosts me now before failed files held None disk found server member is there cell low knows moment own replays =
+    tt
+replays_over g items_of d hosts me now before failed files held
+    (Some run) disk found server member is there cell low knows moment own replays =
     (subst (λ (m : Member). IsOwnJournal m (items_of run.journal)) cell own, over files there knows)
   where
     over : (files : Option Files) → IfSome files (StandsAs found) → (IsSome files → IsSome held)
         → IfSome files (λ fs. ∥ IsReplayedFrom g d (record { hosts = hosts; me = me }) fs run.opened before (items_of run.journal) disk ∥₁)
     over None there knows = tt
     over (Some fs) there knows =
-        ∥∥₁_map (replays (knows refl)) (from_opening g items_of d hosts me now before failed fs run disk found server member is there cell low moment)
+        ∥∥₁_map (replays (knows refl))
+        (from_opening g items_of d hosts me now before failed fs run disk found server member is there cell low moment)
 
 -- a run of an opened node is one of the disk that it was opened over
-pub run_replays : {D J : Type 0} (g : Ghosts D) (items_of : J → List JournalItem) (d : Standing) (hosts : List Host) (me now failed : ℕ) (old new : D) (held : Option Files)
+pub run_replays : {D J : Type 0} (g : Ghosts D) (items_of : J → List JournalItem) (d : Standing) (hosts : List Host) (me now failed : ℕ)
+    (old new : D) (held : Option Files)
     (ran : Option (ServerRun J)) (found : Durable) (server : model.Node) (member : Member)
-    → server ≡ model.Up (model.opened_server (length hosts) found now) → IfSome (g.files old) (StandsAs found) → member ≡ record { hosts = hosts; me = me }
-    → g.faults old ≤ failed → (IsSome (g.files old) → IsSome held) → IfSome ran (λ run. run.opened ≡ now) → IfSome ran (λ run. IsOwnJournal member (items_of run.journal))
+    → server ≡ model.Up (model.opened_server (length hosts) found now) → IfSome (g.files old) (StandsAs found)
+    → member ≡ record { hosts = hosts; me = me }
+    → g.faults old ≤ failed → (IsSome (g.files old) → IsSome held) → IfSome ran (λ run. run.opened ≡ now)
+    → IfSome ran (λ run. IsOwnJournal member (items_of run.journal))
     → IfSome ran (λ run. is_some held ≡ true → ∥ IsReplayed g d member server failed (items_of run.journal) new ∥₁)
     → RunReplays g items_of d (record { hosts = hosts; me = me }) old new ran
 run_replays g items_of d hosts me now failed old new held ran found server member =
@@ -118,16 +143,19 @@ run_replays g items_of d hosts me now failed old new held ran found server membe
 
 -- ---- the words
 
-replays_read : {D J : Type 0} (g : Ghosts D) (items_of : J → List JournalItem) (named : Named) (read : ServerWords) (old new : D) (ran : Option (ServerRun J))
+replays_read : {D J : Type 0} (g : Ghosts D) (items_of : J → List JournalItem) (named : Named) (read : ServerWords) (old new : D)
+    (ran : Option (ServerRun J))
     → IsRead named read
     → RunReplays g items_of (standing_of read.database) (record { hosts = read.cell; me = read.me }) old new ran
     → ReplaysNamed g items_of (Ok named) old new ran
 replays_read g items_of named read old new None is replays = tt
 replays_read g items_of named read old new (Some run) is replays =
-    let P : Database → Type 0 = λ b. RunReplays g items_of (standing_of b) (record { hosts = read.cell; me = read.me }) old new (Some run) in
+    let P : Database → Type 0 = λ b. RunReplays g items_of (standing_of b) (record { hosts = read.cell; me = read.me }) old new
+    (Some run) in
     (record { hosts = read.cell; me = read.me }, record { cell = is.cell; hosts = is.hosts; me = is.me }, subst P is.database replays)
 
-pub replays_named : {D J : Type 0} (g : Ghosts D) (items_of : J → List JournalItem) (meaning : Result Named WordsFault) (read : ServerWords) (old new : D)
+pub replays_named : {D J : Type 0} (g : Ghosts D) (items_of : J → List JournalItem) (meaning : Result Named WordsFault)
+    (read : ServerWords) (old new : D)
     (ran : Option (ServerRun J)) → Means meaning (Ok read)
     → RunReplays g items_of (standing_of read.database) (record { hosts = read.cell; me = read.me }) old new ran
     → ReplaysNamed g items_of meaning old new ran

@@ -38,7 +38,8 @@ pub record GoesOn {D V : Type 0} (g : Ghosts D) (before after : Seen D V g) : Ty
 rests : {D V : Type 0} (g : Ghosts D) (s : Seen D V g) → GoesOn g s s
 rests g s = record { more = []; items = sym (append-nil s.items); never_falls = omega arith; rose = λ halted. inl halted }
 
-stays : {D V : Type 0} (g : Ghosts D) (before after : Seen D V g) → after.node ≡ before.node → after.items ≡ before.items → GoesOn g before after
+stays : {D V : Type 0} (g : Ghosts D) (before after : Seen D V g) → after.node ≡ before.node → after.items ≡ before.items
+    → GoesOn g before after
 stays g before after node items =
     let count : failed_in g after.node ≡ failed_in g before.node = ap (λ n. failed_in g n) node in
     record {
@@ -48,12 +49,15 @@ stays g before after node items =
       rose = λ halted. inl (ap (λ n. n.store.failed) (sym node) ∙ halted);
     }
 
-halted_by : {D V : Type 0} (g : Ghosts D) (d : Standing) (e : StepEnd) (event : NodeEvent) (now : ℕ) (before after : Node D V g) (out : List Output) (b : Bool)
-    → before.store.failed ≡ b → IsStep g d e event now before after out → e ≡ step.Halted → (before.store.failed ≡ true) ⊎ (failed_in g before < failed_in g after)
+halted_by : {D V : Type 0} (g : Ghosts D) (d : Standing) (e : StepEnd) (event : NodeEvent) (now : ℕ) (before after : Node D V g)
+    (out : List Output) (b : Bool)
+    → before.store.failed ≡ b → IsStep g d e event now before after out → e ≡ step.Halted → (before.store.failed ≡ true)
+    ⊎ (failed_in g before < failed_in g after)
 halted_by g d e event now before after out true is made ended = inl is
 halted_by g d e event now before after out false is made ended = inr (made.calls.1.cause.rose (ended, is))
 
-steps : {D V : Type 0} (g : Ghosts D) (d : Standing) (e : StepEnd) (event : NodeEvent) (now : ℕ) (before after : Seen D V g) (out : List Output) (more : List JournalItem)
+steps : {D V : Type 0} (g : Ghosts D) (d : Standing) (e : StepEnd) (event : NodeEvent) (now : ℕ) (before after : Seen D V g)
+    (out : List Output) (more : List JournalItem)
     → IsStep g d e event now before.node after.node out → after.items ≡ before.items ++ more → GoesOn g before after
 steps g d e event now before after out more made items =
     record {
@@ -63,7 +67,8 @@ steps g d e event now before after out more made items =
       rose = λ halted. halted_by g d e event now before.node after.node out before.node.store.failed refl made (made.halts.1 halted);
     }
 
-recorded : {D V : Type 0} (g : Ghosts D) (d : Standing) (e : StepEnd) (event : NodeEvent) (now : ℕ) (before after : Seen D V g) (out : List Output)
+recorded : {D V : Type 0} (g : Ghosts D) (d : Standing) (e : StepEnd) (event : NodeEvent) (now : ℕ) (before after : Seen D V g)
+    (out : List Output)
     → IsRecorded g d e event now before.node after.node before.items after.items out → GoesOn g before after
 recorded g d e event now before after out is = steps g d e event now before after out _ is.step is.item
 
@@ -75,7 +80,8 @@ refused g d event now before after out is =
       | inr made ↦ steps g d step.NoMemory event now before after [] [] made (is.items ∙ sym (append-nil before.items))
     ]
 
-makes : {D V : Type 0} (g : Ghosts D) (d : Standing) (limits : Limits) (event : NodeEvent) (asker : List Asker) (now : ℕ) (before after : Seen D V g) (sent : List Sending) (e : TurnEnd)
+makes : {D V : Type 0} (g : Ghosts D) (d : Standing) (limits : Limits) (event : NodeEvent) (asker : List Asker) (now : ℕ)
+    (before after : Seen D V g) (sent : List Sending) (e : TurnEnd)
     → TurnsBy g d limits event asker now before after sent e → GoesOn g before after
 makes g d limits event asker now before after sent end.Done turned = recorded g d step.Done event now before after turned.0 turned.1.1
 makes g d limits event asker now before after sent end.Halted turned = recorded g d step.Halted event now before after turned.0 turned.1.1
@@ -91,7 +97,8 @@ same : {D V : Type 0} (g : Ghosts D) (before after : Seen D V g) → after ≡ b
 same g before after is = stays g before after (ap (λ s. s.node) is) (ap (λ s. s.items) is)
 
 -- each turn goes on
-pub goes_on : {D V : Type 0} (g : Ghosts D) (d : Standing) (limits : Limits) (act : Act) (now : ℕ) (before after : Seen D V g) (sent : List Sending) (e : TurnEnd)
+pub goes_on : {D V : Type 0} (g : Ghosts D) (d : Standing) (limits : Limits) (act : Act) (now : ℕ) (before after : Seen D V g)
+    (sent : List Sending) (e : TurnEnd)
     → Turned g d limits act now before after sent e → GoesOn g before after
 goes_on g d limits (Makes event asker) now before after sent e turned = makes g d limits event asker now before after sent e turned
 goes_on g d limits (Tells peer number) now before after sent end.Done turned = same g before after turned.0
@@ -106,13 +113,15 @@ goes_on g d limits Rests now before after sent end.Cut turned = absurd turned
 goes_on g d limits Rests now before after sent (end.JournalFull entries bytes) turned = absurd turned
 
 -- a turn that ended with Halted left the node so
-halts : {D V : Type 0} (g : Ghosts D) (d : Standing) (limits : Limits) (act : Act) (now : ℕ) (before after : Seen D V g) (sent : List Sending)
+halts : {D V : Type 0} (g : Ghosts D) (d : Standing) (limits : Limits) (act : Act) (now : ℕ) (before after : Seen D V g)
+    (sent : List Sending)
     → Turned g d limits act now before after sent end.Halted → after.node.store.failed ≡ true
 halts g d limits (Makes event asker) now before after sent turned = turned.1.1.step.halts.0 refl
 halts g d limits (Tells peer number) now before after sent turned = absurd turned
 halts g d limits Rests now before after sent turned = absurd turned
 
-past_more : (limits : Limits) (entries bytes asks more : ℕ) → asks ≤ more → is_past limits (record { entries = entries; bytes = bytes; asks = asks }) ≡ true
+past_more : (limits : Limits) (entries bytes asks more : ℕ) → asks ≤ more
+    → is_past limits (record { entries = entries; bytes = bytes; asks = asks }) ≡ true
     → is_past limits (record { entries = entries; bytes = bytes; asks = more }) ≡ true
 past_more limits entries bytes asks more up past = grind (arith, nat_tests)
 
@@ -146,12 +155,17 @@ full_now limits items e framed past =
       within = omega arith;
       heavy = omega arith;
       framed = framed;
-      past = past_more limits (length items + 1) (bytes_of items + weight e) (asks_of items + asks_in e) (asks_of items + 1) (omega (arith, few)) past;
+      past =
+          past_more limits (length items + 1) (bytes_of items + weight e) (asks_of items + asks_in e) (asks_of items + 1)
+          (omega (arith, few)) past;
     } in
-    test_at limits (take (length items + 1 - 1) items) (length items) (length items + 1) (bytes_of items + weight e) (subst P (sym all) there)
+    test_at limits (take (length items + 1 - 1) items) (length items) (length items + 1) (bytes_of items + weight e)
+    (subst P (sym all) there)
 
-full_by : {D V : Type 0} (g : Ghosts D) (d : Standing) (limits : Limits) (act : Act) (now : ℕ) (before after : Seen D V g) (sent : List Sending) (entries bytes : ℕ)
-    → IsFullByFrame before.items (end.JournalFull entries bytes) → Turned g d limits act now before after sent (end.JournalFull entries bytes)
+full_by : {D V : Type 0} (g : Ghosts D) (d : Standing) (limits : Limits) (act : Act) (now : ℕ) (before after : Seen D V g)
+    (sent : List Sending) (entries bytes : ℕ)
+    → IsFullByFrame before.items (end.JournalFull entries bytes)
+    → Turned g d limits act now before after sent (end.JournalFull entries bytes)
     → was_full limits after.items entries bytes ≡ true
 full_by g d limits (Makes event asker) now before after sent entries bytes framed turned =
     let heavy : bytes ≡ bytes_of before.items + weight event = turned.0.2 in
@@ -166,8 +180,10 @@ full_by g d limits Rests now before after sent entries bytes framed turned = abs
 is_more : (n m : ℕ) → n < m → nat_lt n m ≡ true
 is_more n m more = grind (arith, nat_tests)
 
-failed : {D V : Type 0} (g : Ghosts D) (before after : Seen D V g) (failed_before : ℕ) → GoesOn g before after → failed_before ≤ failed_in g before.node
-    → (before.node.store.failed ≡ true → failed_before < failed_in g before.node) → after.node.store.failed ≡ true → failed_before < failed_in g after.node
+failed : {D V : Type 0} (g : Ghosts D) (before after : Seen D V g) (failed_before : ℕ) → GoesOn g before after
+    → failed_before ≤ failed_in g before.node
+    → (before.node.store.failed ≡ true → failed_before < failed_in g before.node) → after.node.store.failed ≡ true
+    → failed_before < failed_in g after.node
 failed g before after failed_before on low was halted =
     let falls = on.never_falls in
     elim (on.rose halted) [
@@ -176,15 +192,19 @@ failed g before after failed_before on low was halted =
     ]
 
 -- a node that is halted after a turn is so for its disk
-pub halted_for_disk : {D V : Type 0} (g : Ghosts D) (d : Standing) (limits : Limits) (act : Act) (now : ℕ) (before after : Seen D V g) (sent : List Sending) (e : TurnEnd)
+pub halted_for_disk : {D V : Type 0} (g : Ghosts D) (d : Standing) (limits : Limits) (act : Act) (now : ℕ) (before after : Seen D V g)
+    (sent : List Sending) (e : TurnEnd)
     (failed_before : ℕ) → Turned g d limits act now before after sent e → failed_before ≤ failed_in g before.node
-    → (before.node.store.failed ≡ true → failed_before < failed_in g before.node) → after.node.store.failed ≡ true → failed_before < failed_in g after.node
+    → (before.node.store.failed ≡ true → failed_before < failed_in g before.node) → after.node.store.failed ≡ true
+    → failed_before < failed_in g after.node
 halted_for_disk g d limits act now before after sent e failed_before turned low was halted =
     failed g before after failed_before (goes_on g d limits act now before after sent e turned) low was halted
 
 -- why a turn ended so is seen
-pub seen_now : {D V : Type 0} (g : Ghosts D) (d : Standing) (limits own : Limits) (act : Act) (now : ℕ) (before after : Seen D V g) (sent : List Sending) (e : TurnEnd)
-    (failed_before : ℕ) → limits ≡ own → IsFullByFrame before.items e → Turned g d limits act now before after sent e → failed_before ≤ failed_in g before.node
+pub seen_now : {D V : Type 0} (g : Ghosts D) (d : Standing) (limits own : Limits) (act : Act) (now : ℕ) (before after : Seen D V g)
+    (sent : List Sending) (e : TurnEnd)
+    (failed_before : ℕ) → limits ≡ own → IsFullByFrame before.items e → Turned g d limits act now before after sent e
+    → failed_before ≤ failed_in g before.node
     → (before.node.store.failed ≡ true → failed_before < failed_in g before.node)
     → is_seen own after.items failed_before (failed_in g after.node) e ≡ true
 seen_now g d limits own act now before after sent end.Done failed_before is framed turned low was = refl
@@ -192,7 +212,8 @@ seen_now g d limits own act now before after sent end.Cut failed_before is frame
 seen_now g d limits own act now before after sent end.NoMemory failed_before is framed turned low was = refl
 seen_now g d limits own act now before after sent end.Halted failed_before is framed turned low was =
     is_more failed_before (failed_in g after.node)
-    (halted_for_disk g d limits act now before after sent end.Halted failed_before turned low was (halts g d limits act now before after sent turned))
+    (halted_for_disk g d limits act now before after sent end.Halted failed_before turned low was
+    (halts g d limits act now before after sent turned))
 seen_now g d limits own act now before after sent (end.JournalFull entries bytes) failed_before is framed turned low was =
     let P : Limits → Type 0 = λ l. was_full l after.items entries bytes ≡ true in
     subst P is (full_by g d limits act now before after sent entries bytes framed turned)
@@ -201,12 +222,15 @@ more_than : (n m k : ℕ) → m ≤ k → nat_lt n m ≡ true → nat_lt n k ≡
 more_than n m k up is = grind (arith, nat_tests)
 
 -- and stays so
-pub seen_stays : {D V : Type 0} (g : Ghosts D) (own : Limits) (before after : Seen D V g) (failed_before : ℕ) (e : TurnEnd) → GoesOn g before after
-    → is_seen own before.items failed_before (failed_in g before.node) e ≡ true → is_seen own after.items failed_before (failed_in g after.node) e ≡ true
+pub seen_stays : {D V : Type 0} (g : Ghosts D) (own : Limits) (before after : Seen D V g) (failed_before : ℕ) (e : TurnEnd)
+    → GoesOn g before after
+    → is_seen own before.items failed_before (failed_in g before.node) e ≡ true
+    → is_seen own after.items failed_before (failed_in g after.node) e ≡ true
 seen_stays g own before after failed_before end.Done on is = refl
 seen_stays g own before after failed_before end.Cut on is = refl
 seen_stays g own before after failed_before end.NoMemory on is = refl
-seen_stays g own before after failed_before end.Halted on is = more_than failed_before (failed_in g before.node) (failed_in g after.node) on.never_falls is
+seen_stays g own before after failed_before end.Halted on is =
+    more_than failed_before (failed_in g before.node) (failed_in g after.node) on.never_falls is
 seen_stays g own before after failed_before (end.JournalFull entries bytes) on is =
     let P : List JournalItem → Type 0 = λ xs. was_full own xs entries bytes ≡ true in
     subst P (sym on.items) (full_stays own before.items on.more entries bytes is)

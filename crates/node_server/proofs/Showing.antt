@@ -15,7 +15,8 @@ shows fs (fault.TooLarge bytes) refused = tt
 shows fs (fault.NotNewer own given) refused = tt
 shows fs fault.NoMemory refused = tt
 
-pub shows_refused : (files : Option Files) (why : StoreFault) → IfSome files (λ fs. RefusesFiles fs why) → IfSome files (λ fs. ShowsFiles fs (kind_of_fault why))
+pub shows_refused : (files : Option Files) (why : StoreFault) → IfSome files (λ fs. RefusesFiles fs why)
+    → IfSome files (λ fs. ShowsFiles fs (kind_of_fault why))
 shows_refused None why refused = tt
 shows_refused (Some fs) why refused = shows fs why refused
 

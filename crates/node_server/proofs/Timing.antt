@@ -28,7 +28,8 @@ GoesBy now before after =
     ((after.items ≡ before.items) × (after.node.last ≡ before.node.last))
     ⊎ ((item : JournalItem) × (after.items ≡ before.items ++ item ∷ []) × (item.now ≡ now) × (after.node.last ≡ now))
 
-rests : {D V : Type 0} {g : Ghosts D} (now : ℕ) (before after : Seen D V g) → after.node ≡ before.node → after.items ≡ before.items → GoesBy now before after
+rests : {D V : Type 0} {g : Ghosts D} (now : ℕ) (before after : Seen D V g) → after.node ≡ before.node → after.items ≡ before.items
+    → GoesBy now before after
 rests now before after node items = inl (items, ap (λ n. n.last) node)
 
 refused : {D V : Type 0} (g : Ghosts D) (d : Standing) (event : NodeEvent) (now : ℕ) (before after : Seen D V g) (out : List Output)
@@ -47,7 +48,8 @@ halted : {D V : Type 0} (g : Ghosts D) (d : Standing) (event : NodeEvent) (now :
     → IsRecorded g d step.Halted event now before.node after.node before.items after.items out → GoesBy now before after
 halted g d event now before after out is = inr (item_of now event out after.node.store.failed, is.item, refl, is.step.last)
 
-makes : {D V : Type 0} (g : Ghosts D) (d : Standing) (limits : Limits) (event : NodeEvent) (asker : List Asker) (now : ℕ) (before after : Seen D V g) (sent : List Sending) (e : TurnEnd)
+makes : {D V : Type 0} (g : Ghosts D) (d : Standing) (limits : Limits) (event : NodeEvent) (asker : List Asker) (now : ℕ)
+    (before after : Seen D V g) (sent : List Sending) (e : TurnEnd)
     → TurnsBy g d limits event asker now before after sent e → GoesBy now before after
 makes g d limits event asker now before after sent end.Done turned = done g d event now before after turned.0 turned.1.1
 makes g d limits event asker now before after sent end.Halted turned = halted g d event now before after turned.0 turned.1.1
@@ -63,7 +65,8 @@ same : {D V : Type 0} {g : Ghosts D} (now : ℕ) (before after : Seen D V g) →
 same now before after is = rests now before after (ap (λ s. s.node) is) (ap (λ s. s.items) is)
 
 -- each turn goes by its moment
-pub goes_by : {D V : Type 0} (g : Ghosts D) (d : Standing) (limits : Limits) (act : Act) (now : ℕ) (before after : Seen D V g) (sent : List Sending) (e : TurnEnd)
+pub goes_by : {D V : Type 0} (g : Ghosts D) (d : Standing) (limits : Limits) (act : Act) (now : ℕ) (before after : Seen D V g)
+    (sent : List Sending) (e : TurnEnd)
     → Turned g d limits act now before after sent e → GoesBy now before after
 goes_by g d limits (Makes event asker) now before after sent e turned = makes g d limits event asker now before after sent e turned
 goes_by g d limits (Tells peer number) now before after sent end.Done turned = same now before after turned.0
@@ -102,12 +105,14 @@ pub record Timed (gave : ℕ → Type 0) (opened : ℕ) (items : List JournalIte
   pub last_is : slice_index (moments_of opened items) (length items) ≡ last
 
 -- so where a server was opened at a moment of the clock, and has made no step
-pub opened_timed : (gave : ℕ → Type 0) (opened : ℕ) (items : List JournalItem) (last : ℕ) → items ≡ [] → IsOfClock gave opened → last ≡ opened → Timed gave opened items last
+pub opened_timed : (gave : ℕ → Type 0) (opened : ℕ) (items : List JournalItem) (last : ℕ) → items ≡ [] → IsOfClock gave opened
+    → last ≡ opened → Timed gave opened items last
 opened_timed gave opened items last none given is =
     let P : List JournalItem → Type 0 = λ xs. Timed gave opened xs last in
     subst P (sym none) (record {
       timed = (
-        λ k d within. (let first : 0 ≡ k = omega (arith, within) in subst (λ (i : ℕ). IsOfClock gave (get_or (opened ∷ []) i d)) first given),
+        λ k d within. (let first : 0 ≡ k = omega (arith, within) in subst
+            (λ (i : ℕ). IsOfClock gave (get_or (opened ∷ []) i d)) first given),
         λ k within. absurd (omega (arith, within)),
       );
       last_is = sym is;
@@ -147,14 +152,16 @@ timed_more gave opened now items last item t given up is =
     }
 
 -- the same with what the places are equal to
-timed_as : (gave : ℕ → Type 0) (opened : ℕ) (items others : List JournalItem) (last other : ℕ) → others ≡ items → other ≡ last → Timed gave opened items last
+timed_as : (gave : ℕ → Type 0) (opened : ℕ) (items others : List JournalItem) (last other : ℕ) → others ≡ items → other ≡ last
+    → Timed gave opened items last
     → Timed gave opened others other
 timed_as gave opened items others last other same_items same_last t =
     let P : List JournalItem → Type 0 = λ xs. Timed gave opened xs last in
     subst (Timed gave opened others) (sym same_last) (subst P (sym same_items) t)
 
 -- a turn at the later of the last moment and of one that the clock gave leaves them so
-pub stays_timed : {D V : Type 0} {g : Ghosts D} (gave : ℕ → Type 0) (opened now : ℕ) (before after : Seen D V g) → GoesBy (max before.node.last now) before after
+pub stays_timed : {D V : Type 0} {g : Ghosts D} (gave : ℕ → Type 0) (opened now : ℕ) (before after : Seen D V g)
+    → GoesBy (max before.node.last now) before after
     → IsOfClock gave now → Timed gave opened before.items before.node.last → Timed gave opened after.items after.node.last
 stays_timed gave opened now before after by given t =
     let later = max before.node.last now in

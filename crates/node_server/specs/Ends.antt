@@ -110,7 +110,8 @@ IsComplete g old new (Err fault) ended = Unit {0}
 
 -- What shows why a server ended so, beside its words: the net that may close by itself, the spawner that may refuse, its journal, which keeps to
 -- these limits, its disk and its files; whether it was opened; and what comes back.
-pub record Explains {D J : Type 0} (g : Ghosts D) (items_of : J → List JournalItem) (limits_of : J → Limits) (limits : Limits) (may_close may_refuse : Type 0) (old new : D) (ended : ServerKind) (ran : Option (ServerRun J)) : Type 0 where
+pub record Explains {D J : Type 0} (g : Ghosts D) (items_of : J → List JournalItem) (limits_of : J → Limits) (limits : Limits)
+    (may_close may_refuse : Type 0) (old new : D) (ended : ServerKind) (ran : Option (ServerRun J)) : Type 0 where
   pub closed : ended ≡ kind.Closed → may_close
   pub refused : ended ≡ kind.NoThread → may_refuse
   pub journal_full : (entries bytes : ℕ) → ended ≡ kind.JournalFull entries bytes

@@ -30,7 +30,8 @@ pub record IsOpenedAs {D V : Type 0} (g : Ghosts D) (opened : Node D V g) (s : m
 
 -- What comes back of a server that was opened so: its journal is one that it can have made, whose replay leaves a server, and the disk is the
 -- one of that server. Where that one is halted, the disk has failed oftener than so.
-pub record IsReplayed {D : Type 0} (g : Ghosts D) (d : Standing) (m : Member) (opened : model.Node) (failed : ℕ) (kept : List JournalItem) (left : D) : Type 0 where
+pub record IsReplayed {D : Type 0} (g : Ghosts D) (d : Standing) (m : Member) (opened : model.Node) (failed : ℕ)
+    (kept : List JournalItem) (left : D) : Type 0 where
   pub node : model.Node
   pub outputs : List Output
   pub replay : IsReplay g d m opened kept node outputs left
@@ -38,7 +39,8 @@ pub record IsReplayed {D : Type 0} (g : Ghosts D) (d : Standing) (m : Member) (o
 
 -- Of a run: its journal is one of this server's. Over a disk that told its files it explains the disk that comes back, of a server that was
 -- opened at the moment of the run on what these files stand for.
-abbrev pub RunReplays : {D J : Type 0} → Ghosts D → (J → List JournalItem) → Standing → Member → (old new : D) → Option (ServerRun J) → Type 0
+abbrev pub RunReplays : {D J : Type 0} → Ghosts D → (J → List JournalItem) → Standing → Member → (old new : D) → Option (ServerRun J)
+    → Type 0
 RunReplays g items_of d m old new ran =
     IfSome ran (λ run. IsOwnJournal m (items_of run.journal)
     × IfSome (g.files old) (λ fs. ∥ ((found : Durable) × StandsAs found fs
@@ -55,7 +57,8 @@ pub record IsMemberOf (named : Named) (m : Member) : Type 0 where
   pub me : slice_get m.hosts m.me ≡ Some named.own
 
 -- The run is one of the database and the cell that the words name.
-abbrev pub ReplaysNamed : {D J : Type 0} → Ghosts D → (J → List JournalItem) → Result Named WordsFault → (old new : D) → Option (ServerRun J) → Type 0
+abbrev pub ReplaysNamed : {D J : Type 0} → Ghosts D → (J → List JournalItem) → Result Named WordsFault → (old new : D)
+    → Option (ServerRun J) → Type 0
 ReplaysNamed g items_of (Ok named) old new ran =
     IfSome ran (λ run. (m : Member) × IsMemberOf named m × RunReplays g items_of (standing_of named.database) m old new (Some run))
 ReplaysNamed g items_of (Err fault) old new ran = IfSome ran (λ run. ⊥)

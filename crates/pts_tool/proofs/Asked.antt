@@ -25,10 +25,13 @@ unfolding asks
 asks_long take call is = rw is refl
 
 -- a call that has a spelling was asked
-pub ran_spelled : {A : Type 0} (take : PtCall → PtAnswer → Option A) (call : PtCall) (s s1 : Asker) (e e1 : List Exchange) (r : Result A Stop)
+pub ran_spelled : {A : Type 0} (take : PtCall → PtAnswer → Option A) (call : PtCall) (s s1 : Asker) (e e1 : List Exchange)
+    (r : Result A Stop)
     → has_spelling call ≡ true → Ran (asks_call (is_write (call_kind call)) (taken_from (take call) call) (spelling call)) s s1 e e1 r
     → Ran (asks take call) s s1 e e1 r
-ran_spelled take call s s1 e e1 r is ran = ran_as (asks_call (is_write (call_kind call)) (taken_from (take call) call) (spelling call)) (asks take call) (asks_short take call is) ran
+ran_spelled take call s s1 e e1 r is ran =
+    ran_as (asks_call (is_write (call_kind call)) (taken_from (take call) call) (spelling call)) (asks take call)
+    (asks_short take call is) ran
 
 -- one that has none was not
 pub ran_refused : {A : Type 0} (take : PtCall → PtAnswer → Option A) (call : PtCall) (s : Asker) (e : List Exchange)

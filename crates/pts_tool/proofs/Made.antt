@@ -25,7 +25,8 @@ word_is s i w is = sym (ap (λ (o : Option (List ℕ)). unwrap_or o []) is)
 by_operation : (o : Operation) (p : Operation) (s : List Slot) → o ≡ p → tasks_for p s ≡ tasks_for o s
 by_operation o p s is = ap (λ (q : Operation). tasks_for q s) (sym is)
 
-deed_is : (d : Deed) (entries : List (List ℕ)) (s : List Slot) → entries ≡ values_at s 0 → map (deed_task d) entries ≡ map (deed_task d) (values_at s 0)
+deed_is : (d : Deed) (entries : List (List ℕ)) (s : List Slot) → entries ≡ values_at s 0
+    → map (deed_task d) entries ≡ map (deed_task d) (values_at s 0)
 deed_is d entries s is = ap (map (deed_task d)) is
 
 pairs_are : (adds : Bool) (users groups : List (List ℕ)) (s : List Slot) → users ≡ values_at s 0 → groups ≡ values_at s 1

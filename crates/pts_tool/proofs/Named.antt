@@ -21,11 +21,13 @@ pub known_quiet : (name : List ℕ) (id : ℤ) → IsQuiet (known_id name id)
 known_quiet name id = quiet_if (int_eq id (pos 32766) && not (bytes_eq name (codes "anonymous"))) id
 
 -- a word that is a number
-pub ran_number : (word : List ℕ) (id : ℤ) (s : Asker) (e : List Exchange) (r : Result ℤ Stop) → Some id ≡ signed_of word → r ≡ Ok id → Ran (the_id word) s s e e r
+pub ran_number : (word : List ℕ) (id : ℤ) (s : Asker) (e : List Exchange) (r : Result ℤ Stop) → Some id ≡ signed_of word → r ≡ Ok id
+    → Ran (the_id word) s s e e r
 unfolding the_id
 ran_number word id s e r is gave = subst (λ (o : Option ℤ). Ran (id_or o word) s s e e r) is (ran_is s e (Ok id) r tt gave)
 
 -- a word that is a name
-pub ran_name : (word : List ℕ) (s s1 : Asker) (e e1 : List Exchange) (r : Result ℤ Stop) → None ≡ signed_of word → Ran (name_id word) s s1 e e1 r → Ran (the_id word) s s1 e e1 r
+pub ran_name : (word : List ℕ) (s s1 : Asker) (e e1 : List Exchange) (r : Result ℤ Stop) → None ≡ signed_of word
+    → Ran (name_id word) s s1 e e1 r → Ran (the_id word) s s1 e e1 r
 unfolding the_id
 ran_name word s s1 e e1 r is ran = subst (λ (o : Option ℤ). Ran (id_or o word) s s1 e e1 r) is ran

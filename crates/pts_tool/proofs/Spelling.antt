@@ -20,8 +20,11 @@ and_right false b is = cc
 
 all_short : (names : List (List ℕ)) → list_all is_short names ≡ true → AllByRecursion IsName names
 all_short [] is = tt
-all_short (name ∷ names) is =
-    (leb-true _ _ (and_left (is_short name) (list_all is_short names) is), all_short names (and_right (is_short name) (list_all is_short names) is))
+all_short (name ∷ names) is = (
+  leb-true _ _ (and_left (is_short name) (list_all is_short names) is),
+  all_short names
+      (and_right (is_short name) (list_all is_short names) is),
+)
 
 -- what is tested of a call is that it has a spelling
 pub is_spelled : (c : PtCall) → has_spelling c ≡ true → HasSpelling c
@@ -46,7 +49,13 @@ is_spelled (call.ListOwned id) is = (tt, tt)
 opaque_len : (bytes : List ℕ) → length (opaque bytes) ≤ length bytes + 7
 opaque_len bytes =
     let n = length bytes in
-    omega (arith, length-append (word n ++ bytes) (replicate (padding n) 0), length-append (word n) bytes, length-replicate {A = ℕ} (padding n) 0)
+    omega (
+      arith,
+      length-append (word n ++ bytes) (replicate (padding n) 0),
+      length-append (word n) bytes,
+      length-replicate {A = ℕ}
+          (padding n) 0,
+    )
 
 names_len : (names : List (List ℕ)) → AllByRecursion IsName names → length (flat_map opaque names) ≤ 262 * length names
 names_len [] is = omega arith

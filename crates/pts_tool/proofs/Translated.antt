@@ -33,27 +33,34 @@ next_call : (first : Course (List (List ℕ))) (n i : ℕ) (names : List (List �
 next_call first n i names ids s0 s e0 e lt led =
     subst (λ (k : ℕ). Led first s0 e0 [] (names_by k names ids) s e) (one_left n i lt) led
 
-pub names_next : (first : Course (List (List ℕ))) (n i : ℕ) (names new : List (List ℕ)) (ids now later : List ℤ) (s0 s s1 : Asker) (e0 e e1 : List Exchange) (found : List (List ℕ))
+pub names_next : (first : Course (List (List ℕ))) (n i : ℕ) (names new : List (List ℕ)) (ids now later : List ℤ) (s0 s s1 : Asker)
+    (e0 e e1 : List Exchange) (found : List (List ℕ))
     → i < n → now ≡ take 5000 ids → later ≡ drop 5000 ids → new ≡ names ++ found
     → Led first s0 e0 [] (names_by (n - i) names ids) s e → Ran (asks names_in (call.IdToName now)) s s1 e e1 (Ok found)
     → Led first s0 e0 [] (names_by (n - (i + 1)) new later) s1 e1
 names_next first n i names new ids now later s0 s s1 e0 e e1 found lt is rest all led ran =
-    rw (rest, all) (led_on (next_call first n i names ids s0 s e0 e lt led) (led_gave found (more (n - (i + 1)) names ids) (ran_led found refl (rw is at ran))))
+    rw (rest, all) (led_on (next_call first n i names ids s0 s e0 e lt led)
+    (led_gave found (more (n - (i + 1)) names ids) (ran_led found refl (rw is at ran))))
 
-pub names_stop : (first : Course (List (List ℕ))) (n i : ℕ) (names : List (List ℕ)) (ids now : List ℤ) (s0 s s1 : Asker) (e0 e e1 : List Exchange) (why : Stop) → i < n → now ≡ take 5000 ids
+pub names_stop : (first : Course (List (List ℕ))) (n i : ℕ) (names : List (List ℕ)) (ids now : List ℤ) (s0 s s1 : Asker)
+    (e0 e e1 : List Exchange) (why : Stop) → i < n → now ≡ take 5000 ids
     → Led first s0 e0 [] (names_by (n - i) names ids) s e → Ran (asks names_in (call.IdToName now)) s s1 e e1 (Err why)
     → Ran first s0 s1 e0 e1 (Err why)
 names_stop first n i names ids now s0 s s1 e0 e e1 why lt is led ran =
     led_ran (next_call first n i names ids s0 s e0 e lt led) (ran_stops (more (n - (i + 1)) names ids) why refl (rw is at ran))
 
 -- memory ran out behind a call
-pub names_short : (first : Course (List (List ℕ))) (n i : ℕ) (names : List (List ℕ)) (ids now : List ℤ) (s0 s s1 : Asker) (e0 e e1 : List Exchange) (found : List (List ℕ)) → i < n
-    → now ≡ take 5000 ids → Led first s0 e0 [] (names_by (n - i) names ids) s e → Ran (asks names_in (call.IdToName now)) s s1 e e1 (Ok found)
+pub names_short : (first : Course (List (List ℕ))) (n i : ℕ) (names : List (List ℕ)) (ids now : List ℤ) (s0 s s1 : Asker)
+    (e0 e e1 : List Exchange) (found : List (List ℕ)) → i < n
+    → now ≡ take 5000 ids → Led first s0 e0 [] (names_by (n - i) names ids) s e
+    → Ran (asks names_in (call.IdToName now)) s s1 e e1 (Ok found)
     → Ran first s0 s1 e0 e1 (Err stop.NoMemory)
 names_short first n i names ids now s0 s s1 e0 e e1 found lt is led ran =
-    led_ran (names_next first n i names (names ++ found) ids now (drop 5000 ids) s0 s s1 e0 e e1 found lt is refl refl led ran) (ran_short (names_by (n - (i + 1)) (names ++ found) (drop 5000 ids)) s1 e1)
+    led_ran (names_next first n i names (names ++ found) ids now (drop 5000 ids) s0 s s1 e0 e e1 found lt is refl refl led ran)
+    (ran_short (names_by (n - (i + 1)) (names ++ found) (drop 5000 ids)) s1 e1)
 
-pub names_all : (first : Course (List (List ℕ))) (n i : ℕ) (names : List (List ℕ)) (ids : List ℤ) (s0 s : Asker) (e0 e : List Exchange) → n ≤ i
+pub names_all : (first : Course (List (List ℕ))) (n i : ℕ) (names : List (List ℕ)) (ids : List ℤ) (s0 s : Asker) (e0 e : List Exchange)
+    → n ≤ i
     → Led first s0 e0 [] (names_by (n - i) names ids) s e → Ran first s0 s e0 e (Ok names)
 names_all first n i names ids s0 s e0 e le led =
     let none : n - i ≡ zero = omega arith in

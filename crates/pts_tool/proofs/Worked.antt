@@ -18,27 +18,32 @@ use Rattle.pts_tool.specs.declared.tasks.Task.TheVariants as task
 pub item_next : {A : Type 0} (xs : List A) (i : ℕ) (x : A) → i < length xs → x ≡ get_or xs i x → drop i xs ≡ x ∷ drop (i + 1) xs
 item_next xs i x lt is = rw add-one (drop-cons xs i x lt ∙ ap (λ y. y ∷ drop (suc i) xs) (sym is))
 
-under_item : (tasks : List Task) (i : ℕ) (x : Task) (first : Course (Unit {0})) (s0 s : Asker) (e0 e : List Exchange) (written told : Option (List ℕ))
+under_item : (tasks : List Task) (i : ℕ) (x : Task) (first : Course (Unit {0})) (s0 s : Asker) (e0 e : List Exchange)
+    (written told : Option (List ℕ))
     → i < length tasks → x ≡ get_or tasks i x → Under first s0 (works (drop i tasks)) s e0 e written told
     → Under first s0 (task_course x >>= text_then (works (drop (i + 1) tasks))) s e0 e written told
 under_item tasks i x first s0 s e0 e written told lt is under =
     subst (λ (ts : List Task). Under first s0 (works ts) s e0 e written told) (item_next tasks i x lt is) under
 
-pub item_done : (tasks : List Task) (i : ℕ) (x : Task) (first : Course (Unit {0})) (s0 s s1 : Asker) (e0 e e1 : List Exchange) (written told after : Option (List ℕ)) (text : List ℕ)
+pub item_done : (tasks : List Task) (i : ℕ) (x : Task) (first : Course (Unit {0})) (s0 s s1 : Asker) (e0 e e1 : List Exchange)
+    (written told after : Option (List ℕ)) (text : List ℕ)
     → i < length tasks → x ≡ get_or tasks i x → Under first s0 (works (drop i tasks)) s e0 e written told
-    → Ran (task_course x) s s1 e e1 (Ok text) → Appended told after text → Under first s0 (works (drop (i + 1) tasks)) s1 e0 e1 written after
+    → Ran (task_course x) s s1 e e1 (Ok text) → Appended told after text
+    → Under first s0 (works (drop (i + 1) tasks)) s1 e0 e1 written after
 item_done tasks i x first s0 s s1 e0 e e1 written told after text lt is under ran appended =
     under_next (task_course x) (works (drop (i + 1) tasks)) first s0 s s1 e0 e e1 written told after text
     (under_item tasks i x first s0 s e0 e written told lt is under) ran appended
 
-pub item_stops : (tasks : List Task) (i : ℕ) (x : Task) (first : Course (Unit {0})) (s0 s s1 : Asker) (e0 e e1 : List Exchange) (written told : Option (List ℕ)) (why : Stop)
+pub item_stops : (tasks : List Task) (i : ℕ) (x : Task) (first : Course (Unit {0})) (s0 s s1 : Asker) (e0 e e1 : List Exchange)
+    (written told : Option (List ℕ)) (why : Stop)
     → i < length tasks → x ≡ get_or tasks i x → Under first s0 (works (drop i tasks)) s e0 e written told
     → Ran (task_course x) s s1 e e1 (Err why) → Told first s0 s1 e0 e1 written told (Err why)
 item_stops tasks i x first s0 s s1 e0 e e1 written told why lt is under ran =
     told_stops (task_course x) (works (drop (i + 1) tasks)) first s0 s s1 e0 e e1 written told why
     (under_item tasks i x first s0 s e0 e written told lt is under) ran
 
-pub item_part : (tasks : List Task) (i : ℕ) (x : Task) (first : Course (Unit {0})) (s0 s s1 : Asker) (e0 e e1 : List Exchange) (written told after : Option (List ℕ)) (text : List ℕ)
+pub item_part : (tasks : List Task) (i : ℕ) (x : Task) (first : Course (Unit {0})) (s0 s s1 : Asker) (e0 e e1 : List Exchange)
+    (written told after : Option (List ℕ)) (text : List ℕ)
     → i < length tasks → x ≡ get_or tasks i x → Under first s0 (works (drop i tasks)) s e0 e written told
     → Ran (task_course x) s s1 e e1 (Ok text) → FrontOf told after text → Told first s0 s1 e0 e1 written after (Err stop.WriteFault)
 item_part tasks i x first s0 s s1 e0 e e1 written told after text lt is under ran part =

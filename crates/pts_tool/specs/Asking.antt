@@ -33,4 +33,5 @@ taken_from take call bytes = option_and_then take (answer_of (asked_for (call_ki
 -- a call that has a spelling is asked; another is refused as each server would refuse it
 unfoldable pub asks : {A : Type 0} → (PtCall → PtAnswer → Option A) → PtCall → Course A
 asks take call =
-    if has_spelling call then asks_call (is_write (call_kind call)) (taken_from (take call) call) (spelling call) else stops (Refused Malformed)
+    if has_spelling call then asks_call (is_write (call_kind call)) (taken_from (take call) call) (spelling call) else stops
+    (Refused Malformed)

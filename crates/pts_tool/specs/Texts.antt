@@ -73,4 +73,5 @@ rows entries = flat_map entry_row entries
 -- the greatest ids that were given
 abbrev pub maxima_text : Maxima → List ℕ
 maxima_text maxima =
-    joined (codes "Max user id is " ∷ signed_decimal maxima.user ∷ codes " and max group id is " ∷ signed_decimal maxima.group ∷ codes "." ∷ end ∷ [])
+    joined (codes "Max user id is " ∷ signed_decimal maxima.user ∷ codes " and max group id is " ∷ signed_decimal maxima.group ∷ codes
+    "." ∷ end ∷ [])

@@ -28,7 +28,8 @@ none_left limits items id call many within =
     let few = within_limits limits (with_event (counts_of items) (event.Ask id call)) within in
     let last : asks_of items + 1 ≤ 4294967295 = few.2 in absurd (omega (arith, many, last))
 
-not_begun : {D V : Type 0} (g : Ghosts D) (d : Standing) (id other : ℕ) (call : List ℕ) (now : ℕ) (before after : Node D V g) (was is : List JournalItem) (out : List Output)
+not_begun : {D V : Type 0} (g : Ghosts D) (d : Standing) (id other : ℕ) (call : List ℕ) (now : ℕ) (before after : Node D V g)
+    (was is : List JournalItem) (out : List Output)
     → IsRefused g d (event.Ask id call) now before after was is out → IsRefused g d (event.Ask other call) now before after was is out
 not_begun g d id other call now before after was is out refused =
     record {
@@ -37,12 +38,15 @@ not_begun g d id other call now before after was is out refused =
       outputs_are = refused.outputs_are;
     }
 
-past_the_last : {D V : Type 0} (g : Ghosts D) (d : Standing) (limits : Limits) (call : List ℕ) (peer number now id : ℕ) (before after : Seen D V g) (sent : List Sending) (e : TurnEnd)
+past_the_last : {D V : Type 0} (g : Ghosts D) (d : Standing) (limits : Limits) (call : List ℕ) (peer number now id : ℕ)
+    (before after : Seen D V g) (sent : List Sending) (e : TurnEnd)
     → 2 ^ 32 ≤ asks_of before.items + 1
     → TurnsBy g d limits (event.Ask id call) (asker id peer number) now before after sent e
     → TurnsBy g d limits (event.Ask (asks_of before.items + 1) call) (asker (asks_of before.items + 1) peer number) now before after sent e
-past_the_last g d limits call peer number now id before after sent end.Done many turned = absurd (none_left limits before.items id call many turned.1.0)
-past_the_last g d limits call peer number now id before after sent end.Halted many turned = absurd (none_left limits before.items id call many turned.1.0)
+past_the_last g d limits call peer number now id before after sent end.Done many turned =
+    absurd (none_left limits before.items id call many turned.1.0)
+past_the_last g d limits call peer number now id before after sent end.Halted many turned =
+    absurd (none_left limits before.items id call many turned.1.0)
 past_the_last g d limits call peer number now id before after sent end.Cut many turned =
     elim turned.1 [
       | inl made ↦ absurd (none_left limits before.items id call many made.0)
@@ -52,7 +56,8 @@ past_the_last g d limits call peer number now id before after sent (end.JournalF
 past_the_last g d limits call peer number now id before after sent end.NoMemory many turned =
     (not_begun g d id (asks_of before.items + 1) call now _ _ _ _ _ turned.0, turned.1, turned.2, turned.3)
 
-by_room : {D V : Type 0} (g : Ghosts D) (d : Standing) (limits : Limits) (call : List ℕ) (peer number now id : ℕ) (before after : Seen D V g) (sent : List Sending) (e : TurnEnd) (room : Bool)
+by_room : {D V : Type 0} (g : Ghosts D) (d : Standing) (limits : Limits) (call : List ℕ) (peer number now id : ℕ)
+    (before after : Seen D V g) (sent : List Sending) (e : TurnEnd) (room : Bool)
     → nat_lt (asks_of before.items + 1) 4294967296 ≡ room → id ≡ (asks_of before.items + 1) % 2 ^ 32
     → TurnsBy g d limits (event.Ask id call) (asker id peer number) now before after sent e
     → TurnsBy g d limits (event.Ask (asks_of before.items + 1) call) (asker (asks_of before.items + 1) peer number) now before after sent e
@@ -65,7 +70,8 @@ by_room g d limits call peer number now id before after sent e false room is tur
     past_the_last g d limits call peer number now id before after sent e many turned
 
 -- the id that code gives, of 32 bits, is the next one wherever a step is made under it
-pub asked_next : {D V : Type 0} (g : Ghosts D) (d : Standing) (limits : Limits) (call : List ℕ) (peer number now id : ℕ) (before after : Seen D V g) (sent : List Sending) (e : TurnEnd)
+pub asked_next : {D V : Type 0} (g : Ghosts D) (d : Standing) (limits : Limits) (call : List ℕ) (peer number now id : ℕ)
+    (before after : Seen D V g) (sent : List Sending) (e : TurnEnd)
     → id ≡ (asks_of before.items + 1) % 2 ^ 32
     → TurnsBy g d limits (event.Ask id call) (asker id peer number) now before after sent e
     → TurnsBy g d limits (event.Ask (asks_of before.items + 1) call) (asker (asks_of before.items + 1) peer number) now before after sent e

@@ -43,13 +43,15 @@ after_is asks event.BeaconTurn = omega arith
 after_is asks event.RecoverTurn = omega arith
 after_is asks (event.Ask id call) = refl
 
-numbered_and : (asks : ℕ) (items : List JournalItem) (item : JournalItem) → are_numbered asks items ≡ true → asks_next (asks + asks_of items) item.event ≡ true
+numbered_and : (asks : ℕ) (items : List JournalItem) (item : JournalItem) → are_numbered asks items ≡ true
+    → asks_next (asks + asks_of items) item.event ≡ true
     → are_numbered asks (items ++ item ∷ []) ≡ true
 numbered_and asks [] item all next =
     let same : asks + 0 ≡ asks = omega arith in
     both (asks_next asks item.event) true (subst (λ (n : ℕ). asks_next n item.event ≡ true) same next) refl
 numbered_and asks (i ∷ items) item all next =
-    let same : asks + asks_of (i ∷ items) ≡ asks_after asks i.event + asks_of items = omega (arith, asks_more i items, after_is asks i.event) in
+    let same : asks + asks_of (i ∷ items) ≡ asks_after asks i.event + asks_of items = omega
+    (arith, asks_more i items, after_is asks i.event) in
     both (asks_next asks i.event) (are_numbered (asks_after asks i.event) (items ++ item ∷ []))
     (first (asks_next asks i.event) (are_numbered (asks_after asks i.event) items) all)
     (numbered_and (asks_after asks i.event) items item (second (asks_next asks i.event) (are_numbered (asks_after asks i.event) items) all)
@@ -66,8 +68,10 @@ next_by limits items (event.Ask id call) within next =
     let same : id ≡ asks_of items + 1 = next room in grind (arith, nat_tests)
 
 -- a step that the journal has room for
-pub numbered_more : (limits : Limits) (items : List JournalItem) (item : JournalItem) → is_past limits (with_event (counts_of items) item.event) ≡ false
-    → (asks_of items + 1 < 2 ^ 32 → IsNext (asks_of items) item.event) → are_numbered 0 items ≡ true → are_numbered 0 (items ++ item ∷ []) ≡ true
+pub numbered_more : (limits : Limits) (items : List JournalItem) (item : JournalItem)
+    → is_past limits (with_event (counts_of items) item.event) ≡ false
+    → (asks_of items + 1 < 2 ^ 32 → IsNext (asks_of items) item.event) → are_numbered 0 items ≡ true
+    → are_numbered 0 (items ++ item ∷ []) ≡ true
 numbered_more limits items item within next all =
     let same : asks_of items ≡ 0 + asks_of items = omega arith in
     numbered_and 0 items item all (subst (λ (n : ℕ). asks_next n item.event ≡ true) same (next_by limits items item.event within next))
@@ -81,12 +85,14 @@ taken_more m (i ∷ items) item is all =
 
 -- ---- the items of the model
 
-numbered_told : (asks : ℕ) (whole : List model.JournalItem) → are_numbered asks (map untold whole) ≡ true → asking.are_numbered asks whole ≡ true
+numbered_told : (asks : ℕ) (whole : List model.JournalItem) → are_numbered asks (map untold whole) ≡ true
+    → asking.are_numbered asks whole ≡ true
 numbered_told asks [] all = refl
 numbered_told asks (i ∷ whole) all =
     both (asks_next asks i.event) (asking.are_numbered (asks_after asks i.event) whole)
     (first (asks_next asks i.event) (are_numbered (asks_after asks i.event) (map untold whole)) all)
-    (numbered_told (asks_after asks i.event) whole (second (asks_next asks i.event) (are_numbered (asks_after asks i.event) (map untold whole)) all))
+    (numbered_told (asks_after asks i.event) whole
+    (second (asks_next asks i.event) (are_numbered (asks_after asks i.event) (map untold whole)) all))
 
 pub recorded_fits : {D : Type 0} (g : Ghosts D) (d : Standing) → RecordedFits g d
 recorded_fits g d m opened kept now outputs disk is numbered =

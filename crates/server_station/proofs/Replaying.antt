@@ -73,7 +73,8 @@ is_false : (b : Bool) → ¬ (b ≡ true) → b ≡ false
 is_false true not_so = absurd (not_so refl)
 is_false false not_so = refl
 
-arrives : (d : Standing) (m : Member) (opened : model.Node) (whole : List items.JournalItem) (after made : model.Node) (outputs out shown : List Output)
+arrives : (d : Standing) (m : Member) (opened : model.Node) (whole : List items.JournalItem) (after made : model.Node)
+    (outputs out shown : List Output)
     → after ≡ made → out ≡ shown → IsJournal d m opened whole made (outputs ++ shown) → IsJournal d m opened whole after (outputs ++ out)
 arrives d m opened whole after made outputs out shown server put is =
     let P : model.Node → Type 0 = λ n. IsJournal d m opened whole n (outputs ++ out) in
@@ -102,33 +103,40 @@ module _ {D : Type 0} (g : Ghosts D) (d : Standing) (m : Member) where
   module _ (now : ℕ) (e : NodeEvent) (old new : D) where
     made_more : (s : model.Server) (after : model.Node) (out : List Output) (halted : Bool) (o : Choices d)
         → let t = step_by (dbs_of o) m s now e o.short in
-        length s.waiting ≤ 64 → halted ≡ false → after ≡ model.Up t.server → out ≡ outputs_of t.shown → OneMore (model.Up s) after e now out halted old new
+        length s.waiting ≤ 64 → halted ≡ false → after ≡ model.Up t.server → out ≡ outputs_of t.shown
+        → OneMore (model.Up s) after e now out halted old new
     made_more s after out halted o line up server put =
         let t = step_by (told_by d.database o.told) m s now e o.short in
-        let few : length (shorts_of (outputs_of t.shown)) ≤ 128 = omega (arith, step_few (told_by d.database o.told) m s now e o.short, line) in
+        let few : length (shorts_of (outputs_of t.shown)) ≤ 128 = omega
+        (arith, step_few (told_by d.database o.told) m s now e o.short, line) in
         record {
           item = laws.item_of now e o.told t;
-          kept = ap (λ (n : ℕ). record { now = now; event = e; short = n; halted = false }) (sym (short_same (outputs_of t.shown) few) ∙ ap short_of (sym put))
+          kept = ap (λ (n : ℕ). record { now = now; event = e; short = n; halted = false })
+              (sym (short_same (outputs_of t.shown) few) ∙ ap short_of (sym put))
               ∙ ap (λ (h : Bool). record { now = now; event = e; short = short_of out; halted = h }) (sym up);
           leads = λ opened whole outputs is.
-              arrives d m opened (whole ++ laws.item_of now e o.told t ∷ []) after (model.Up t.server) outputs out (outputs_of t.shown) server put
+              arrives d m opened (whole ++ laws.item_of now e o.told t ∷ []) after (model.Up t.server) outputs out
+              (outputs_of t.shown) server put
               (journal_steps d m opened whole s outputs now e o.short o.told few o.may is);
           fails = λ opened whole outputs is disk failed. (let clash : true ≡ false = sym failed ∙ up in absurd cc);
         }
 
-    halted_kept : (out : List Output) (halted : Bool) → halted ≡ true → out ≡ outputs_of (refusals e) → untold (halted_item now e) ≡ item_of now e out halted
+    halted_kept : (out : List Output) (halted : Bool) → halted ≡ true → out ≡ outputs_of (refusals e)
+        → untold (halted_item now e) ≡ item_of now e out halted
     halted_kept out halted is put =
         ap (λ (n : ℕ). record { now = now; event = e; short = n; halted = true }) (sym (none_short e) ∙ ap short_of (sym put))
         ∙ ap (λ (h : Bool). record { now = now; event = e; short = short_of out; halted = h }) (sym is)
 
     halts_more : (s : model.Server) (after : model.Node) (out : List Output) (halted : Bool) (o : Choices d)
         → halted ≡ true → after ≡ model.Halted (model.halted_from s) → out ≡ outputs_of (refusals e)
-        → FailsIn g (durable_in s) old new (step_by (dbs_of o) m s now e o.short).calls → OneMore (model.Up s) after e now out halted old new
+        → FailsIn g (durable_in s) old new (step_by (dbs_of o) m s now e o.short).calls
+        → OneMore (model.Up s) after e now out halted old new
     halts_more s after out halted o is server put failed = record {
       item = halted_item now e;
       kept = halted_kept out halted is put;
       leads = λ opened whole outputs was.
-          arrives d m opened (whole ++ halted_item now e ∷ []) after (model.Halted (model.halted_from s)) outputs out (outputs_of (refusals e)) server put
+          arrives d m opened (whole ++ halted_item now e ∷ []) after (model.Halted (model.halted_from s)) outputs out
+          (outputs_of (refusals e)) server put
           (journal_halts d m opened whole s outputs now e was);
       fails = λ opened whole outputs was disk _. record {
         before = whole;
@@ -145,7 +153,8 @@ module _ {D : Type 0} (g : Ghosts D) (d : Standing) (m : Member) where
     }
 
     stays_more : (h : model.HaltedServer) (after : model.Node) (out : List Output) (halted : Bool)
-        → halted ≡ true → after ≡ model.Halted h → out ≡ outputs_of (refusals e) → new ≡ old → OneMore (model.Halted h) after e now out halted old new
+        → halted ≡ true → after ≡ model.Halted h → out ≡ outputs_of (refusals e) → new ≡ old
+        → OneMore (model.Halted h) after e now out halted old new
     stays_more h after out halted is server put same = record {
       item = halted_item now e;
       kept = halted_kept out halted is put;
@@ -158,7 +167,8 @@ module _ {D : Type 0} (g : Ghosts D) (d : Standing) (m : Member) where
             before = disk.before;
             item = disk.item;
             after = disk.after ++ halted_item now e ∷ [];
-            whole_is = ap (λ (xs : List items.JournalItem). xs ++ halted_item now e ∷ []) disk.whole_is ∙ append_assoc disk.before (disk.item ∷ disk.after) (halted_item now e ∷ []);
+            whole_is = ap (λ (xs : List items.JournalItem). xs ++ halted_item now e ∷ []) disk.whole_is
+                ∙ append_assoc disk.before (disk.item ∷ disk.after) (halted_item now e ∷ []);
             server = disk.server;
             was = disk.was;
             halted = disk.halted;
@@ -173,11 +183,14 @@ module _ {D : Type 0} (g : Ghosts D) (d : Standing) (m : Member) where
         → ((s : model.Server) → before ≡ model.Up s → length s.waiting ≤ 64) → end ≢ step.NoMemory → (end ≡ step.Halted) ↔ (halted ≡ true)
         → StepsFreely g d m end e now before after out old new → OneMore before after e now out halted old new
     one_more step.Done (model.Up s) after out halted line short halts made =
-        made_more s after out halted made.0 (line s refl) (is_false halted (λ is. let no : step.Done ≡ step.Halted = halts.1 is in cc)) made.1.server made.1.outputs
+        made_more s after out halted made.0 (line s refl)
+        (is_false halted (λ is. let no : step.Done ≡ step.Halted = halts.1 is in cc)) made.1.server made.1.outputs
     one_more step.Done (model.Halted h) after out halted line short halts made = absurd made
     one_more step.Done model.Down after out halted line short halts made = absurd made
-    one_more step.Halted (model.Up s) after out halted line short halts made = halts_more s after out halted made.2 (halts.0 refl) made.0 made.1 made.3
-    one_more step.Halted (model.Halted h) after out halted line short halts made = stays_more h after out halted (halts.0 refl) made.0 made.1 made.2
+    one_more step.Halted (model.Up s) after out halted line short halts made =
+        halts_more s after out halted made.2 (halts.0 refl) made.0 made.1 made.3
+    one_more step.Halted (model.Halted h) after out halted line short halts made =
+        stays_more h after out halted (halts.0 refl) made.0 made.1 made.2
     one_more step.Halted model.Down after out halted line short halts made = absurd made
     one_more step.NoMemory before after out halted line short halts made = absurd (short refl)
 
@@ -200,7 +213,8 @@ module _ (tells : Type 0) (is : tells) where
   body_needs (body.Abort new) = tt
   body_needs (body.VersionKept version) = is
 
-then_needs : (db : Database) (m : Member) (s : model.Server) (e : NodeEvent) (now : ℕ) (files : Option Files) → IsSome files → NeedsThen db m s e now files
+then_needs : (db : Database) (m : Member) (s : model.Server) (e : NodeEvent) (now : ℕ) (files : Option Files) → IsSome files
+    → NeedsThen db m s e now files
 then_needs db m s (event.Packet p) now files is = body_needs (IsSome files) is p.body
 then_needs db m s event.BeaconTurn now files is = tt
 then_needs db m s event.RecoverTurn now files is = λ many. is
@@ -214,11 +228,13 @@ step_needs db m model.Down e now files told = tt
 
 -- ---- a node that is not halted
 
-up_not_halted : (b : Bool) (h : model.HaltedServer) (s t : model.Server) → cond b (model.Halted h) (model.Up s) ≡ model.Up t → (b ≡ false) × (s ≡ t)
+up_not_halted : (b : Bool) (h : model.HaltedServer) (s t : model.Server) → cond b (model.Halted h) (model.Up s) ≡ model.Up t
+    → (b ≡ false) × (s ≡ t)
 up_not_halted true h s t is = absurd cc
 up_not_halted false h s t is = (refl, cc)
 
-was_up : {D : Type 0} (g : Ghosts D) (d : Standing) (m : Member) (end : StepEnd) (e : NodeEvent) (now : ℕ) (before after : model.Node) (out : List Output) (old new : D)
+was_up : {D : Type 0} (g : Ghosts D) (d : Standing) (m : Member) (end : StepEnd) (e : NodeEvent) (now : ℕ) (before after : model.Node)
+    (out : List Output) (old new : D)
     → end ≢ step.Halted → StepsFreely g d m end e now before after out old new → (s : model.Server) × (before ≡ model.Up s)
 was_up g d m step.Done e now (model.Up s) after out old new up made = (s, refl)
 was_up g d m step.Done e now (model.Halted h) after out old new up made = absurd made
@@ -228,7 +244,8 @@ was_up g d m step.NoMemory e now (model.Halted h) after out old new up made = ab
 was_up g d m step.NoMemory e now model.Down after out old new up made = absurd made
 was_up g d m step.Halted e now before after out old new up made = absurd (up refl)
 
-same_node : {D : Type 0} (g : Ghosts D) (d : Standing) (m : Member) (e : NodeEvent) (now : ℕ) (before after : model.Node) (out : List Output) (old new : D)
+same_node : {D : Type 0} (g : Ghosts D) (d : Standing) (m : Member) (e : NodeEvent) (now : ℕ) (before after : model.Node)
+    (out : List Output) (old new : D)
     → StepsFreely g d m step.NoMemory e now before after out old new → before ≡ after
 same_node g d m e now (model.Up s) after out old new made = sym made.0
 same_node g d m e now (model.Halted h) after out old new made = absurd made
@@ -237,8 +254,10 @@ same_node g d m e now model.Down after out old new made = absurd made
 -- ---- the disk of a server that is up
 
 -- files at rest that a store keeps
-stands : (files : Option Files) (version own : Version) (bytes : List ℕ) → IsSome files → IfSome files (λ fs. IsAtRest version (image_of fs.database) fs)
-    → version ≡ own → IfSome (image_in files) (λ there. there ≡ bytes) → IsSomeAnd files (StandsAs (record { version = own; image = bytes }))
+stands : (files : Option Files) (version own : Version) (bytes : List ℕ) → IsSome files
+    → IfSome files (λ fs. IsAtRest version (image_of fs.database) fs)
+    → version ≡ own → IfSome (image_in files) (λ there. there ≡ bytes)
+    → IsSomeAnd files (StandsAs (record { version = own; image = bytes }))
 stands None version own bytes is rests same image = absurd cc
 stands (Some fs) version own bytes is rests same image =
     let there = at_rest_stands fs version (image_of fs.database) rests in
@@ -248,9 +267,11 @@ stands (Some fs) version own bytes is rests same image =
 pub stands_up : {D V : Type 0} (g : Ghosts D) (n : Node D V g) → n.store.failed ≡ false → IsSome (g.files n.store.disk)
     → IsSomeAnd (g.files n.store.disk) (StandsAs (durable_in (up_server n)))
 stands_up g n up tells =
-    stands (g.files n.store.disk) n.store.version n.state.version n.state.image tells (n.stored.sound.ready up).rests (n.stored.version up) (n.stored.image up)
+    stands (g.files n.store.disk) n.store.version n.state.version n.state.image tells (n.stored.sound.ready up).rests
+    (n.stored.version up) (n.stored.image up)
 
-tells_up : {D : Type 0} (g : Ghosts D) (d : Standing) (m : Member) (opened : model.Node) (whole : List items.JournalItem) (n : model.Node) (disk : D)
+tells_up : {D : Type 0} (g : Ghosts D) (d : Standing) (m : Member) (opened : model.Node) (whole : List items.JournalItem)
+    (n : model.Node) (disk : D)
     → IsDiskOf g d m opened whole n disk → (s : model.Server) → n ≡ model.Up s → IsSome (g.files disk)
 tells_up g d m opened whole (model.Up t) disk is s same = some_of (g.files disk) (StandsAs (durable_in t)) is
 tells_up g d m opened whole (model.Halted h) disk is s same = absurd cc
@@ -266,36 +287,43 @@ module _ {D V : Type 0} (g : Ghosts D) (d : Standing) (opened before after : Nod
 
   line_few : (s : model.Server) → IsUp s → length s.waiting ≤ 64
   line_few s is =
-      let same : up_server before ≡ s = (up_not_halted before.store.failed (model.halted_from (up_server before)) (up_server before) s is).1 in
+      let same : up_server before ≡ s =
+      (up_not_halted before.store.failed (model.halted_from (up_server before)) (up_server before) s is).1 in
       let room : length (up_server before).waiting ≤ MAX_WAITING = before.state.written.room in
       let P : model.Server → Type 0 = λ t. length t.waiting ≤ 64 in subst P same room
 
   -- what the step was, at a server that is the replay of its journal
-  module _ (end : StepEnd) (out : List Output) (member : own_member before ≡ own_member opened) (was : IsNow before kept outputs) (ended : IsStep g d end e now before after out) where
+  module _ (end : StepEnd) (out : List Output) (member : own_member before ≡ own_member opened) (was : IsNow before kept outputs)
+      (ended : IsStep g d end e now before after out) where
     told_up : (s : model.Server) → IsUp s → IsSome (g.files before.store.disk)
     told_up = tells_up g d (own_member opened) (node_of opened) was.whole (node_of before) before.store.disk was.disk_is
 
     made : StepsFreely g d (own_member opened) end e now (node_of before) (node_of after) out before.store.disk after.store.disk
     made =
-        let P : Member → Type 0 = λ m. StepsFreely g d m end e now (node_of before) (node_of after) out before.store.disk after.store.disk in
+        let P : Member → Type 0 = λ m. StepsFreely g d m end e now (node_of before)
+        (node_of after) out before.store.disk after.store.disk in
         subst P member (ended.steps (step_needs d.database (own_member before) (node_of before) e now (g.files before.store.disk) told_up))
 
     still_told : after.store.failed ≡ false → IsSome (g.files after.store.disk)
     still_told up =
         let alive : end ≢ step.Halted = λ is. let no : after.store.failed ≡ true = ended.halts.0 is in absurd cc in
-        let was_so = was_up g d (own_member opened) end e now (node_of before) (node_of after) out before.store.disk after.store.disk alive made in
+        let was_so = was_up g d (own_member opened) end e now (node_of before)
+        (node_of after) out before.store.disk after.store.disk alive made in
         ended.told alive (told_up was_so.0 was_so.1)
 
-    disk_by : (whole : List items.JournalItem) → (after.store.failed ≡ true → IsFailedIn g d (own_member opened) (node_of opened) whole after.store.disk)
+    disk_by : (whole : List items.JournalItem)
+        → (after.store.failed ≡ true → IsFailedIn g d (own_member opened) (node_of opened) whole after.store.disk)
         → (b : Bool) → after.store.failed ≡ b
-        → IsDiskOf g d (own_member opened) (node_of opened) whole (if b then model.Halted (model.halted_from (up_server after)) else model.Up (up_server after)) after.store.disk
+        → IsDiskOf g d (own_member opened) (node_of opened) whole
+        (if b then model.Halted (model.halted_from (up_server after)) else model.Up (up_server after)) after.store.disk
     disk_by whole fails true down = fails down
     disk_by whole fails false up = stands_up g after up (still_told up)
 
     -- one item more
     replay_more : end ≢ step.NoMemory → IsNow after (kept ++ item_of now e out after.store.failed ∷ []) (outputs ++ out)
     replay_more short =
-        let more = one_more g d (own_member opened) now e before.store.disk after.store.disk end (node_of before) (node_of after) out after.store.failed line_few short ended.halts made in
+        let more = one_more g d (own_member opened) now e before.store.disk after.store.disk end (node_of before)
+        (node_of after) out after.store.failed line_few short ended.halts made in
         let whole = was.whole ++ more.item ∷ [] in
         record {
           whole = whole;
@@ -309,31 +337,39 @@ module _ {D V : Type 0} (g : Ghosts D) (d : Standing) (opened before after : Nod
     -- a step that ended for want of memory
     replay_same : end ≡ step.NoMemory → IsNow after kept outputs
     replay_same short =
-        let P : StepEnd → Type 0 = λ x. StepsFreely g d (own_member opened) x e now (node_of before) (node_of after) out before.store.disk after.store.disk in
-        let same = same_node g d (own_member opened) e now (node_of before) (node_of after) out before.store.disk after.store.disk (subst P short made) in
+        let P : StepEnd → Type 0 = λ x. StepsFreely g d (own_member opened) x e now (node_of before)
+        (node_of after) out before.store.disk after.store.disk in
+        let same = same_node g d (own_member opened) e now (node_of before) (node_of after) out before.store.disk after.store.disk
+        (subst P short made) in
         let Q : model.Node → Type 0 = λ n. IsJournal d (own_member opened) (node_of opened) was.whole n outputs in
         record {
           whole = was.whole;
           kept_is = was.kept_is;
           journal = subst Q same was.journal;
-          disk_is = disk_by was.whole (λ down. let clash : step.NoMemory ≡ step.Halted = sym short ∙ ended.halts.1 down in absurd cc) after.store.failed refl;
+          disk_is = disk_by was.whole
+              (λ down. let clash : step.NoMemory ≡ step.Halted = sym short ∙ ended.halts.1 down in absurd cc) after.store.failed refl;
         }
 
 -- ---- as the type of a station has it
 
-pub replays_more : {D V : Type 0} (g : Ghosts D) (d : Standing) (opened before after : Node D V g) (kept : List JournalItem) (outputs out : List Output) (e : NodeEvent) (now : ℕ) (end : StepEnd)
-    → end ≢ step.NoMemory → own_member before ≡ own_member opened → IsStep g d end e now before after out → Replays g d opened before kept outputs
+pub replays_more : {D V : Type 0} (g : Ghosts D) (d : Standing) (opened before after : Node D V g) (kept : List JournalItem)
+    (outputs out : List Output) (e : NodeEvent) (now : ℕ) (end : StepEnd)
+    → end ≢ step.NoMemory → own_member before ≡ own_member opened → IsStep g d end e now before after out
+    → Replays g d opened before kept outputs
     → Replays g d opened after (kept ++ item_of now e out after.store.failed ∷ []) (outputs ++ out)
 replays_more g d opened before after kept outputs out e now end short member ended was =
     λ tells. ∥∥₁_map (was tells) (λ is. replay_more g d opened before after kept outputs e now end out member is ended short)
 
-pub replays_same : {D V : Type 0} (g : Ghosts D) (d : Standing) (opened before after : Node D V g) (kept : List JournalItem) (outputs out : List Output) (e : NodeEvent) (now : ℕ)
-    → own_member before ≡ own_member opened → IsStep g d step.NoMemory e now before after out → Replays g d opened before kept outputs → Replays g d opened after kept outputs
+pub replays_same : {D V : Type 0} (g : Ghosts D) (d : Standing) (opened before after : Node D V g) (kept : List JournalItem)
+    (outputs out : List Output) (e : NodeEvent) (now : ℕ)
+    → own_member before ≡ own_member opened → IsStep g d step.NoMemory e now before after out → Replays g d opened before kept outputs
+    → Replays g d opened after kept outputs
 replays_same g d opened before after kept outputs out e now member ended was =
     λ tells. ∥∥₁_map (was tells) (λ is. replay_same g d opened before after kept outputs e now step.NoMemory out member is ended refl)
 
 -- at the opening
-pub replays_none : {D V : Type 0} (g : Ghosts D) (d : Standing) (opened : Node D V g) → IsJustOpened opened → Replays g d opened opened [] []
+pub replays_none : {D V : Type 0} (g : Ghosts D) (d : Standing) (opened : Node D V g) → IsJustOpened opened
+    → Replays g d opened opened [] []
 replays_none g d opened first = λ tells.
     ∥∥₁_map first (λ found. record {
       whole = [];
@@ -341,12 +377,14 @@ replays_none g d opened first = λ tells.
       journal = record { each = tt; leads = refl };
       disk_is =
           (let up = (up_not_halted opened.store.failed (model.halted_from (up_server opened)) (up_server opened) _ found.1).0 in
-          let P : Bool → Type 0 = λ b. IsDiskOf g d (own_member opened) (node_of opened) [] (if b then model.Halted (model.halted_from (up_server opened)) else model.Up (up_server opened)) opened.store.disk in
+          let P : Bool → Type 0 = λ b. IsDiskOf g d (own_member opened) (node_of opened) []
+          (if b then model.Halted (model.halted_from (up_server opened)) else model.Up (up_server opened)) opened.store.disk in
           subst P (sym up) (stands_up g opened up tells));
     })
 
 -- the same of what equals it
-pub replays_at : {D V : Type 0} (g : Ghosts D) (d : Standing) (opened first now : Node D V g) (kept items : List JournalItem) (outputs put : List Output)
+pub replays_at : {D V : Type 0} (g : Ghosts D) (d : Standing) (opened first now : Node D V g) (kept items : List JournalItem)
+    (outputs put : List Output)
     → first ≡ opened → items ≡ kept → put ≡ outputs → Replays g d opened now kept outputs → Replays g d first now items put
 replays_at {D} {V} g d opened first now kept items outputs put same journal out was =
     let P : Node D V g → Type 0 = λ n. Replays g d n now items put in
@@ -355,7 +393,8 @@ replays_at {D} {V} g d opened first now kept items outputs put same journal out 
 
 -- a node as `open` leaves it was just opened
 pub just_opened : {D V : Type 0} {g : Ghosts D} (n : Node D V g) (hosts : List Host) (me now : ℕ) (found : Durable)
-    → node_of n ≡ model.Up (model.opened_server (length hosts) found now) → own_member n ≡ record { hosts = hosts; me = me } → n.last ≡ now → IsJustOpened n
+    → node_of n ≡ model.Up (model.opened_server (length hosts) found now) → own_member n ≡ record { hosts = hosts; me = me }
+    → n.last ≡ now → IsJustOpened n
 just_opened n hosts me now found is member last =
     let size : cell_size (own_member n) ≡ length hosts = ap (λ (m : Member). cell_size m) member in
     let P : ℕ → Type 0 = λ k. node_of n ≡ model.Up (model.opened_server k found now) in

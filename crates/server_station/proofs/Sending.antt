@@ -9,22 +9,27 @@ pub askers-append : (askers : List Asker) (xs ys : List Output) → askers_after
 askers-append askers [] ys = refl
 askers-append askers (x ∷ xs) ys = askers-append (left_by askers x) xs ys
 
-pub frames-append : (askers : List Asker) (xs ys : List Output) → frames_of askers (xs ++ ys) ≡ frames_of askers xs ++ frames_of (askers_after askers xs) ys
+pub frames-append : (askers : List Asker) (xs ys : List Output) → frames_of askers (xs ++ ys) ≡ frames_of askers xs
+    ++ frames_of (askers_after askers xs) ys
 frames-append askers [] ys = refl
 frames-append askers (x ∷ xs) ys =
     ap (λ (rest : List Sending). sent_of askers x ++ rest) (frames-append (left_by askers x) xs ys)
     ∙ sym (append_assoc (sent_of askers x) (frames_of (left_by askers x) xs) (frames_of (askers_after (left_by askers x) xs) ys))
 
 -- one output more
-pub frames_more : (askers : List Asker) (xs : List Output) (x : Output) → frames_of askers (xs ++ x ∷ []) ≡ frames_of askers xs ++ sent_of (askers_after askers xs) x
+pub frames_more : (askers : List Asker) (xs : List Output) (x : Output) → frames_of askers (xs ++ x ∷ []) ≡ frames_of askers xs
+    ++ sent_of (askers_after askers xs) x
 frames_more askers xs x =
-    frames-append askers xs (x ∷ []) ∙ ap (λ (rest : List Sending). frames_of askers xs ++ rest) (append-nil (sent_of (askers_after askers xs) x))
+    frames-append askers xs (x ∷ [])
+    ∙ ap (λ (rest : List Sending). frames_of askers xs ++ rest) (append-nil (sent_of (askers_after askers xs) x))
 
-pub askers_more : (askers : List Asker) (xs : List Output) (x : Output) → askers_after askers (xs ++ x ∷ []) ≡ left_by (askers_after askers xs) x
+pub askers_more : (askers : List Asker) (xs : List Output) (x : Output)
+    → askers_after askers (xs ++ x ∷ []) ≡ left_by (askers_after askers xs) x
 askers_more askers xs x = askers-append askers xs (x ∷ [])
 
 -- What went out is what goes out of the first outputs, those that wait are those after them, and the rest is left.
-abbrev pub Sent : (askers : List Asker) → (all : List Output) → (sent : List Sending) → (waiting : List Asker) → (rest : List Output) → Type 0
+abbrev pub Sent : (askers : List Asker) → (all : List Output) → (sent : List Sending) → (waiting : List Asker) → (rest : List Output)
+    → Type 0
 Sent askers all sent waiting rest =
     (first : List Output) × (all ≡ first ++ rest) × (sent ≡ frames_of askers first) × (waiting ≡ askers_after askers first)
 
@@ -49,5 +54,6 @@ sent_all askers left all sent s = (
   s.3 ∙ sym (ap (askers_after askers) (whole s.0 all s.1)),
 )
 
-pub sent_cut : (askers left : List Asker) (all rest : List Output) (sent : List Sending) → Sent askers all sent left rest → IsCut askers all sent left
+pub sent_cut : (askers left : List Asker) (all rest : List Output) (sent : List Sending) → Sent askers all sent left rest
+    → IsCut askers all sent left
 sent_cut askers left all rest sent s = record { first = s.0; rest = rest; outputs_are = s.1; sent_is = s.2; left_is = s.3 }

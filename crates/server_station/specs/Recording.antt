@@ -25,7 +25,8 @@ refused_by full.NoMemory = NoMemory
 
 -- A step of the node at a moment that ended so: the node's own clauses, word for word, but for those on disks that tell no files, and on states that
 -- images go on to stand for.
-pub record IsStep {D V : Type 0} (g : Ghosts D) (d : Standing) (end : StepEnd) (event : NodeEvent) (now : ℕ) (before after : Node D V g) (outputs : List Output) : Type 0 where
+pub record IsStep {D V : Type 0} (g : Ghosts D) (d : Standing) (end : StepEnd) (event : NodeEvent) (now : ℕ) (before after : Node D V g)
+    (outputs : List Output) : Type 0 where
   pub steps : Needs d.database (own_member before) (node_of before) event now (g.files before.store.disk)
       → StepsFreely g d (own_member before) end event now (node_of before) (node_of after) outputs before.store.disk after.store.disk
   pub meant : Needs d.database (own_member before) (node_of before) event now (g.files before.store.disk) → HoldsStates d (node_of before)
@@ -38,18 +39,21 @@ pub record IsStep {D V : Type 0} (g : Ghosts D) (d : Standing) (end : StepEnd) (
   pub last : after.last ≡ last_after end before.last now
 
 -- the step was made, and its item is the journal's next one
-pub record IsRecorded {D V : Type 0} (g : Ghosts D) (d : Standing) (end : StepEnd) (event : NodeEvent) (now : ℕ) (before after : Node D V g) (was is : List JournalItem) (outputs : List Output) : Type 0 where
+pub record IsRecorded {D V : Type 0} (g : Ghosts D) (d : Standing) (end : StepEnd) (event : NodeEvent) (now : ℕ)
+    (before after : Node D V g) (was is : List JournalItem) (outputs : List Output) : Type 0 where
   pub step : IsStep g d end event now before after outputs
   pub item : is ≡ was ++ item_of now event outputs after.store.failed ∷ []
 
 -- The step was not made, and the journal is as before. Either the node was not touched, or memory ran out in its step.
-pub record IsRefused {D V : Type 0} (g : Ghosts D) (d : Standing) (event : NodeEvent) (now : ℕ) (before after : Node D V g) (was is : List JournalItem) (outputs : List Output) : Type 0 where
+pub record IsRefused {D V : Type 0} (g : Ghosts D) (d : Standing) (event : NodeEvent) (now : ℕ) (before after : Node D V g)
+    (was is : List JournalItem) (outputs : List Output) : Type 0 where
   pub node : (after ≡ before) ⊎ IsStep g d step.NoMemory event now before after []
   pub items : is ≡ was
   pub outputs_are : outputs ≡ []
 
 -- How a recorded step at a moment ended, beside a journal of these limits. It is full exactly where the item would go past a limit.
-abbrev pub Records : {D V : Type 0} (g : Ghosts D) → Standing → Limits → StationEnd → NodeEvent → ℕ → (before after : Node D V g) → (was is : List JournalItem) → List Output → Type 0
+abbrev pub Records : {D V : Type 0} (g : Ghosts D) → Standing → Limits → StationEnd → NodeEvent → ℕ → (before after : Node D V g)
+    → (was is : List JournalItem) → List Output → Type 0
 Records g d limits Done event now before after was is outputs =
     (is_past limits (with_event (counts_of was) event) ≡ false) × IsRecorded g d step.Done event now before after was is outputs
 Records g d limits Halted event now before after was is outputs =

@@ -26,7 +26,8 @@ calls_in d m s item choice = (step_by (dbs_of choice) m s item.now item.event ch
 
 -- The disk of a server that is halted, at the end of its replay: it failed in the step of one of the items, at a server that was up behind
 -- those before it. Since then a crash leaves the durable state of that server behind the first so many durable calls of the step, or one more.
-pub record IsFailedIn {D : Type 0} (g : Ghosts D) (d : Standing) (m : Member) (opened : model.Node) (whole : List items.JournalItem) (disk : D) : Type 0 where
+pub record IsFailedIn {D : Type 0} (g : Ghosts D) (d : Standing) (m : Member) (opened : model.Node) (whole : List items.JournalItem)
+    (disk : D) : Type 0 where
   pub before : List items.JournalItem
   pub item : items.JournalItem
   pub after : List items.JournalItem
@@ -39,14 +40,16 @@ pub record IsFailedIn {D : Type 0} (g : Ghosts D) (d : Standing) (m : Member) (o
   pub leaves : Narrows (StandsBetween (durable_in server) (calls_in d m server item choice) made) (g.may_leave disk)
 
 -- The disk of a server that is up tells its files, and they stand for its durable state.
-abbrev pub IsDiskOf : {D : Type 0} (g : Ghosts D) (d : Standing) (m : Member) (opened : model.Node) (whole : List items.JournalItem) → model.Node → D → Type 0
+abbrev pub IsDiskOf : {D : Type 0} (g : Ghosts D) (d : Standing) (m : Member) (opened : model.Node) (whole : List items.JournalItem)
+    → model.Node → D → Type 0
 IsDiskOf g d m opened whole (model.Up s) disk = IsSomeAnd (g.files disk) (StandsAs (durable_in s))
 IsDiskOf g d m opened whole (model.Halted h) disk = IsFailedIn g d m opened whole disk
 IsDiskOf g d m opened whole model.Down disk = ⊥
 
 -- A server that was opened so is now what the replay of its journal leaves, and has put out what that puts out. The replay is that of the
 -- journal's items, each with what was evaluated in its step: each is one that the server can have made there, with just its bits.
-pub record IsReplay {D : Type 0} (g : Ghosts D) (d : Standing) (m : Member) (opened : model.Node) (kept : List JournalItem) (now : model.Node) (outputs : List Output) (disk : D) : Type 0 where
+pub record IsReplay {D : Type 0} (g : Ghosts D) (d : Standing) (m : Member) (opened : model.Node) (kept : List JournalItem)
+    (now : model.Node) (outputs : List Output) (disk : D) : Type 0 where
   pub whole : List items.JournalItem
   pub kept_is : map untold whole ≡ kept
   pub journal : IsJournal d m opened whole now outputs

@@ -71,31 +71,38 @@ abbrev pub seen : {D V : Type 0} {g : Ghosts D} → Node D V g → List JournalI
 seen node items askers put = record { node = node; items = items; askers = askers; put = put }
 
 -- a step of it, which ended so and put this out
-abbrev pub RecordsIn : {D V : Type 0} (g : Ghosts D) → Standing → Limits → NodeEvent → ℕ → (before after : Seen D V g) → StationEnd → List Output → Type 0
-RecordsIn g d limits event now before after end outputs = Records g d limits end event now before.node after.node before.items after.items outputs
+abbrev pub RecordsIn : {D V : Type 0} (g : Ghosts D) → Standing → Limits → NodeEvent → ℕ → (before after : Seen D V g) → StationEnd
+    → List Output → Type 0
+RecordsIn g d limits event now before after end outputs =
+    Records g d limits end event now before.node after.node before.items after.items outputs
 
 -- its step was made, and all that goes out of it was sent
 abbrev pub SendsAll : (List Output → Type 0) → (askers left : List Asker) → List Sending → (was is : List Output) → Type 0
 SendsAll Made askers left sent was is =
-    (outputs : List Output) × Made outputs × (sent ≡ frames_of askers outputs) × (left ≡ askers_after askers outputs) × (is ≡ was ++ outputs)
+    (outputs : List Output) × Made outputs × (sent ≡ frames_of askers outputs) × (left ≡ askers_after askers outputs)
+    × (is ≡ was ++ outputs)
 
 -- its step was made, and memory ran out before all that goes out of it was sent
 abbrev pub SendsFirst : (List Output → Type 0) → (askers left : List Asker) → List Sending → (was is : List Output) → Type 0
 SendsFirst Made askers left sent was is = (outputs : List Output) × Made outputs × IsCut askers outputs sent left × (is ≡ was ++ outputs)
 
 -- How a turn ended that makes a step with this event, for which these wait: `askers` are those that wait once the step is made.
-abbrev pub TurnsBy : {D V : Type 0} (g : Ghosts D) → Standing → Limits → NodeEvent → List Asker → ℕ → (before after : Seen D V g) → List Sending → TurnEnd → Type 0
+abbrev pub TurnsBy : {D V : Type 0} (g : Ghosts D) → Standing → Limits → NodeEvent → List Asker → ℕ → (before after : Seen D V g)
+    → List Sending → TurnEnd → Type 0
 TurnsBy g d limits event asker now before after sent end.Done =
     SendsAll (RecordsIn g d limits event now before after Done) (before.askers ++ asker) after.askers sent before.put after.put
 TurnsBy g d limits event asker now before after sent end.Halted =
     SendsAll (RecordsIn g d limits event now before after Halted) (before.askers ++ asker) after.askers sent before.put after.put
 TurnsBy g d limits event asker now before after sent end.Cut =
-    SendsFirst (λ outputs. RecordsIn g d limits event now before after Done outputs ⊎ RecordsIn g d limits event now before after Halted outputs)
+    SendsFirst (λ outputs. RecordsIn g d limits event now before after Done outputs
+    ⊎ RecordsIn g d limits event now before after Halted outputs)
     (before.askers ++ asker) after.askers sent before.put after.put
 TurnsBy g d limits event asker now before after sent (end.JournalFull entries bytes) =
-    RecordsIn g d limits event now before after (JournalFull entries bytes) [] × (after.askers ≡ before.askers) × (sent ≡ []) × (after.put ≡ before.put)
+    RecordsIn g d limits event now before after (JournalFull entries bytes) [] × (after.askers ≡ before.askers) × (sent ≡ [])
+    × (after.put ≡ before.put)
 TurnsBy g d limits event asker now before after sent end.NoMemory =
-    IsRefused g d event now before.node after.node before.items after.items [] × (after.askers ≡ before.askers) × (sent ≡ []) × (after.put ≡ before.put)
+    IsRefused g d event now before.node after.node before.items after.items [] × (after.askers ≡ before.askers) × (sent ≡ [])
+    × (after.put ≡ before.put)
 
 -- how a turn ended that makes no step, and has this to send
 abbrev pub RestsBy : {D V : Type 0} {g : Ghosts D} → (before after : Seen D V g) → (all sent : List Sending) → TurnEnd → Type 0
@@ -104,9 +111,11 @@ RestsBy before after all sent end.NoMemory = (after ≡ before) × (sent ≡ [])
 RestsBy before after all sent _ = ⊥
 
 -- how a turn ended
-abbrev pub Turned : {D V : Type 0} (g : Ghosts D) → Standing → Limits → Act → ℕ → (before after : Seen D V g) → List Sending → TurnEnd → Type 0
+abbrev pub Turned : {D V : Type 0} (g : Ghosts D) → Standing → Limits → Act → ℕ → (before after : Seen D V g) → List Sending → TurnEnd
+    → Type 0
 Turned g d limits (Makes event asker) now before after sent end = TurnsBy g d limits event asker now before after sent end
-Turned g d limits (Tells peer number) now before after sent end = RestsBy before after (debug_answer before.node now peer number ∷ []) sent end
+Turned g d limits (Tells peer number) now before after sent end =
+    RestsBy before after (debug_answer before.node now peer number ∷ []) sent end
 Turned g d limits Rests now before after sent end = RestsBy before after [] sent end
 
 -- where the journal had no room for a turn, it would have had no more than the greatest frame brings beside its items

@@ -29,7 +29,8 @@ quiet_verdict writes read Elsewhere = tt
 quiet_verdict {A = A} writes read Silence = quiet_silence A writes
 
 -- the first host gave something: what follows from it is left
-pub heard_next : {A : Type 0} (writes : Bool) (read : List ℕ → Option A) (frame : List ℕ) (host : Host) (hosts : List Host) (first : Course A)
+pub heard_next : {A : Type 0} (writes : Bool) (read : List ℕ → Option A) (frame : List ℕ) (host : Host) (hosts : List Host)
+    (first : Course A)
     (s : Asker) (e0 e e1 : List Exchange) (heard : Heard) → Led first s e0 [] (asks_hosts writes read frame (host ∷ hosts)) s e
     → Ran (hears host frame) s s e e1 (Ok heard)
     → Led first s e0 [] (still (verdict writes read heard) >>= λ found. or_next found (asks_hosts writes read frame hosts)) s e1
@@ -38,7 +39,8 @@ heard_next {A = A} writes read frame host hosts first s e0 e e1 heard led ran =
     led_on led (led_gave heard f (ran_led heard refl ran))
 
 -- it gave nothing, for want of memory
-pub heard_stops : {A : Type 0} (writes : Bool) (read : List ℕ → Option A) (frame : List ℕ) (host : Host) (hosts : List Host) (first : Course A)
+pub heard_stops : {A : Type 0} (writes : Bool) (read : List ℕ → Option A) (frame : List ℕ) (host : Host) (hosts : List Host)
+    (first : Course A)
     (s : Asker) (e0 e e1 : List Exchange) (why : Stop) → Led first s e0 [] (asks_hosts writes read frame (host ∷ hosts)) s e
     → Ran (hears host frame) s s e e1 (Err why) → Ran first s s e0 e1 (Err why)
 heard_stops {A = A} writes read frame host hosts first s e0 e e1 why led ran =
@@ -47,7 +49,8 @@ heard_stops {A = A} writes read frame host hosts first s e0 e e1 why led ran =
 
 -- the call is settled, or the next host is asked
 pub settled_next : {A : Type 0} (writes : Bool) (read : List ℕ → Option A) (frame : List ℕ) (hosts : List Host) (first : Course A)
-    (s : Asker) (e0 e : List Exchange) (heard : Heard) (r : Result (Option A) Stop) → r ≡ Ok None → (r ≢ Err stop.NoMemory → r ≡ verdict writes read heard)
+    (s : Asker) (e0 e : List Exchange) (heard : Heard) (r : Result (Option A) Stop) → r ≡ Ok None
+    → (r ≢ Err stop.NoMemory → r ≡ verdict writes read heard)
     → Led first s e0 [] (still (verdict writes read heard) >>= λ found. or_next found (asks_hosts writes read frame hosts)) s e
     → Led first s e0 [] (asks_hosts writes read frame hosts) s e
 settled_next {A = A} writes read frame hosts first s e0 e heard r is settled led =
@@ -55,15 +58,18 @@ settled_next {A = A} writes read frame hosts first s e0 e heard r is settled led
     led_on led (led_gave None f (ran_led None is (ran_decided s e (verdict writes read heard) r (quiet_verdict writes read heard) settled)))
 
 pub settled_gave : {A : Type 0} (writes : Bool) (read : List ℕ → Option A) (frame : List ℕ) (hosts : List Host) (first : Course A)
-    (s : Asker) (e0 e : List Exchange) (heard : Heard) (r : Result (Option A) Stop) (x : A) → r ≡ Ok (Some x) → (r ≢ Err stop.NoMemory → r ≡ verdict writes read heard)
+    (s : Asker) (e0 e : List Exchange) (heard : Heard) (r : Result (Option A) Stop) (x : A) → r ≡ Ok (Some x)
+    → (r ≢ Err stop.NoMemory → r ≡ verdict writes read heard)
     → Led first s e0 [] (still (verdict writes read heard) >>= λ found. or_next found (asks_hosts writes read frame hosts)) s e
     → Ran first s s e0 e (Ok x)
 settled_gave {A = A} writes read frame hosts first s e0 e heard r x is settled led =
     let f : Option A → Course A = λ found. or_next found (asks_hosts writes read frame hosts) in
-    ran_gave x (led_on led (led_gave (Some x) f (ran_led (Some x) is (ran_decided s e (verdict writes read heard) r (quiet_verdict writes read heard) settled))))
+    ran_gave x (led_on led
+    (led_gave (Some x) f (ran_led (Some x) is (ran_decided s e (verdict writes read heard) r (quiet_verdict writes read heard) settled))))
 
 pub settled_stops : {A : Type 0} (writes : Bool) (read : List ℕ → Option A) (frame : List ℕ) (hosts : List Host) (first : Course A)
-    (s : Asker) (e0 e : List Exchange) (heard : Heard) (r : Result (Option A) Stop) (why : Stop) → r ≡ Err why → (r ≢ Err stop.NoMemory → r ≡ verdict writes read heard)
+    (s : Asker) (e0 e : List Exchange) (heard : Heard) (r : Result (Option A) Stop) (why : Stop) → r ≡ Err why
+    → (r ≢ Err stop.NoMemory → r ≡ verdict writes read heard)
     → Led first s e0 [] (still (verdict writes read heard) >>= λ found. or_next found (asks_hosts writes read frame hosts)) s e
     → Ran first s s e0 e (Err why)
 settled_stops {A = A} writes read frame hosts first s e0 e heard r why is settled led =
@@ -72,7 +78,8 @@ settled_stops {A = A} writes read frame hosts first s e0 e heard r why is settle
 
 -- no host is left
 pub no_host : {A : Type 0} (writes : Bool) (read : List ℕ → Option A) (frame : List ℕ) (hosts : List Host) (first : Course A)
-    (s : Asker) (e0 e : List Exchange) → hosts ≡ [] → Led first s e0 [] (asks_hosts writes read frame hosts) s e → Ran first s s e0 e (Err stop.NoServer)
+    (s : Asker) (e0 e : List Exchange) → hosts ≡ [] → Led first s e0 [] (asks_hosts writes read frame hosts) s e
+    → Ran first s s e0 e (Err stop.NoServer)
 no_host {A = A} writes read frame hosts first s e0 e none led =
     record { went = subst (λ (hs : List Host). Led first s e0 [] (asks_hosts writes read frame hs) s e) none led; quiet = tt }
 
@@ -82,7 +89,8 @@ unfolding asks_call
 asks_counted writes read call s rest = refl
 
 -- a call was counted, and then asked of the hosts
-pub asked_call : {A : Type 0} (writes : Bool) (read : List ℕ → Option A) (call frame : List ℕ) (s s1 s2 : Asker) (e e1 : List Exchange) (r : Result A Stop)
+pub asked_call : {A : Type 0} (writes : Bool) (read : List ℕ → Option A) (call frame : List ℕ) (s s1 s2 : Asker) (e e1 : List Exchange)
+    (r : Result A Stop)
     → s1 ≡ counted s → frame ≡ ask_frame s1.number call → Ran (asks_hosts writes read frame s1.hosts) s1 s2 e e1 r
     → Ran (asks_call writes read call) s s2 e e1 r
 asked_call {A = A} writes read call frame s s1 s2 e e1 r counts frames ran =

@@ -27,7 +27,8 @@ unfolding hears
 hears_one host frame asker given reply rest = refl
 
 -- an answer that is one is heard
-pub hears_answer : (host : Host) (frame : List ℕ) (asker : Asker) (before after : List Exchange) (answer : Answer) (reply : List ℕ) (heard : Heard)
+pub hears_answer : (host : Host) (frame : List ℕ) (asker : Asker) (before after : List Exchange) (answer : Answer) (reply : List ℕ)
+    (heard : Heard)
     → after ≡ before ++ made host asker.port frame answer reply → answer ≢ NoMemory → heard ≡ heard_answer asker.number answer reply
     → Ran (hears host frame) asker asker before after (Ok heard)
 hears_answer host frame asker before after answer reply heard grown other is = record {
@@ -41,13 +42,20 @@ hears_answer host frame asker before after answer reply heard grown other is = r
 }
 
 front_of_hears : (host : Host) (frame : List ℕ) (asker : Asker) (answer : Answer) (reply : List ℕ) (rest : List Exchange)
-    → Fronts (asks_in (made host asker.port frame answer reply)) [] (hears host frame asker (made host asker.port frame answer reply ++ rest))
+    → Fronts (asks_in (made host asker.port frame answer reply)) []
+    (hears host frame asker (made host asker.port frame answer reply ++ rest))
 unfolding hears
 front_of_hears host frame asker Got reply rest = record { more_asks = []; more_text = []; asks_are = refl; text_is = refl }
 front_of_hears host frame asker NotSent reply rest = record { more_asks = []; more_text = []; asks_are = refl; text_is = refl }
 front_of_hears host frame asker NoAnswer reply rest = record { more_asks = []; more_text = []; asks_are = refl; text_is = refl }
 front_of_hears host frame asker NoMemory reply rest =
-    record { more_asks = (hears host frame asker rest).asks; more_text = (hears host frame asker rest).text; asks_are = refl; text_is = refl }
+    record {
+      more_asks = (hears host frame asker rest).asks;
+      more_text =
+          (hears host frame asker rest).text;
+      asks_are = refl;
+      text_is = refl;
+    }
 
 -- whatever an ask brought, want of memory leaves the course on its way
 pub hears_short : (host : Host) (frame : List ℕ) (asker : Asker) (before after : List Exchange) (answer : Answer) (reply : List ℕ)

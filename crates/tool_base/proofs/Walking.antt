@@ -69,7 +69,8 @@ gives_then : {A B : Type 0} (x : A) (f : A → Course B) (asker : Asker) (rest :
 unfolding ◌>>=◌
 gives_then x f asker rest = refl
 
-stops_then : {A B : Type 0} (why : Stop) (f : A → Course B) (asker : Asker) (rest : List Exchange) → (stops {A = A} why >>= f) asker rest ≡ stops why asker rest
+stops_then : {A B : Type 0} (why : Stop) (f : A → Course B) (asker : Asker) (rest : List Exchange)
+    → (stops {A = A} why >>= f) asker rest ≡ stops why asker rest
 unfolding ◌>>=◌
 stops_then why f asker rest = refl
 
@@ -101,13 +102,16 @@ fronts_then : {A B : Type 0} (asks : List Asked) (s : List ℕ) (w : Walk A) (f 
 fronts_then asks s w f (Ok x) fronts = record {
   more_asks = fronts.more_asks ++ (f x w.asker w.rest).asks;
   more_text = fronts.more_text ++ (f x w.asker w.rest).text;
-  asks_are = ap (λ (a : List Asked). a ++ (f x w.asker w.rest).asks) fronts.asks_are ∙ append_assoc asks fronts.more_asks (f x w.asker w.rest).asks;
+  asks_are =
+      ap (λ (a : List Asked). a ++ (f x w.asker w.rest).asks) fronts.asks_are
+      ∙ append_assoc asks fronts.more_asks (f x w.asker w.rest).asks;
   text_is = ap (λ (t : List ℕ). t ++ (f x w.asker w.rest).text) fronts.text_is ∙ append_assoc s fronts.more_text (f x w.asker w.rest).text;
 }
 fronts_then asks s w f (Err why) fronts =
     record { more_asks = fronts.more_asks; more_text = fronts.more_text; asks_are = fronts.asks_are; text_is = fronts.text_is }
 
-broke_then : {A B : Type 0} {m : Course A} {s : Asker} {e e1 : List Exchange} {t : List ℕ} (f : A → Course B) → Broke m s e t e1 → Broke (m >>= f) s e t e1
+broke_then : {A B : Type 0} {m : Course A} {s : Asker} {e e1 : List Exchange} {t : List ℕ} (f : A → Course B) → Broke m s e t e1
+    → Broke (m >>= f) s e t e1
 unfolding ◌>>=◌
 broke_then {m = m} {s = s} {t = t} f broke = record {
   made = broke.made;
@@ -123,7 +127,8 @@ broke_start m s e = record {
 }
 
 -- how the rest of a course ends is how the course ends
-pub led_went : {A : Type 0} {m n : Course A} {s s1 : Asker} {e e1 : List Exchange} {t : List ℕ} (s2 : Asker) (e2 : List Exchange) (u : List ℕ) (r : Result A Stop)
+pub led_went : {A : Type 0} {m n : Course A} {s s1 : Asker} {e e1 : List Exchange} {t : List ℕ} (s2 : Asker) (e2 : List Exchange)
+    (u : List ℕ) (r : Result A Stop)
     → Led m s e t n s1 e1 → Went r n s1 e1 u s2 e2 → Went r m s e (t ++ u) s2 e2
 led_went s2 e2 u (Ok x) first second = led_on first second
 led_went s2 e2 u (Err (Refused refusal)) first second = led_on first second
@@ -150,7 +155,8 @@ pub ran_led : {A : Type 0} {m : Course A} {s s1 : Asker} {e e1 : List Exchange} 
     → Ran m s s1 e e1 r → Led m s e [] (gives x) s1 e1
 ran_led {A = A} {m = m} {s = s} {s1 = s1} {e = e} {e1 = e1} x is ran = subst (λ (r : Result A Stop). Went r m s e [] s1 e1) is ran.went
 
-pub ran_then : {A B : Type 0} {m : Course A} (f : A → Course B) {s s1 s2 : Asker} {e e1 e2 : List Exchange} {r0 : Result A Stop} {r : Result B Stop}
+pub ran_then : {A B : Type 0} {m : Course A} (f : A → Course B) {s s1 s2 : Asker} {e e1 e2 : List Exchange} {r0 : Result A Stop}
+    {r : Result B Stop}
     (x : A) → r0 ≡ Ok x → Ran m s s1 e e1 r0 → Ran (f x) s1 s2 e1 e2 r → Ran (m >>= f) s s2 e e2 r
 ran_then f {s2 = s2} {e2 = e2} {r = r} x is first second =
     record { went = led_went s2 e2 [] r (led_gave x f (ran_led x is first)) second.went; quiet = second.quiet }
@@ -182,16 +188,21 @@ pub led_ran : {A : Type 0} {m n : Course A} {s s1 s2 : Asker} {e e1 e2 : List Ex
     → Led m s e [] n s1 e1 → Ran n s1 s2 e1 e2 r → Ran m s s2 e e2 r
 led_ran {s2 = s2} {e2 = e2} {r = r} led ran = record { went = led_went s2 e2 [] r led ran.went; quiet = ran.quiet }
 
-pub ran_gave : {A : Type 0} {m : Course A} {s s1 : Asker} {e e1 : List Exchange} (x : A) → Led m s e [] (gives x) s1 e1 → Ran m s s1 e e1 (Ok x)
+pub ran_gave : {A : Type 0} {m : Course A} {s s1 : Asker} {e e1 : List Exchange} (x : A) → Led m s e [] (gives x) s1 e1
+    → Ran m s s1 e e1 (Ok x)
 ran_gave x led = record { went = led; quiet = tt }
 
 -- what went before a course, and asked nothing, may be left out
 went_from : {A : Type 0} (m p : Course A) (s0 s s1 : Asker) (e e1 : List Exchange) (t : List ℕ) (r : Result A Stop)
     → ((rest : List Exchange) → p s0 rest ≡ m s rest) → Went r m s e t s1 e1 → Went r p s0 e t s1 e1
-went_from m p s0 s s1 e e1 t (Ok x) same led = record { made = led.made; grown = led.grown; leads = λ rest. same (led.made ++ rest) ∙ led.leads rest }
-went_from m p s0 s s1 e e1 t (Err (Refused refusal)) same led = record { made = led.made; grown = led.grown; leads = λ rest. same (led.made ++ rest) ∙ led.leads rest }
-went_from m p s0 s s1 e e1 t (Err NoServer) same led = record { made = led.made; grown = led.grown; leads = λ rest. same (led.made ++ rest) ∙ led.leads rest }
-went_from m p s0 s s1 e e1 t (Err OutcomeUnknown) same led = record { made = led.made; grown = led.grown; leads = λ rest. same (led.made ++ rest) ∙ led.leads rest }
+went_from m p s0 s s1 e e1 t (Ok x) same led =
+    record { made = led.made; grown = led.grown; leads = λ rest. same (led.made ++ rest) ∙ led.leads rest }
+went_from m p s0 s s1 e e1 t (Err (Refused refusal)) same led =
+    record { made = led.made; grown = led.grown; leads = λ rest. same (led.made ++ rest) ∙ led.leads rest }
+went_from m p s0 s s1 e e1 t (Err NoServer) same led =
+    record { made = led.made; grown = led.grown; leads = λ rest. same (led.made ++ rest) ∙ led.leads rest }
+went_from m p s0 s s1 e e1 t (Err OutcomeUnknown) same led =
+    record { made = led.made; grown = led.grown; leads = λ rest. same (led.made ++ rest) ∙ led.leads rest }
 went_from {A = A} m p s0 s s1 e e1 t (Err WriteFault) same broke = record {
   made = broke.made;
   grown = broke.grown;
@@ -205,14 +216,16 @@ went_from {A = A} m p s0 s s1 e e1 t (Err NoMemory) same broke = record {
 
 pub ran_from : {A : Type 0} {m : Course A} (p : Course A) (s0 : Asker) {s s1 : Asker} {e e1 : List Exchange} {r : Result A Stop}
     → ((rest : List Exchange) → p s0 rest ≡ m s rest) → Ran m s s1 e e1 r → Ran p s0 s1 e e1 r
-ran_from {m = m} p s0 {s = s} {s1 = s1} {e = e} {e1 = e1} {r = r} same ran = record { went = went_from m p s0 s s1 e e1 [] r same ran.went; quiet = ran.quiet }
+ran_from {m = m} p s0 {s = s} {s1 = s1} {e = e} {e1 = e1}
+    {r = r} same ran = record { went = went_from m p s0 s s1 e e1 [] r same ran.went; quiet = ran.quiet }
 
 -- nothing was asked, and this came
 pub ran_is : {A : Type 0} (s : Asker) (e : List Exchange) (v r : Result A Stop) → IsQuiet v → r ≡ v → Ran (still v) s s e e r
 ran_is {A = A} s e v r quiet is = subst (λ (w : Result A Stop). Ran (still v) s s e e w) (sym is) (ran_still s e v quiet)
 
 -- what was decided without an ask, but for want of memory
-pub ran_decided : {A : Type 0} (s : Asker) (e : List Exchange) (v r : Result A Stop) → IsQuiet v → (r ≢ Err NoMemory → r ≡ v) → Ran (still v) s s e e r
+pub ran_decided : {A : Type 0} (s : Asker) (e : List Exchange) (v r : Result A Stop) → IsQuiet v → (r ≢ Err NoMemory → r ≡ v)
+    → Ran (still v) s s e e r
 ran_decided {A = A} s e v (Ok x) quiet is = ran_is s e v (Ok x) quiet (is (λ eq. cc))
 ran_decided {A = A} s e v (Err (Refused refusal)) quiet is = ran_is s e v (Err (Refused refusal)) quiet (is (λ eq. cc))
 ran_decided {A = A} s e v (Err NoServer) quiet is = ran_is s e v (Err NoServer) quiet (is (λ eq. cc))
@@ -221,26 +234,31 @@ ran_decided {A = A} s e v (Err WriteFault) quiet is = ran_is s e v (Err WriteFau
 ran_decided s e v (Err NoMemory) quiet is = ran_short (still v) s e
 
 -- an end that was handed on
-pub ran_err : {A : Type 0} {m : Course A} {s s1 : Asker} {e e1 : List Exchange} (why : Stop) (r : Result A Stop) → IsErrAnd r (λ (x : Stop). x ≡ why)
+pub ran_err : {A : Type 0} {m : Course A} {s s1 : Asker} {e e1 : List Exchange} (why : Stop) (r : Result A Stop)
+    → IsErrAnd r (λ (x : Stop). x ≡ why)
     → Ran m s s1 e e1 (Err why) → Ran m s s1 e e1 r
 ran_err why (Ok x) is ran = absurd is
 ran_err {A = A} {m = m} {s = s} {s1 = s1} {e = e} {e1 = e1} why (Err x) is ran =
     subst (λ (w : Stop). let r : Result A Stop = Err w in Ran m s s1 e e1 r) (sym is) ran
 
 -- a course that was stopped, and what was to follow
-pub ran_broken : {A B : Type 0} {m : Course A} (f : A → Course B) {s s1 : Asker} {e e1 : List Exchange} {r0 : Result A Stop} (why : Stop) (r : Result B Stop)
+pub ran_broken : {A B : Type 0} {m : Course A} (f : A → Course B) {s s1 : Asker} {e e1 : List Exchange} {r0 : Result A Stop} (why : Stop)
+    (r : Result B Stop)
     → IsErrAnd r (λ (x : Stop). x ≡ why) → r0 ≡ Err why → Ran m s s1 e e1 r0 → Ran (m >>= f) s s1 e e1 r
 ran_broken f why r is was first = ran_err why r is (ran_stops f why was first)
 
 -- memory ran out after an ask
-pub ran_lacks : {A B : Type 0} {m : Course A} (f : A → Course B) {s s1 : Asker} {e e1 : List Exchange} {r0 : Result A Stop} (x : A) (r : Result B Stop)
+pub ran_lacks : {A B : Type 0} {m : Course A} (f : A → Course B) {s s1 : Asker} {e e1 : List Exchange} {r0 : Result A Stop} (x : A)
+    (r : Result B Stop)
     → IsErrAnd r (λ (w : Stop). w ≡ NoMemory) → r0 ≡ Ok x → Ran m s s1 e e1 r0 → Ran (m >>= f) s s1 e e1 r
 ran_lacks f {s1 = s1} {e1 = e1} x r is was first = ran_err NoMemory r is (ran_then f x was first (ran_short (f x) s1 e1))
 
 -- memory ran out before anything was asked, though a call may have been counted
-pub ran_none : {A : Type 0} (m : Course A) (s : Asker) {s1 : Asker} (e : List Exchange) (r : Result A Stop) → IsErrAnd r (λ (w : Stop). w ≡ NoMemory) → Ran m s s1 e e r
+pub ran_none : {A : Type 0} (m : Course A) (s : Asker) {s1 : Asker} (e : List Exchange) (r : Result A Stop)
+    → IsErrAnd r (λ (w : Stop). w ≡ NoMemory) → Ran m s s1 e e r
 ran_none m s e r is = ran_err NoMemory r is (record { went = broke_start m s e; quiet = tt })
 
 -- the same course by another name
-pub ran_as : {A : Type 0} (m n : Course A) {s s1 : Asker} {e e1 : List Exchange} {r : Result A Stop} → m ≡ n → Ran m s s1 e e1 r → Ran n s s1 e e1 r
+pub ran_as : {A : Type 0} (m n : Course A) {s s1 : Asker} {e e1 : List Exchange} {r : Result A Stop} → m ≡ n → Ran m s s1 e e1 r
+    → Ran n s s1 e e1 r
 ran_as {A = A} m n {s = s} {s1 = s1} {e = e} {e1 = e1} {r = r} is ran = subst (λ (c : Course A). Ran c s s1 e e1 r) is ran

@@ -26,7 +26,8 @@ pub record CameToItsEnd (tool : List ℕ) (walk : Walk (Unit {0})) (made : List 
   pub err_is : Appended err err_after (end_line tool end)
 
 -- A sink or memory failed before: its exchanges carried its first calls, and each sink has a front of its text.
-pub record BrokeOff (tool : List ℕ) (walk : Walk (Unit {0})) (made : List Exchange) (out out_after err err_after : Option (List ℕ)) : Type 0 where
+pub record BrokeOff (tool : List ℕ) (walk : Walk (Unit {0})) (made : List Exchange)
+    (out out_after err err_after : Option (List ℕ)) : Type 0 where
   pub more_asks : List Asked
   pub asks_are : walk.asks ≡ asks_in made ++ more_asks
   pub out_is : FrontOf out out_after walk.text

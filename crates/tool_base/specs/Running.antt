@@ -20,7 +20,8 @@ pub record Fronts {A : Type 0} (asks : List Asked) (said : List ℕ) (walk : Wal
   pub text_is : walk.text ≡ said ++ more_text
 
 -- The course was left on its way: what was asked and written is a front of what it asks and writes, whatever exchanges were to come.
-pub record Broke {A : Type 0} (first : Course A) (old : Asker) (before : List Exchange) (said : List ℕ) (after : List Exchange) : Type 0 where
+pub record Broke {A : Type 0} (first : Course A) (old : Asker) (before : List Exchange) (said : List ℕ)
+    (after : List Exchange) : Type 0 where
   pub made : List Exchange
   pub grown : after ≡ before ++ made
   pub fronts : (rest : List Exchange) → Fronts (asks_in made) said (first old (made ++ rest))

@@ -85,54 +85,70 @@ module _ {D V : Type 0} (g : Ghosts D) (before after : OpenCell D V g) where
   }
 
   -- what became of it, by its result
-  pub cell_done : (db : ScriptDatabase) (run : Cell → Choices → Run_or_why) (result : Result (Unit {0}) LineFault) (text_before text_after : List ℕ)
-      → (result ≡ Ok tt → (given : List ℕ) (c : Cell) → IsModelledBy g db.database given before c → CellTold g db given (run c) None before after text_before text_after)
+  pub cell_done : (db : ScriptDatabase) (run : Cell → Choices → Run_or_why) (result : Result (Unit {0}) LineFault)
+      (text_before text_after : List ℕ)
+      → (result ≡ Ok tt → (given : List ℕ) (c : Cell) → IsModelledBy g db.database given before c
+      → CellTold g db given (run c) None before after text_before text_after)
       → ((which : Which) → result ≡ Err (Limit which) → (given : List ℕ) (c : Cell) → IsModelledBy g db.database given before c
       → CellTold g db given (run c) (Some (ending.Limit which)) before after text_before text_after)
-      → ((why : Why) → result ≡ Err (Refused why) → (after ≡ before) × ((given : List ℕ) (c : Cell) → IsModelledBy g db.database given before c → IsRefused why (run c)))
+      → ((why : Why) → result ≡ Err (Refused why) → (after ≡ before)
+      × ((given : List ℕ) (c : Cell) → IsModelledBy g db.database given before c → IsRefused why (run c)))
       → ((why : Why) → result ≡ Err (Refused why) → text_after ≡ text_before)
-      → (result ≡ Err NoMemory → (given : List ℕ) (c : Cell) → IsModelledBy g db.database given before c → IsShort g db.database given (run c) c before after)
+      → (result ≡ Err NoMemory → (given : List ℕ) (c : Cell) → IsModelledBy g db.database given before c
+      → IsShort g db.database given (run c) c before after)
       → CellDone g db run result before after text_before text_after
   cell_done db run (Ok done) text_before text_after told limit refused quiet short = told refl
   cell_done db run (Err (Limit which)) text_before text_after told limit refused quiet short = limit which refl
-  cell_done db run (Err (Refused why)) text_before text_after told limit refused quiet short = ((refused why refl).0, quiet why refl, (refused why refl).1)
+  cell_done db run (Err (Refused why)) text_before text_after told limit refused quiet short =
+      ((refused why refl).0, quiet why refl, (refused why refl).1)
   cell_done db run (Err NoMemory) text_before text_after told limit refused quiet short = short refl
 
   module _ (db : ScriptDatabase) (l k : Line) (is : l ≡ k) where
     -- a line that may refuse alone, and tells nothing
     pub refused_of : (result : Result (Unit {0}) LineFault) (why : Why) (text : List ℕ) → IsErrAnd result (λ e. e ≡ Refused why)
-        → (after ≡ before) × ((given : List ℕ) (c : Cell) → IsModelledBy g db.database given before c → IsRefused why (λ choices. run_in db c choices k))
+        → (after ≡ before) × ((given : List ℕ) (c : Cell) → IsModelledBy g db.database given before c
+        → IsRefused why (λ choices. run_in db c choices k))
         → CellDone g db (λ c choices. run_in db c choices l) result before after text text
     refused_of (Ok done) why text err refused = absurd err
     refused_of (Err e) why text err refused =
         let P : LineFault → Type 0 = λ e. CellDone g db (λ c choices. run_in db c choices l) (Err e) before after text text in
-        let Q : Line → Type 0 = λ l. (after ≡ before) × (text ≡ text) × ((given : List ℕ) (c : Cell) → IsModelledBy g db.database given before c → IsRefused why (λ choices. run_in db c choices l)) in
+        let Q : Line → Type 0 = λ l. (after ≡ before) × (text ≡ text)
+        × ((given : List ℕ) (c : Cell) → IsModelledBy g db.database given before c → IsRefused why (λ choices. run_in db c choices l)) in
         subst P (sym err) (subst Q (sym is) (refused.0, refl, refused.1))
 
     pub told_of : (text_before text_after : List ℕ)
-        → ((given : List ℕ) (c : Cell) → IsModelledBy g db.database given before c → CellTold g db given (λ choices. run_in db c choices k) None before after text_before text_after)
+        → ((given : List ℕ) (c : Cell) → IsModelledBy g db.database given before c
+        → CellTold g db given (λ choices. run_in db c choices k) None before after text_before text_after)
         → CellDone g db (λ c choices. run_in db c choices l) (Ok tt) before after text_before text_after
     told_of text_before text_after told =
-        let P : Line → Type 0 = λ l. (given : List ℕ) (c : Cell) → IsModelledBy g db.database given before c → CellTold g db given (λ choices. run_in db c choices l) None before after text_before text_after in
+        let P : Line → Type 0 = λ l. (given : List ℕ) (c : Cell) → IsModelledBy g db.database given before c
+        → CellTold g db given (λ choices. run_in db c choices l) None before after text_before text_after in
         subst P (sym is) told
 
     pub done_of : (result : Result (Unit {0}) LineFault) (text_before text_after : List ℕ)
-        → (result ≡ Ok tt → (given : List ℕ) (c : Cell) → IsModelledBy g db.database given before c → CellTold g db given (λ choices. run_in db c choices k) None before after text_before text_after)
-        → ((which : Which) → result ≡ Err (Limit which) → (given : List ℕ) (c : Cell) → IsModelledBy g db.database given before c → CellTold g db given (λ choices. run_in db c choices k) (Some (ending.Limit which)) before after text_before text_after)
-        → ((why : Why) → result ≡ Err (Refused why) → (after ≡ before) × ((given : List ℕ) (c : Cell) → IsModelledBy g db.database given before c → IsRefused why (λ choices. run_in db c choices k)))
+        → (result ≡ Ok tt → (given : List ℕ) (c : Cell) → IsModelledBy g db.database given before c
+        → CellTold g db given (λ choices. run_in db c choices k) None before after text_before text_after)
+        → ((which : Which) → result ≡ Err (Limit which) → (given : List ℕ) (c : Cell) → IsModelledBy g db.database given before c
+        → CellTold g db given (λ choices. run_in db c choices k) (Some (ending.Limit which)) before after text_before text_after)
+        → ((why : Why) → result ≡ Err (Refused why) → (after ≡ before)
+        × ((given : List ℕ) (c : Cell) → IsModelledBy g db.database given before c → IsRefused why (λ choices. run_in db c choices k)))
         → ((why : Why) → result ≡ Err (Refused why) → text_after ≡ text_before)
-        → (result ≡ Err NoMemory → (given : List ℕ) (c : Cell) → IsModelledBy g db.database given before c → IsShort g db.database given (λ choices. run_in db c choices k) c before after)
+        → (result ≡ Err NoMemory → (given : List ℕ) (c : Cell) → IsModelledBy g db.database given before c
+        → IsShort g db.database given (λ choices. run_in db c choices k) c before after)
         → CellDone g db (λ c choices. run_in db c choices l) result before after text_before text_after
     done_of result text_before text_after told limit refused quiet short =
         let P : Line → Type 0 = λ l. CellDone g db (λ c choices. run_in db c choices l) result before after text_before text_after in
         subst P (sym is) (cell_done db (λ c choices. run_in db c choices k) result text_before text_after told limit refused quiet short)
 
 -- a line that does nothing
-pub kept_same : {D V : Type 0} {standing : Standing} (g : Ghosts D) (result : Result (Unit {0}) LineFault) (running : OpenCell D V g) → KeepsCell g standing result running running
+pub kept_same : {D V : Type 0} {standing : Standing} (g : Ghosts D) (result : Result (Unit {0}) LineFault) (running : OpenCell D V g)
+    → KeepsCell g standing result running running
 kept_same g result running = kept_still g running running result (λ done bounds is. is) (no_rises 0 (helds g running)) refl
 
-pub nothing_told : {D V : Type 0} (g : Ghosts D) (db : ScriptDatabase) (running : OpenCell D V g) (text : List ℕ) (given : List ℕ) (c : Cell)
-    → IsModelledBy g db.database given running c → CellTold g db given (λ choices. run_in db c choices line.Nothing) None running running text text
+pub nothing_told : {D V : Type 0} (g : Ghosts D) (db : ScriptDatabase) (running : OpenCell D V g) (text : List ℕ) (given : List ℕ)
+    (c : Cell)
+    → IsModelledBy g db.database given running c
+    → CellTold g db given (λ choices. run_in db c choices line.Nothing) None running running text text
 nothing_told g db running text given c stands = record {
   choices = sound_choices;
   whole = record { most = refl; found = tt };
@@ -145,6 +161,7 @@ nothing_told g db running text given c stands = record {
 }
 
 -- what is handed on by `?`
-pub handed_on : (P : Result (Unit {0}) LineFault → Type 0) (result : Result (Unit {0}) LineFault) (e : LineFault) → IsErrAnd result (λ x. x ≡ e) → P (Err e) → P result
+pub handed_on : (P : Result (Unit {0}) LineFault → Type 0) (result : Result (Unit {0}) LineFault) (e : LineFault)
+    → IsErrAnd result (λ x. x ≡ e) → P (Err e) → P result
 handed_on P (Ok done) e err holds = absurd err
 handed_on P (Err x) e err holds = subst (λ (x : LineFault). P (Err x)) (sym err) holds

@@ -48,7 +48,8 @@ module _ {D : Type 0} (g : Ghosts D) (left : Option (List ℕ)) (after : Option 
     pub short : result ≡ Err NoMemory → ShortLine databases given (take 1025 line) (told databases at.readings) (script_helds g next)
 
   -- what was told, of a text that was cleared before
-  pub retold : (given line : List ℕ) (t : Told) (result : Result (Unit {0}) RunEnd) (text_before text_after bytes : List ℕ) → text_before ≡ []
+  pub retold : (given line : List ℕ) (t : Told) (result : Result (Unit {0}) RunEnd) (text_before text_after bytes : List ℕ)
+      → text_before ≡ []
       → bytes ≡ text_after → ScriptTold g given line t result next text_before text_after
       → ScriptTold g given line t result next [] bytes
   retold given line t result text_before text_after bytes none same of =
@@ -58,12 +59,14 @@ module _ {D : Type 0} (g : Ghosts D) (left : Option (List ℕ)) (after : Option 
   abbrev RanSo : (given script before : List ℕ) → CellKind → Type 0
   RanSo given script before k = Ran k databases given script left before after (script_sites next) (script_helds g next)
 
-  module _ (number : ℕ) (next_number : number ≡ script_lines run + 1) (bytes : List ℕ) (P : (given script before written : List ℕ) → Type 0) where
+  module _ (number : ℕ) (next_number : number ≡ script_lines run + 1) (bytes : List ℕ)
+      (P : (given script before written : List ℕ) → Type 0) where
     abbrev AllRan : List ℕ → CellKind → Type 0
     AllRan written k = (given script before : List ℕ) → P given script before written → RanSo given script before k
 
     abbrev AreReady : Result (Unit {0}) RunEnd → List ℕ → Type 0
-    AreReady result written = (given script before : List ℕ) → P given script before written → ReadyAt result bytes given script before written
+    AreReady result written =
+        (given script before : List ℕ) → P given script before written → ReadyAt result bytes given script before written
 
     part_ends : (result : Result (Unit {0}) RunEnd) (written : List ℕ) → result ≢ Err NoMemory
         → (result ≡ Ok tt → IsSoundScript g next) → AreReady result written → AppendsPart written after bytes
@@ -136,7 +139,8 @@ module _ {D : Type 0} (g : Ghosts D) (left : Option (List ℕ)) (after : Option 
 
       pub goes_line : (result : Result (Unit {0}) RunEnd) (o : Option CellKind) (w : Option (List ℕ)) → o ≡ None
           → IsWritten result number bytes o w after
-          → (result ≡ Ok tt → (given script before written : List ℕ) → P given script before written → GoesAt result given script before written)
+          → (result ≡ Ok tt → (given script before written : List ℕ) → P given script before written
+          → GoesAt result given script before written)
           → IfSome w (λ written. (given script before : List ℕ) → P given script before written → SoFar g given script ended left before
           after next)
       goes_line result o None none is ready = tt

@@ -20,7 +20,8 @@ use Rattle.ubik_cell.proofs.OnDisk.{on_disk}
 
 -- ---- a cell of one server
 
-of_one : (P : Cell → Type 0) → ((c : Cell) → HasPromises (standing_of c) c → P c) → (cell : Option Cell) → IfSome cell KeepsPromises → OfOne P cell
+of_one : (P : Cell → Type 0) → ((c : Cell) → HasPromises (standing_of c) c → P c) → (cell : Option Cell) → IfSome cell KeepsPromises
+    → OfOne P cell
 of_one P has None keeps = tt
 of_one P has (Some c) keeps = λ one. has c (keeps one)
 
@@ -45,7 +46,8 @@ untold_more (kind.Words place) readings script left before after run = refl
 
 -- ---- the headline
 
-pub headline : ScriptsAreRuns → MemoryIsFound → NamesCalls databases → ScriptsKeepPromises → CellsKeepPromises → {D : Type 0} (g : Ghosts D) (k : CellKind) (script : List ℕ) (left : Option (List ℕ)) (before : List ℕ) (after : Option (List ℕ))
+pub headline : ScriptsAreRuns → MemoryIsFound → NamesCalls databases → ScriptsKeepPromises → CellsKeepPromises
+    → {D : Type 0} (g : Ghosts D) (k : CellKind) (script : List ℕ) (left : Option (List ℕ)) (before : List ℕ) (after : Option (List ℕ))
     (disks_before disks_after : List D) → RanOver g k databases script left before after disks_before disks_after
     → AreSettled g disks_after → Headline g k script left before after disks_before disks_after
 headline runs memory names promises every g k script left before after disks_before disks_after over settled =
@@ -74,6 +76,8 @@ headline runs memory names promises every g k script left before after disks_bef
         every_cell = every with_more;
         kept = of_one (λ c. IsKept (standing_of c) c) (λ c has. has.kept) (told databases with_more).stage.cell (promises with_more);
       };
-      on_disk = on_disk g databases (counts_of g disks_before) (is_short k) (told databases with_more).stage.cell disks_after ran.held.holds settled;
+      on_disk =
+          on_disk g databases (counts_of g disks_before) (is_short k)
+          (told databases with_more).stage.cell disks_after ran.held.holds settled;
       others = record { reached = over.reached; stay = over.stay; exact = ran.servers };
     }

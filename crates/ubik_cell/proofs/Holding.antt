@@ -9,7 +9,8 @@ use Rattle.ubik_cell.specs.Lines.{AreHeld, IsAt, IsSoundRun, bounds_after, run_h
 use Rattle.ubik_cell.proofs.Lifting.{near_holds, run_causes, servers_match}
 use Rattle.db_image.specs.Standing.{Standing}
 
-module _ {D V : Type 0} {standing : Standing} (g : Ghosts D) (dbs : Databases) (given : List ℕ) (run : CellRun D V g) (t : Told) (sound : IsSoundRun g standing run)
+module _ {D V : Type 0} {standing : Standing} (g : Ghosts D) (dbs : Databases) (given : List ℕ) (run : CellRun D V g) (t : Told)
+    (sound : IsSoundRun g standing run)
     (at : IsAt g dbs given run t) where
   pub held_at : AreHeld dbs given false t (run_helds g run)
   held_at = record {

@@ -49,8 +49,10 @@ ok_of P (Ok y) x is holds = subst P (cc) holds
 ok_of P (Err e) x is holds = absurd (cc)
 
 -- A line l that runs so in each cell that stands, and leaves the stage with so many asks. The run stands over a cell.
-module _ {D V : Type 0} {standing : Standing} (g : Ghosts D) (db : ScriptDatabase) (l : Line) (run : Stage → Cell → Choices → Run_or_why) (later : Stage → Stage)
-    (run_is : (st : Stage) (c : Cell) (choices : Choices) → st.cell ≡ Some c → run_of_line db l st choices ≡ in_stage (later st) (run st c choices))
+module _ {D V : Type 0} {standing : Standing} (g : Ghosts D) (db : ScriptDatabase) (l : Line) (run : Stage → Cell → Choices → Run_or_why)
+    (later : Stage → Stage)
+    (run_is : (st : Stage) (c : Cell) (choices : Choices) → st.cell ≡ Some c
+    → run_of_line db l st choices ≡ in_stage (later st) (run st c choices))
     (hosts : (st : Stage) (c : Cell) (choices : Choices) → IfOk (run st c choices) (λ r. r.cell.run.world.hosts ≡ c.run.world.hosts))
     (before : CellRun D V g) (running : OpenCell D V g) (here : before.cell ≡ Some running) (sound : IsSoundRun g standing before)
     (given : List ℕ) (st : Stage) (near : IsNear g (only db) given 0 before st) where
@@ -59,11 +61,13 @@ module _ {D V : Type 0} {standing : Standing} (g : Ghosts D) (db : ScriptDatabas
   own = take (length running.sites.items) given
 
   stands : (c : Cell) × (st.cell ≡ Some c) × IsModelledBy g db.database own running c
-  stands = cell_of g db given running st.cell (subst (λ (o : Option (OpenCell D V g)). CellStandsFor g (only db) given o st.cell) here near.cell)
+  stands =
+      cell_of g db given running st.cell (subst (λ (o : Option (OpenCell D V g)). CellStandsFor g (only db) given o st.cell) here near.cell)
 
   abbrev Told : Option Ending → OpenCell D V g → List ℕ → List ℕ → Type 0
   Told ended after text_before text_after =
-      (given : List ℕ) (c : Cell) → IsModelledBy g db.database given running c → CellTold g db given (run st c) ended running after text_before text_after
+      (given : List ℕ) (c : Cell) → IsModelledBy g db.database given running c
+      → CellTold g db given (run st c) ended running after text_before text_after
 
   causes_before : (items : List TraceItem) → HasCauses g before.cell items → AreCauses 0 items (helds g running)
   causes_before items causes = subst (λ (o : Option (OpenCell D V g)). HasCauses g o items) here causes
@@ -100,13 +104,16 @@ module _ {D V : Type 0} {standing : Standing} (g : Ghosts D) (db : ScriptDatabas
   stage_holds : (short : Bool) (after : OpenCell D V g) (c : Cell) → length after.sites.items ≡ length running.sites.items
       → HoldRun db.database own short c (helds g after) → HoldStage (only db) given short (Some c) (helds g after ++ others)
   stage_holds short after c same holds =
-      hold_cell (only db) given short c (length running.sites.items) (helds g after) others (sym same ∙ sym (length-helds g after.sites.items)) holds
+      hold_cell (only db) given short c (length running.sites.items) (helds g after) others
+      (sym same ∙ sym (length-helds g after.sites.items)) holds
       (subst (λ (l : List ℕ). AreUnwritten l others) spare_given (unwritten g before.spare.items sound.spare))
 
-  told_line : (asks : ℕ) (ended : Option Ending) (after : OpenCell D V g) (text_before text_after : List ℕ) → Told ended after text_before text_after
+  told_line : (asks : ℕ) (ended : Option Ending) (after : OpenCell D V g) (text_before text_after : List ℕ)
+      → Told ended after text_before text_after
       → length after.sites.items ≡ length running.sites.items
       → (ended ≡ None → ((later st).lines ≡ before.lines + 1) × ((later st).asks ≡ asks))
-      → StageTold g (only db) given (run_of_line db l st) ended before (record before { cell = Some after; asks = asks }) text_before text_after
+      → StageTold g (only db) given (run_of_line db l st) ended before
+      (record before { cell = Some after; asks = asks }) text_before text_after
   told_line asks ended after text_before text_after told same_count counts =
       let c = stands.0 in
       let t = told own c stands.2 in
@@ -138,14 +145,16 @@ module _ {D V : Type 0} {standing : Standing} (g : Ghosts D) (db : ScriptDatabas
 
   refused_line : (why : Why) → ((given : List ℕ) (c : Cell) → IsModelledBy g db.database given running c → IsRefused why (run st c))
       → IsRefusedLine why (run_of_line db l st)
-  refused_line why refused = λ choices. run_is st stands.0 choices stands.1 ∙ ap (in_stage (later st)) (refused own stands.0 stands.2 choices)
+  refused_line why refused =
+      λ choices. run_is st stands.0 choices stands.1 ∙ ap (in_stage (later st)) (refused own stands.0 stands.2 choices)
 
   short_by : (after : OpenCell D V g) (c : Cell) → st.cell ≡ Some c → length after.sites.items ≡ length running.sites.items
       → IsShort g db.database own (run st c) c running after
       → HoldStage (only db) given true st.cell (helds g after ++ others)
       ⊎ ShortAfter g (only db) given (run_of_line db l st) before (record before { cell = Some after })
   short_by after c is same (inl holds) =
-      inl (subst (λ (o : Option Cell). HoldStage (only db) given true o (helds g after ++ others)) (sym is) (stage_holds true after c same holds))
+      inl (subst (λ (o : Option Cell). HoldStage (only db) given true o (helds g after ++ others)) (sym is)
+      (stage_holds true after c same holds))
   short_by after c is same (inr ran) = inr (record {
     choices = ran.choices;
     ran = record { stage = record (later st) { cell = Some ran.ran.cell }; items = ran.ran.items; ending = ran.ran.ending };
@@ -156,7 +165,8 @@ module _ {D V : Type 0} {standing : Standing} (g : Ghosts D) (db : ScriptDatabas
         (more_causes 0 items ran.ran.items (helds g running) (helds g after) (causes_before items causes) ran.causes);
   })
 
-  short_line : (after : OpenCell D V g) → length after.sites.items ≡ length running.sites.items → AreRises 0 [] (helds g running) (helds g after)
+  short_line : (after : OpenCell D V g) → length after.sites.items ≡ length running.sites.items
+      → AreRises 0 [] (helds g running) (helds g after)
       → ((given : List ℕ) (c : Cell) → IsModelledBy g db.database given running c → IsShort g db.database given (run st c) c running after)
       → StageShort g (only db) given (run_of_line db l st) st before (record before { cell = Some after })
   short_line after same rises short = record {
@@ -171,7 +181,8 @@ abbrev pub IsNoAsk : Line → Type 0
 IsNoAsk (line.Ask server words) = ⊥
 IsNoAsk _ = Unit {0}
 
-run_there : (dbs : Databases) (st : Stage) (choices : Choices) (c : Cell) (l : Line) → IsNoAsk l → run_standing dbs st choices c l ≡ in_stage st (run_in (dbs (kind_of_cell c)) c choices l)
+run_there : (dbs : Databases) (st : Stage) (choices : Choices) (c : Cell) (l : Line) → IsNoAsk l
+    → run_standing dbs st choices c l ≡ in_stage st (run_in (dbs (kind_of_cell c)) c choices l)
 run_there dbs st choices c line.Nothing no_ask = refl
 run_there dbs st choices c (line.Cell servers clock k) no_ask = refl
 run_there dbs st choices c (line.Tick server seconds) no_ask = refl
@@ -188,14 +199,16 @@ run_there dbs st choices c (line.Crash server) no_ask = refl
 run_there dbs st choices c (line.Restart server) no_ask = refl
 run_there dbs st choices c (line.Show server) no_ask = refl
 
-pub no_ask_is : (db : ScriptDatabase) (l : Line) → IsNoAsk l → (st : Stage) (c : Cell) (choices : Choices) → st.cell ≡ Some c → run_of_line db l st choices ≡ in_stage (next_line st) (run_in db c choices l)
+pub no_ask_is : (db : ScriptDatabase) (l : Line) → IsNoAsk l → (st : Stage) (c : Cell) (choices : Choices) → st.cell ≡ Some c
+    → run_of_line db l st choices ≡ in_stage (next_line st) (run_in db c choices l)
 no_ask_is db l no_ask st c choices is =
     ap (λ (o : Option Cell). line_run (only db) (next_line st) choices l o) is ∙ run_there (only db) (next_line st) choices c l no_ask
 
 -- ---- what stays
 
 -- a line that leaves the cell of a run so, with so many asks
-pub kept_run : {D V : Type 0} {standing : Standing} (g : Ghosts D) (result : Result (Unit {0}) LineFault) (before : CellRun D V g) (running after : OpenCell D V g) (asks : ℕ)
+pub kept_run : {D V : Type 0} {standing : Standing} (g : Ghosts D) (result : Result (Unit {0}) LineFault) (before : CellRun D V g)
+    (running after : OpenCell D V g) (asks : ℕ)
     → before.cell ≡ Some running → IsSoundRun g standing before → before.lines < MAX_LINES → asks ≤ before.lines + 1
     → length after.sites.items ≡ length running.sites.items
     → (result ≡ Ok tt → IsSound g standing.database (bounds_after before.lines before.asks) running
@@ -206,7 +219,9 @@ kept_run {D} {V} {standing} g result before running after asks here sound room f
     record {
       lines = refl;
       disks = omega (arith, sound.disks, count, same);
-      spare = let none : length after.sites.items - sites_in before.cell ≡ 0 = omega (arith, count, same) in sym (ap (λ n. drop n before.spare.items) none);
+      spare =
+          let none : length after.sites.items - sites_in before.cell ≡ 0 = omega (arith, count, same) in sym
+          (ap (λ n. drop n before.spare.items) none);
       sound = λ done. record {
         cell = goes done (subst (CellIsSound g standing (bounds_after before.lines before.asks)) here sound.cell);
         spare = sound.spare;
@@ -223,12 +238,15 @@ next_bound : (lines : ℕ) → clock_bound lines + MAX_TICK ≡ clock_bound (lin
 next_bound lines = omega arith
 
 -- a line that asks nothing
-pub kept_line : {D V : Type 0} {standing : Standing} (g : Ghosts D) (result : Result (Unit {0}) LineFault) (before : CellRun D V g) (running after : OpenCell D V g)
+pub kept_line : {D V : Type 0} {standing : Standing} (g : Ghosts D) (result : Result (Unit {0}) LineFault) (before : CellRun D V g)
+    (running after : OpenCell D V g)
     → before.cell ≡ Some running → IsSoundRun g standing before → before.lines < MAX_LINES
-    → KeepsCell g standing result running after → KeepsRun g standing result before (record before { cell = Some after; asks = before.asks })
+    → KeepsCell g standing result running after
+    → KeepsRun g standing result before (record before { cell = Some after; asks = before.asks })
 kept_line {D} {V} {standing} g result before running after here sound room keeps =
     kept_run g result before running after before.asks here sound room (omega (arith, sound.asks)) keeps.same
-    (λ done is. subst (λ (clock : ℕ). IsSound g standing.database (record { clock = clock; asks = before.asks }) after) (next_bound before.lines)
+    (λ done is. subst (λ (clock : ℕ). IsSound g standing.database (record { clock = clock; asks = before.asks }) after)
+    (next_bound before.lines)
     (keeps.sound done (bounds_after before.lines before.asks) is))
 
 -- ---- what becomes of a line
@@ -237,36 +255,49 @@ kept_line {D} {V} {standing} g result before running after here sound room keeps
 abbrev pub with_cell : {D V : Type 0} {g : Ghosts D} → CellRun D V g → OpenCell D V g → CellRun D V g
 with_cell before after = record before { cell = Some after }
 
-pub same_again : {D V : Type 0} {g : Ghosts D} (before : CellRun D V g) (running after : OpenCell D V g) → before.cell ≡ Some running → after ≡ running → with_cell before after ≡ before
+pub same_again : {D V : Type 0} {g : Ghosts D} (before : CellRun D V g) (running after : OpenCell D V g) → before.cell ≡ Some running
+    → after ≡ running → with_cell before after ≡ before
 same_again {D} {V} {g} before running after here same =
-    ap (λ (r : OpenCell D V g). record before { cell = Some r }) same ∙ ap (λ (o : Option (OpenCell D V g)). record before { cell = o }) (sym here)
+    ap (λ (r : OpenCell D V g). record before { cell = Some r }) same
+    ∙ ap (λ (o : Option (OpenCell D V g)). record before { cell = o }) (sym here)
 
 -- of a line that is no ask
-pub lifted : {D V : Type 0} {standing : Standing} (g : Ghosts D) (db : ScriptDatabase) (l : Line) (before : CellRun D V g) (running after : OpenCell D V g)
-    (result : Result (Unit {0}) LineFault) (text_before text_after : List ℕ) → IsNoAsk l → before.cell ≡ Some running → IsSoundRun g standing before
-    → CellDone g db (λ c choices. run_in db c choices l) result running after text_before text_after → KeepsCell g standing result running after
+pub lifted : {D V : Type 0} {standing : Standing} (g : Ghosts D) (db : ScriptDatabase) (l : Line) (before : CellRun D V g)
+    (running after : OpenCell D V g)
+    (result : Result (Unit {0}) LineFault) (text_before text_after : List ℕ) → IsNoAsk l → before.cell ≡ Some running
+    → IsSoundRun g standing before
+    → CellDone g db (λ c choices. run_in db c choices l) result running after text_before text_after
+    → KeepsCell g standing result running after
     → LineDone g db l result before (with_cell before after) text_before text_after
 lifted g db l before running after (Ok done) text_before text_after no_ask here sound cell keeps =
-    λ given st near. told_line g db l (λ st c choices. run_in db c choices l) next_line (no_ask_is db l no_ask) (λ st c choices. line_stays db c choices l)
-    before running here sound given st near before.asks None after text_before text_after cell keeps.same (λ _. (omega (arith, near.lines), near.asks))
+    λ given st near. told_line g db l (λ st c choices. run_in db c choices l) next_line (no_ask_is db l no_ask)
+    (λ st c choices. line_stays db c choices l)
+    before running here sound given st near before.asks None after text_before text_after cell keeps.same
+    (λ _. (omega (arith, near.lines), near.asks))
 lifted g db l before running after (Err (Limit which)) text_before text_after no_ask here sound cell keeps =
-    λ given st near. told_line g db l (λ st c choices. run_in db c choices l) next_line (no_ask_is db l no_ask) (λ st c choices. line_stays db c choices l)
-    before running here sound given st near before.asks (Some (ending.Limit which)) after text_before text_after cell keeps.same (λ never. absurd (cc))
+    λ given st near. told_line g db l (λ st c choices. run_in db c choices l) next_line (no_ask_is db l no_ask)
+    (λ st c choices. line_stays db c choices l)
+    before running here sound given st near before.asks (Some (ending.Limit which)) after text_before text_after cell keeps.same
+    (λ never. absurd (cc))
 lifted g db l before running after (Err (Refused why)) text_before text_after no_ask here sound cell keeps = (
   same_again before running after here cell.0,
   cell.1,
   λ given st near.
-      refused_line g db l (λ st c choices. run_in db c choices l) next_line (no_ask_is db l no_ask) (λ st c choices. line_stays db c choices l)
+      refused_line g db l (λ st c choices. run_in db c choices l) next_line (no_ask_is db l no_ask)
+      (λ st c choices. line_stays db c choices l)
       before running here sound given st near why cell.2,
 )
 lifted g db l before running after (Err NoMemory) text_before text_after no_ask here sound cell keeps =
-    λ given st near. short_line g db l (λ st c choices. run_in db c choices l) next_line (no_ask_is db l no_ask) (λ st c choices. line_stays db c choices l)
+    λ given st near. short_line g db l (λ st c choices. run_in db c choices l) next_line (no_ask_is db l no_ask)
+    (λ st c choices. line_stays db c choices l)
     before running here sound given st near after keeps.same keeps.never_falls cell
 
 -- ---- an ask
 
-module _ {D V : Type 0} {standing : Standing} (g : Ghosts D) (db : ScriptDatabase) (words : List (List ℕ)) (call : List ℕ) (number : ℕ) (named : db.words.call_of words ≡ Some call)
-    (before : CellRun D V g) (running after : OpenCell D V g) (here : before.cell ≡ Some running) (sound : IsSoundRun g standing before) where
+module _ {D V : Type 0} {standing : Standing} (g : Ghosts D) (db : ScriptDatabase) (words : List (List ℕ)) (call : List ℕ) (number : ℕ)
+    (named : db.words.call_of words ≡ Some call)
+    (before : CellRun D V g) (running after : OpenCell D V g) (here : before.cell ≡ Some running)
+    (sound : IsSoundRun g standing before) where
   abbrev ask : Line
   ask = line.Ask (Some number) words
 
@@ -276,7 +307,8 @@ module _ {D V : Type 0} {standing : Standing} (g : Ghosts D) (db : ScriptDatabas
   abbrev ask_later : Stage → Stage
   ask_later st = record (next_line st) { asks = st.asks + 1 }
 
-  ask_is : (st : Stage) (c : Cell) (choices : Choices) → st.cell ≡ Some c → run_of_line db ask st choices ≡ in_stage (ask_later st) (ask_run st c choices)
+  ask_is : (st : Stage) (c : Cell) (choices : Choices) → st.cell ≡ Some c
+      → run_of_line db ask st choices ≡ in_stage (ask_later st) (ask_run st c choices)
   ask_is st c choices is = ap (λ (o : Option Cell). line_run (only db) (next_line st) choices ask o) is
 
   abbrev asked_so : Cell → Choices → Run_or_why
@@ -285,14 +317,17 @@ module _ {D V : Type 0} {standing : Standing} (g : Ghosts D) (db : ScriptDatabas
   same_run : (given : List ℕ) (st : Stage) (c : Cell) → IsNear g (only db) given 0 before st → ask_run st c ≡ asked_so c
   same_run given st c near =
       ap (λ (n : ℕ). λ (choices : Choices). asked db c (first_choice choices) (n + 1) words (Some number)) near.asks
-      ∙ ap (λ (o : Option (List ℕ)). λ (choices : Choices). asked_in db c (first_choice choices) (before.asks + 1) words (Some number) o) named
+      ∙ ap (λ (o : Option (List ℕ)). λ (choices : Choices). asked_in db c (first_choice choices) (before.asks + 1) words (Some number) o)
+      named
 
   -- what is told of it, where the run counts so many asks
-  ask_told : (ended : Option Ending) (text_before text_after : List ℕ) (given : List ℕ) (st : Stage) (near : IsNear g (only db) given 0 before st)
+  ask_told : (ended : Option Ending) (text_before text_after : List ℕ) (given : List ℕ) (st : Stage)
+      (near : IsNear g (only db) given 0 before st)
       → ((given : List ℕ) (c : Cell) → IsModelledBy g db.database given running c
       → CellTold g db given (asked_so c) ended running after text_before text_after)
       → length after.sites.items ≡ length running.sites.items
-      → StageTold g (only db) given (run_of_line db ask st) ended before (record before { cell = Some after; asks = before.asks + 1 }) text_before text_after
+      → StageTold g (only db) given (run_of_line db ask st) ended before
+      (record before { cell = Some after; asks = before.asks + 1 }) text_before text_after
   ask_told ended text_before text_after given st near told same =
       told_line g db ask ask_run ask_later ask_is (λ st c choices. ask_stays db c (first_choice choices) (st.asks + 1) words (Some number))
       before running here sound given st near (before.asks + 1) ended after text_before text_after
@@ -331,7 +366,8 @@ module _ {D V : Type 0} {standing : Standing} (g : Ghosts D) (db : ScriptDatabas
     same_again before running after here cell.0,
     cell.1,
     λ given st near.
-        refused_line g db ask ask_run ask_later ask_is (λ st c choices. ask_stays db c (first_choice choices) (st.asks + 1) words (Some number))
+        refused_line g db ask ask_run ask_later ask_is
+        (λ st c choices. ask_stays db c (first_choice choices) (st.asks + 1) words (Some number))
         before running here sound given st near why
         (λ own c stands. subst (λ (run : Choices → Run_or_why). IsRefused why run) (sym (same_run given st c near)) (cell.2 own c stands)),
   )
@@ -344,14 +380,17 @@ module _ {D V : Type 0} {standing : Standing} (g : Ghosts D) (db : ScriptDatabas
 -- ---- a run that stays
 
 -- where a run stands, its disks hold the stage
-pub run_holds : {D V : Type 0} (g : Ghosts D) (dbs : Databases) (given : List ℕ) (cell : Option (OpenCell D V g)) (c : Option Cell) (spare : List D)
+pub run_holds : {D V : Type 0} (g : Ghosts D) (dbs : Databases) (given : List ℕ) (cell : Option (OpenCell D V g)) (c : Option Cell)
+    (spare : List D)
     → CellStandsFor g dbs given cell c → All (λ disk. g.files disk ≡ Some no_files) spare → counts_of g spare ≡ drop (sites_in cell) given
     → HoldStage dbs given false c (cell_helds g cell ++ all_held g spare)
-run_holds g dbs given None None spare at empty counts = subst (λ (l : List ℕ). AreUnwritten l (all_held g spare)) counts (unwritten g spare empty)
+run_holds g dbs given None None spare at empty counts =
+    subst (λ (l : List ℕ). AreUnwritten l (all_held g spare)) counts (unwritten g spare empty)
 run_holds g dbs given None (Some c) spare at empty counts = absurd at
 run_holds g dbs given (Some running) None spare at empty counts = absurd at
 run_holds g dbs given (Some running) (Some c) spare at empty counts =
-    hold_cell dbs given false c (length running.sites.items) (helds g running) (all_held g spare) (sym (length-helds g running.sites.items)) at.disks
+    hold_cell dbs given false c (length running.sites.items) (helds g running) (all_held g spare)
+    (sym (length-helds g running.sites.items)) at.disks
     (subst (λ (l : List ℕ). AreUnwritten l (all_held g spare)) counts (unwritten g spare empty))
 
 pub run_causes : {D V : Type 0} (g : Ghosts D) (dbs : Databases) (given : List ℕ) (cell : Option (OpenCell D V g)) (c : Option Cell)
@@ -364,20 +403,24 @@ run_causes g dbs given (Some running) (Some c) items behind at causes =
     first_causes c.run.world.sites items (helds g running) behind at.disks.read causes
 
 -- as many servers as the cell of the stage has
-pub servers_match : {D V : Type 0} (standing : Standing) (g : Ghosts D) (dbs : Databases) (given : List ℕ) (bounds : Bounds) (cell : Option (OpenCell D V g)) (c : Option Cell)
+pub servers_match : {D V : Type 0} (standing : Standing) (g : Ghosts D) (dbs : Databases) (given : List ℕ) (bounds : Bounds)
+    (cell : Option (OpenCell D V g)) (c : Option Cell)
     → CellIsSound g standing bounds cell → CellStandsFor g dbs given cell c → servers_of c ≡ sites_in cell
 servers_match standing g dbs given bounds None None sound at = refl
 servers_match standing g dbs given bounds None (Some c) sound at = absurd at
 servers_match standing g dbs given bounds (Some running) None sound at = absurd at
-servers_match standing g dbs given bounds (Some running) (Some c) sound at = ap length (at.hosts ∙ sound.steady.hosts) ∙ hosts_count (length running.sites.items)
+servers_match standing g dbs given bounds (Some running) (Some c) sound at =
+    ap length (at.hosts ∙ sound.steady.hosts) ∙ hosts_count (length running.sites.items)
 
 -- the disks of a run that stays hold the stage at which it stands
-pub near_holds : {D V : Type 0} {standing : Standing} (g : Ghosts D) (dbs : Databases) (given : List ℕ) (ahead : ℕ) (run : CellRun D V g) (st : Stage) → IsSoundRun g standing run
+pub near_holds : {D V : Type 0} {standing : Standing} (g : Ghosts D) (dbs : Databases) (given : List ℕ) (ahead : ℕ) (run : CellRun D V g)
+    (st : Stage) → IsSoundRun g standing run
     → IsNear g dbs given ahead run st → HoldStage dbs given false st.cell (run_helds g run)
 near_holds g dbs given ahead run st sound near = run_holds g dbs given run.cell st.cell run.spare.items near.cell sound.spare near.spare
 
 -- memory ran out before anything was done
-pub short_same : {D V : Type 0} {standing : Standing} (g : Ghosts D) (db : ScriptDatabase) (l : Line) (before : CellRun D V g) (text_before text_after : List ℕ)
+pub short_same : {D V : Type 0} {standing : Standing} (g : Ghosts D) (db : ScriptDatabase) (l : Line) (before : CellRun D V g)
+    (text_before text_after : List ℕ)
     → IsSoundRun g standing before → LineDone g db l (Err NoMemory) before before text_before text_after
 short_same g db l before text_before text_after sound = λ given st near. record {
   causes = λ items causes. run_causes g (only db) given before.cell st.cell items (all_held g before.spare.items) near.cell causes;

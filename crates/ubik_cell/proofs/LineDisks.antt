@@ -34,7 +34,8 @@ fault_count-append k (Tells h ∷ items) more =
 fault_count-append k (Shows server clock showing ∷ items) more = fault_count-append k items more
 
 -- each fault that is told has its cause, also after more is told
-pub more_causes : (k : ℕ) (items more : List TraceItem) (before after : List Held) → AreCauses k items before → AreRises k more before after → AreCauses k (items ++ more) after
+pub more_causes : (k : ℕ) (items more : List TraceItem) (before after : List Held) → AreCauses k items before
+    → AreRises k more before after → AreCauses k (items ++ more) after
 more_causes k items more [] [] causes rises = tt
 more_causes k items more [] (new ∷ after) causes rises = absurd rises
 more_causes k items more (old ∷ before) [] causes rises = absurd rises
@@ -42,7 +43,8 @@ more_causes k items more (old ∷ before) (new ∷ after) causes rises =
     (omega (arith, causes.0, rises.0, fault_count-append k items more), more_causes (k + 1) items more before after causes.1 rises.1)
 
 -- as long as nothing more is told
-pub same_causes : (k : ℕ) (items : List TraceItem) (before after : List Held) → AreCauses k items before → AreRises k [] before after → AreCauses k items after
+pub same_causes : (k : ℕ) (items : List TraceItem) (before after : List Held) → AreCauses k items before → AreRises k [] before after
+    → AreCauses k items after
 same_causes k items before after causes rises =
     subst (λ (l : List TraceItem). AreCauses k l after) (append-nil items) (more_causes k items [] before after causes rises)
 
@@ -94,7 +96,8 @@ drop-first [] ys = refl
 drop-first (x ∷ xs) ys = drop-first xs ys
 
 -- the causes of the disks of the servers, which stand first
-pub first_causes : (sites : List Site) (items : List TraceItem) (disks others : List Held) → AreReadBy sites disks → AreCauses 0 items disks → AreCauses 0 items (take (length sites) (disks ++ others))
+pub first_causes : (sites : List Site) (items : List TraceItem) (disks others : List Held) → AreReadBy sites disks
+    → AreCauses 0 items disks → AreCauses 0 items (take (length sites) (disks ++ others))
 first_causes sites items disks others read causes =
     subst (λ (n : ℕ). AreCauses 0 items (take n (disks ++ others))) (sym (length-read sites disks read))
     (subst (λ (l : List Held). AreCauses 0 items l) (sym (take-first disks others)) causes)
@@ -107,12 +110,15 @@ fewer_rises k items (old ∷ before) [] rises = absurd rises
 fewer_rises k items (old ∷ before) (new ∷ after) rises = (omega (arith, rises.0), fewer_rises (k + 1) items before after rises.1)
 
 -- the causes of as many disks as there are servers
-pub counted_causes : (n : ℕ) (items : List TraceItem) (disks others : List Held) → n ≡ length disks → AreCauses 0 items disks → AreCauses 0 items (take n (disks ++ others))
+pub counted_causes : (n : ℕ) (items : List TraceItem) (disks others : List Held) → n ≡ length disks → AreCauses 0 items disks
+    → AreCauses 0 items (take n (disks ++ others))
 counted_causes n items disks others count causes =
-    subst (λ n. AreCauses 0 items (take n (disks ++ others))) (sym count) (subst (λ (l : List Held). AreCauses 0 items l) (sym (take-first disks others)) causes)
+    subst (λ n. AreCauses 0 items (take n (disks ++ others))) (sym count)
+    (subst (λ (l : List Held). AreCauses 0 items l) (sym (take-first disks others)) causes)
 
 -- as many disks as sites
-pub length-helds : {D V : Type 0} (g : Ghosts D) (sites : List (RunningSite D V g)) → length (map (λ (site : RunningSite D V g). held g (site_disk site)) sites) ≡ length sites
+pub length-helds : {D V : Type 0} (g : Ghosts D) (sites : List (RunningSite D V g))
+    → length (map (λ (site : RunningSite D V g). held g (site_disk site)) sites) ≡ length sites
 length-helds g [] = refl
 length-helds g (site ∷ sites) = ap suc (length-helds g sites)
 
@@ -127,7 +133,8 @@ hosts_count n = hosts_counted 0 n
 
 -- the disks of a cell's servers, and those behind them
 pub hold_cell : (dbs : Databases) (given : List ℕ) (short : Bool) (c : Cell) (n : ℕ) (disks others : List Held) → n ≡ length disks
-    → HoldRun (database_in dbs c) (take n given) short c disks → AreUnwritten (drop n given) others → HoldStage dbs given short (Some c) (disks ++ others)
+    → HoldRun (database_in dbs c) (take n given) short c disks → AreUnwritten (drop n given) others
+    → HoldStage dbs given short (Some c) (disks ++ others)
 hold_cell dbs given short c n disks others count holds behind =
     let as_many : length c.run.world.sites ≡ length disks = length-read c.run.world.sites disks holds.read in
     let there : (take (length disks) (disks ++ others) ≡ disks) × (drop (length disks) (disks ++ others) ≡ others) =

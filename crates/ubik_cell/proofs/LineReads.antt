@@ -43,9 +43,11 @@ over_long : (b : Bool) (x y : Result Line Why) → b ≡ true → cond b x y ≡
 over_long true x y is = refl
 over_long false x y is = absurd (cc)
 
-module _ {D V : Type 0} {standing : Standing} (g : Ghosts D) (db : ScriptDatabase) (bytes : List ℕ) (before : CellRun D V g) (sound : IsSoundRun g standing before) where
+module _ {D V : Type 0} {standing : Standing} (g : Ghosts D) (db : ScriptDatabase) (bytes : List ℕ) (before : CellRun D V g)
+    (sound : IsSoundRun g standing before) where
   -- the bytes of a line that stands for this, where lines are left
-  result_is : (given : List ℕ) (st : Stage) → IsNear g (only db) given 0 before st → before.lines < MAX_LINES → (m : Result Line Why) → line_of bytes ≡ m → (choices : Choices)
+  result_is : (given : List ℕ) (st : Stage) → IsNear g (only db) given 0 before st → before.lines < MAX_LINES → (m : Result Line Why)
+      → line_of bytes ≡ m → (choices : Choices)
       → result_of db bytes st choices ≡ or_refused (meaning_run (only db) (next_line st) choices m)
   result_is given st near room m is choices =
       let more : nat_le MAX_LINES st.lines ≡ false = grind (arith, nat_tests, near.lines) in
@@ -53,11 +55,13 @@ module _ {D V : Type 0} {standing : Standing} (g : Ghosts D) (db : ScriptDatabas
       ∙ ap (λ x. or_refused (meaning_run (only db) (next_line st) choices x)) is
 
   -- a line that means nothing
-  pub ended_meaning : (reason : Why) (text : List ℕ) → before.lines < MAX_LINES → line_of bytes ≡ Err reason → IsEnded g db bytes (ending.Refused reason) before before text text
+  pub ended_meaning : (reason : Why) (text : List ℕ) → before.lines < MAX_LINES → line_of bytes ≡ Err reason
+      → IsEnded g db bytes (ending.Refused reason) before before text text
   ended_meaning reason text room is = (refl, refl, λ given st near choices. result_is given st near room (Err reason) is choices)
 
   -- a line of too many bytes
-  pub ended_long : (text : List ℕ) → before.lines < MAX_LINES → MAX_LINE < length bytes → IsEnded g db bytes (ending.Refused why.Syntax) before before text text
+  pub ended_long : (text : List ℕ) → before.lines < MAX_LINES → MAX_LINE < length bytes
+      → IsEnded g db bytes (ending.Refused why.Syntax) before before text text
   ended_long text room long =
       let over : nat_lt MAX_LINE (length bytes) ≡ true = grind (arith, nat_tests) in
       ended_meaning why.Syntax text room (over_long (nat_lt MAX_LINE (length bytes)) _ _ over)
@@ -78,7 +82,8 @@ module _ {D V : Type 0} {standing : Standing} (g : Ghosts D) (db : ScriptDatabas
     held = inl (stage_short (only db) given st.cell (run_helds g before) (near_holds g (only db) given 0 before st sound near));
   }
 
-  module _ (l : Line) (room : before.lines < MAX_LINES) (is : line_of bytes ≡ Ok l) (after : CellRun D V g) (text_before text_after : List ℕ) where
+  module _ (l : Line) (room : before.lines < MAX_LINES) (is : line_of bytes ≡ Ok l) (after : CellRun D V g)
+      (text_before text_after : List ℕ) where
     stage_told : (ended : Option Ending) (given : List ℕ) (st : Stage) → IsNear g (only db) given 0 before st
         → StageTold g (only db) given (run_of_line db l st) ended before after text_before text_after
         → StageTold g (only db) given (result_of db bytes st) ended before after text_before text_after
@@ -159,9 +164,11 @@ module _ {D V : Type 0} (g : Ghosts D) (db : ScriptDatabase) (bytes : List ℕ) 
     line_number = omega (arith, at.stage.lines)
 
     -- a line at which it ends before it does anything
-    ended_told : {standing : Standing} (e : Ending) (after : CellRun D V g) (text_before middle text_after : List ℕ) → IsSoundRun g standing before
+    ended_told : {standing : Standing} (e : Ending) (after : CellRun D V g) (text_before middle text_after : List ℕ)
+        → IsSoundRun g standing before
         → IsEnded g db bytes e before after text_before middle
-        → text_after ≡ middle ++ ending_text (before.lines + 1) e → LineTold g (only db) given bytes t (Err (run_end.Ended e)) after text_before text_after
+        → text_after ≡ middle ++ ending_text (before.lines + 1) e
+        → LineTold g (only db) given bytes t (Err (run_end.Ended e)) after text_before text_after
     ended_told e after text_before middle text_after sound ends told =
         let held = held_at g (only db) given before t sound at in
         record {
@@ -181,7 +188,8 @@ module _ {D V : Type 0} (g : Ghosts D) (db : ScriptDatabase) (bytes : List ℕ) 
     -- a line in which packets pass a limit
     limit_told : (e : Ending) (after : CellRun D V g) (text_before middle text_after : List ℕ)
         → StageTold g (only db) given (result_of db bytes t.stage) (Some e) before after text_before middle
-        → text_after ≡ middle ++ ending_text (before.lines + 1) e → LineTold g (only db) given bytes t (Err (run_end.Ended e)) after text_before text_after
+        → text_after ≡ middle ++ ending_text (before.lines + 1) e
+        → LineTold g (only db) given bytes t (Err (run_end.Ended e)) after text_before text_after
     limit_told e after text_before middle text_after s told =
         let items = text_in (only db) s.ran.stage.cell s.ran.items in
         let line = t.stage.lines + 1 in
@@ -193,7 +201,8 @@ module _ {D V : Type 0} (g : Ghosts D) (db : ScriptDatabase) (bytes : List ℕ) 
           ended = ap (ended_at line) s.ends;
           added = items ++ ending_text line e;
           told =
-              told ∙ ap (λ l. l ++ ending_text (before.lines + 1) e) s.told ∙ ap (λ n. (text_before ++ items) ++ ending_text n e) (sym line_number)
+              told ∙ ap (λ l. l ++ ending_text (before.lines + 1) e) s.told
+              ∙ ap (λ n. (text_before ++ items) ++ ending_text n e) (sym line_number)
               ∙ append_assoc text_before items (ending_text line e);
           text = ap (λ x. (t.text ++ items) ++ end_text (ended_at line x)) s.ends ∙ append_assoc t.text items (ending_text line e);
           servers = s.servers;
@@ -202,7 +211,8 @@ module _ {D V : Type 0} (g : Ghosts D) (db : ScriptDatabase) (bytes : List ℕ) 
 
     -- memory ran out in the telling
     limit_short : (e : Ending) (after : CellRun D V g) (text_before middle : List ℕ)
-        → StageTold g (only db) given (result_of db bytes t.stage) (Some e) before after text_before middle → LineShort g (only db) given bytes t after
+        → StageTold g (only db) given (result_of db bytes t.stage) (Some e) before after text_before middle
+        → LineShort g (only db) given bytes t after
     limit_short e after text_before middle s =
         let holds = stage_short (only db) given s.ran.stage.cell (run_helds g after) s.holds in
         record {
@@ -225,7 +235,8 @@ module _ {D V : Type 0} (g : Ghosts D) (db : ScriptDatabase) (bytes : List ℕ) 
           (record { holds = ran.holds; causes = ran.causes t.items at.causes });
     })
 
-  pub line_ended : {standing : Standing} (e : Ending) (result : Result (Unit {0}) RunEnd) (after : CellRun D V g) (text_before middle text_after : List ℕ) → IsSoundRun g standing before
+  pub line_ended : {standing : Standing} (e : Ending) (result : Result (Unit {0}) RunEnd) (after : CellRun D V g)
+      (text_before middle text_after : List ℕ) → IsSoundRun g standing before
       → IsEnded g db bytes e before after text_before middle → EndTold (before.lines + 1) e result middle text_after
       → LineEnds g db bytes result before after text_before text_after
   line_ended e (Ok done) after text_before middle text_after sound ends told = absurd told
@@ -249,14 +260,16 @@ module _ {D V : Type 0} (g : Ghosts D) (db : ScriptDatabase) (bytes : List ℕ) 
       limit_short given t at e after text_before middle (ends given t.stage at.stage)
 
   -- memory ran out in it
-  pub line_short : (after : CellRun D V g) (text_before text_after : List ℕ) → ReadDone g db bytes (Err NoMemory) before after text_before text_after
+  pub line_short : (after : CellRun D V g) (text_before text_after : List ℕ)
+      → ReadDone g db bytes (Err NoMemory) before after text_before text_after
       → LineEnds g db bytes (Err run_end.NoMemory) before after text_before text_after
   line_short after text_before text_after short = λ given t at good.
       let is = short given t.stage at.stage in record { causes = is.causes t.items at.causes; held = ran_short given t at after is.held }
 
 -- ---- what stays
 
-pub places_of : {D V : Type 0} {standing : Standing} (g : Ghosts D) (fault : LineFault) (result : Result (Unit {0}) RunEnd) (before after : CellRun D V g)
+pub places_of : {D V : Type 0} {standing : Standing} (g : Ghosts D) (fault : LineFault) (result : Result (Unit {0}) RunEnd)
+    (before after : CellRun D V g)
     → KeepsRun g standing (Err fault) before after → (result ≡ Ok tt → ⊥) → KeepsPlaces g standing result before after
 places_of g fault result before after keeps never = record {
   disks = keeps.disks;
@@ -265,7 +278,8 @@ places_of g fault result before after keeps never = record {
   lines = λ done. absurd (never done);
 }
 
-pub places_ok : {D V : Type 0} {standing : Standing} (g : Ghosts D) (before after : CellRun D V g) → KeepsRun g standing (Ok tt) before after
+pub places_ok : {D V : Type 0} {standing : Standing} (g : Ghosts D) (before after : CellRun D V g)
+    → KeepsRun g standing (Ok tt) before after
     → KeepsPlaces g standing (Ok tt) before (record after { lines = after.lines + 1 })
 places_ok {D} {V} {standing} g before after keeps =
     let sound = keeps.sound refl in
@@ -285,7 +299,8 @@ places_ok {D} {V} {standing} g before after keeps =
       lines = λ done. ap (λ n. n + 1) keeps.lines;
     }
 
-pub no_ok : (line : ℕ) (e : Ending) (result : Result (Unit {0}) RunEnd) (text_before text_after : List ℕ) → EndTold line e result text_before text_after → result ≡ Ok tt → ⊥
+pub no_ok : (line : ℕ) (e : Ending) (result : Result (Unit {0}) RunEnd) (text_before text_after : List ℕ)
+    → EndTold line e result text_before text_after → result ≡ Ok tt → ⊥
 no_ok line e (Ok done) text_before text_after told is = told
 no_ok line e (Err (run_end.Ended other)) text_before text_after told is = cc
 no_ok line e (Err run_end.NoMemory) text_before text_after told is = cc
@@ -304,15 +319,18 @@ end_told_of line e (Err (run_end.Ended other)) text_before text_after told ends 
     let is = told (λ never. cc) in (same_end other e is.0, is.1)
 end_told_of line e (Err run_end.NoMemory) text_before text_after told ends = tt
 
-module _ {D V : Type 0} (g : Ghosts D) (db : ScriptDatabase) (bytes : List ℕ) (before after : CellRun D V g) (text_before text_after : List ℕ) where
-  pub ends_told : (result : Result (Unit {0}) RunEnd) → LineEnds g db bytes result before after text_before text_after → result ≢ Err run_end.NoMemory
+module _ {D V : Type 0} (g : Ghosts D) (db : ScriptDatabase) (bytes : List ℕ) (before after : CellRun D V g)
+    (text_before text_after : List ℕ) where
+  pub ends_told : (result : Result (Unit {0}) RunEnd) → LineEnds g db bytes result before after text_before text_after
+      → result ≢ Err run_end.NoMemory
       → (given : List ℕ) (t : Told) → IsAt g (only db) given before t → t.ended ≡ None
       → LineTold g (only db) given bytes t result after text_before text_after
   ends_told (Ok done) ends other = ends
   ends_told (Err (run_end.Ended e)) ends other = ends
   ends_told (Err run_end.NoMemory) ends other = absurd (other refl)
 
-  pub ends_short : (result : Result (Unit {0}) RunEnd) → LineEnds g db bytes result before after text_before text_after → result ≡ Err run_end.NoMemory
+  pub ends_short : (result : Result (Unit {0}) RunEnd) → LineEnds g db bytes result before after text_before text_after
+      → result ≡ Err run_end.NoMemory
       → (given : List ℕ) (t : Told) → IsAt g (only db) given before t → t.ended ≡ None → LineShort g (only db) given bytes t after
   ends_short (Ok done) ends is = absurd (cc)
   ends_short (Err (run_end.Ended e)) ends is = absurd (cc)

@@ -29,19 +29,22 @@ module _ (script_db : ScriptDatabase) where
   abbrev Stays : Opening → Cell_run → Type 0
   Stays opening r = r.cell.opening ≡ opening
 
-  so_stays : (c : Cell) (trigger : Trigger) (k : ℕ) (short : List Bool) (outcome : DiskOutcome) → Stays c.opening (stepped_so script_db c trigger k short outcome)
+  so_stays : (c : Cell) (trigger : Trigger) (k : ℕ) (short : List Bool) (outcome : DiskOutcome)
+      → Stays c.opening (stepped_so script_db c trigger k short outcome)
   so_stays c trigger k short (Serves calls) = refl
   so_stays c trigger k short (Fails_after unheard made) = refl
   so_stays c trigger k short (Stops_after unheard made) = refl
 
   stepped_stays : (c : Cell) (choice : Choice) (trigger : Trigger) → Stays c.opening (stepped script_db c choice trigger)
   stepped_stays c choice trigger =
-      so_stays c trigger (place_in (occasion c.run.world trigger)) choice.short (outcome_of script_db.database c.run.world choice c.armed (occasion c.run.world trigger))
+      so_stays c trigger (place_in (occasion c.run.world trigger)) choice.short
+      (outcome_of script_db.database c.run.world choice c.armed (occasion c.run.world trigger))
 
   delivered_stays : (c : Cell) (choice : Choice) (number : ℕ) → Stays c.opening (delivered script_db c choice number)
   delivered_stays c choice number = stepped_stays (record c { handed = set c.handed (number - 1) true }) choice (Delivery number)
 
-  unless_stays : (opening : Opening) (r next : Cell_run) (o : Option Ending) → Stays opening r → Stays r.cell.opening next → Stays opening (unless_ended r o next)
+  unless_stays : (opening : Opening) (r next : Cell_run) (o : Option Ending) → Stays opening r → Stays r.cell.opening next
+      → Stays opening (unless_ended r o next)
   unless_stays opening r next None first second = second ∙ first
   unless_stays opening r next (Some ending) first second = first
 
@@ -63,15 +66,18 @@ module _ (script_db : ScriptDatabase) where
     if_stays false x y first second = second
 
     server_stays : (number : ℕ) (does : ℕ → Run_or_why) → ((k : ℕ) → MayStay (does k)) → MayStay (at_server c number does)
-    server_stays number does stays = if_stays (nat_lt 0 number && nat_le number (cell_size_of c)) (does (number - 1)) (Err why.Server) (stays (number - 1)) tt
+    server_stays number does stays =
+        if_stays (nat_lt 0 number && nat_le number (cell_size_of c)) (does (number - 1)) (Err why.Server) (stays (number - 1)) tt
 
     up_stays : (number : ℕ) (does : ℕ → Cell_run) → ((k : ℕ) → Stays c.opening (does k)) → MayStay (at_up c number does)
     up_stays number does stays =
-        server_stays number (λ k. cond (is_down_at c k) (Err why.State) (Ok (does k))) (λ k. if_stays (is_down_at c k) (Err why.State) (Ok (does k)) tt (stays k))
+        server_stays number (λ k. cond (is_down_at c k) (Err why.State) (Ok (does k)))
+        (λ k. if_stays (is_down_at c k) (Err why.State) (Ok (does k)) tt (stays k))
 
     down_stays : (number : ℕ) (does : ℕ → Cell_run) → ((k : ℕ) → Stays c.opening (does k)) → MayStay (at_down c number does)
     down_stays number does stays =
-        server_stays number (λ k. cond (is_down_at c k) (Ok (does k)) (Err why.State)) (λ k. if_stays (is_down_at c k) (Ok (does k)) (Err why.State) (stays k) tt)
+        server_stays number (λ k. cond (is_down_at c k) (Ok (does k)) (Err why.State))
+        (λ k. if_stays (is_down_at c k) (Ok (does k)) (Err why.State) (stays k) tt)
 
     packet_stays : (number : ℕ) (r : Cell_run) → Stays c.opening r → MayStay (at_packet c number r)
     packet_stays number r stays = if_stays (nat_lt 0 number && nat_le number (length c.run.world.packets)) (Ok r) (Err why.Packet) stays tt
@@ -85,21 +91,27 @@ module _ (script_db : ScriptDatabase) where
         (λ k. skewed_stays (tick_at c.run.world.sites k seconds) (Tick k seconds))
     line_stays choices (line.TickAll seconds) = skewed_stays (map (ticked seconds) c.run.world.sites) (Tick_all seconds)
     line_stays choices (line.Beacon server) =
-        up_stays server (λ k. stepped script_db c (first_choice choices) (Beacon_turn k)) (λ k. stepped_stays c (first_choice choices) (Beacon_turn k))
+        up_stays server (λ k. stepped script_db c (first_choice choices) (Beacon_turn k))
+        (λ k. stepped_stays c (first_choice choices) (Beacon_turn k))
     line_stays choices (line.Recover server) =
-        up_stays server (λ k. stepped script_db c (first_choice choices) (Recover_turn k)) (λ k. stepped_stays c (first_choice choices) (Recover_turn k))
-    line_stays choices (line.Deliver packet) = packet_stays packet (delivered script_db c (first_choice choices) packet) (delivered_stays c (first_choice choices) packet)
+        up_stays server (λ k. stepped script_db c (first_choice choices) (Recover_turn k))
+        (λ k. stepped_stays c (first_choice choices) (Recover_turn k))
+    line_stays choices (line.Deliver packet) =
+        packet_stays packet (delivered script_db c (first_choice choices) packet) (delivered_stays c (first_choice choices) packet)
     line_stays choices (line.Drop packet) = packet_stays packet (resting (record c { handed = set c.handed (packet - 1) true })) refl
     line_stays choices (line.DropAll server) =
-        up_stays server (λ k. resting (record c { handed = dropped_of (host_at c.run.world.hosts k) c.run.world.packets c.handed })) (λ k. refl)
+        up_stays server (λ k. resting (record c { handed = dropped_of (host_at c.run.world.hosts k) c.run.world.packets c.handed }))
+        (λ k. refl)
     line_stays choices line.DeliverAll = all_stay choices.most c choices.each (first_waiting 1 c.handed)
     line_stays choices (line.Stop server calls f) =
         up_stays server (λ k. resting (record c { armed = set c.armed k (Some (record { calls = calls; made = 0 })) })) (λ k. refl)
-    line_stays choices (line.Crash server) = up_stays server (λ k. with_event script_db (record c { armed = set c.armed k None }) (Crash k)) (λ k. refl)
+    line_stays choices (line.Crash server) =
+        up_stays server (λ k. with_event script_db (record c { armed = set c.armed k None }) (Crash k)) (λ k. refl)
     line_stays choices (line.Restart server) =
         down_stays server (λ k. with_event script_db c (Restart k (first_choice choices).fails)) (λ k. refl)
     line_stays choices (line.Show server) =
-        server_stays server (λ k. Ok (record { cell = c; items = shown_site (cell_size_of c) k (site_of c.run.world k); ending = None })) (λ k. refl)
+        server_stays server (λ k. Ok (record { cell = c; items = shown_site (cell_size_of c) k (site_of c.run.world k); ending = None }))
+        (λ k. refl)
     line_stays choices (line.Cell servers clock k) = tt
     line_stays choices line.Nothing = refl
     line_stays choices (line.Ask server words) = tt
@@ -119,7 +131,8 @@ abbrev meaning_with : Databases → Stage → Choices → Option Cell → Result
 meaning_with dbs st choices cell (Err w) = Err w
 meaning_with dbs st choices cell (Ok l) = line_run dbs st choices l cell
 
-meaning_is : (dbs : Databases) (st : Stage) (choices : Choices) (m : Result Line Why) → meaning_run dbs st choices m ≡ meaning_with dbs st choices st.cell m
+meaning_is : (dbs : Databases) (st : Stage) (choices : Choices) (m : Result Line Why)
+    → meaning_run dbs st choices m ≡ meaning_with dbs st choices st.cell m
 meaning_is dbs st choices (Err w) = refl
 meaning_is dbs st choices (Ok l) = refl
 
@@ -142,40 +155,54 @@ module _ (k : Kind) where
   abbrev pub KeepsKind : {E : Type 0} → Result Line_run E → Type 0
   KeepsKind r = IfOk r (λ run. IsOfKind k run.stage.cell)
 
-  staged : (st : Stage) (c : Cell) (r : Run_or_why) → kind_of_cell c ≡ k → IfOk r (λ r. r.cell.opening ≡ c.opening) → KeepsKind (in_stage st r)
+  staged : (st : Stage) (c : Cell) (r : Run_or_why) → kind_of_cell c ≡ k → IfOk r (λ r. r.cell.opening ≡ c.opening)
+      → KeepsKind (in_stage st r)
   staged st c (Err w) is stays = tt
   staged st c (Ok r) is stays = ap (λ (o : Opening). o.kind) stays ∙ is
 
-  standing_kind : (dbs : Databases) (st : Stage) (choices : Choices) (c : Cell) (l : Line) → kind_of_cell c ≡ k → KeepsKind (run_standing dbs st choices c l)
+  standing_kind : (dbs : Databases) (st : Stage) (choices : Choices) (c : Cell) (l : Line) → kind_of_cell c ≡ k
+      → KeepsKind (run_standing dbs st choices c l)
   standing_kind dbs st choices c (line.Ask server words) is =
       staged (record st { asks = st.asks + 1 }) c (asked (dbs (kind_of_cell c)) c (first_choice choices) (st.asks + 1) words server) is
       (ask_stays (dbs (kind_of_cell c)) c (first_choice choices) (st.asks + 1) words server)
   standing_kind dbs st choices c (line.Tick server seconds) is =
-      staged st c (run_in (dbs (kind_of_cell c)) c choices (line.Tick server seconds)) is (line_stays (dbs (kind_of_cell c)) c choices (line.Tick server seconds))
+      staged st c (run_in (dbs (kind_of_cell c)) c choices (line.Tick server seconds)) is
+      (line_stays (dbs (kind_of_cell c)) c choices (line.Tick server seconds))
   standing_kind dbs st choices c (line.TickAll seconds) is =
-      staged st c (run_in (dbs (kind_of_cell c)) c choices (line.TickAll seconds)) is (line_stays (dbs (kind_of_cell c)) c choices (line.TickAll seconds))
+      staged st c (run_in (dbs (kind_of_cell c)) c choices (line.TickAll seconds)) is
+      (line_stays (dbs (kind_of_cell c)) c choices (line.TickAll seconds))
   standing_kind dbs st choices c (line.Beacon server) is =
-      staged st c (run_in (dbs (kind_of_cell c)) c choices (line.Beacon server)) is (line_stays (dbs (kind_of_cell c)) c choices (line.Beacon server))
+      staged st c (run_in (dbs (kind_of_cell c)) c choices (line.Beacon server)) is
+      (line_stays (dbs (kind_of_cell c)) c choices (line.Beacon server))
   standing_kind dbs st choices c (line.Recover server) is =
-      staged st c (run_in (dbs (kind_of_cell c)) c choices (line.Recover server)) is (line_stays (dbs (kind_of_cell c)) c choices (line.Recover server))
+      staged st c (run_in (dbs (kind_of_cell c)) c choices (line.Recover server)) is
+      (line_stays (dbs (kind_of_cell c)) c choices (line.Recover server))
   standing_kind dbs st choices c (line.Deliver packet) is =
-      staged st c (run_in (dbs (kind_of_cell c)) c choices (line.Deliver packet)) is (line_stays (dbs (kind_of_cell c)) c choices (line.Deliver packet))
+      staged st c (run_in (dbs (kind_of_cell c)) c choices (line.Deliver packet)) is
+      (line_stays (dbs (kind_of_cell c)) c choices (line.Deliver packet))
   standing_kind dbs st choices c (line.Drop packet) is =
-      staged st c (run_in (dbs (kind_of_cell c)) c choices (line.Drop packet)) is (line_stays (dbs (kind_of_cell c)) c choices (line.Drop packet))
+      staged st c (run_in (dbs (kind_of_cell c)) c choices (line.Drop packet)) is
+      (line_stays (dbs (kind_of_cell c)) c choices (line.Drop packet))
   standing_kind dbs st choices c (line.DropAll server) is =
-      staged st c (run_in (dbs (kind_of_cell c)) c choices (line.DropAll server)) is (line_stays (dbs (kind_of_cell c)) c choices (line.DropAll server))
+      staged st c (run_in (dbs (kind_of_cell c)) c choices (line.DropAll server)) is
+      (line_stays (dbs (kind_of_cell c)) c choices (line.DropAll server))
   standing_kind dbs st choices c line.DeliverAll is =
       staged st c (run_in (dbs (kind_of_cell c)) c choices line.DeliverAll) is (line_stays (dbs (kind_of_cell c)) c choices line.DeliverAll)
   standing_kind dbs st choices c (line.Stop server calls f) is =
-      staged st c (run_in (dbs (kind_of_cell c)) c choices (line.Stop server calls f)) is (line_stays (dbs (kind_of_cell c)) c choices (line.Stop server calls f))
+      staged st c (run_in (dbs (kind_of_cell c)) c choices (line.Stop server calls f)) is
+      (line_stays (dbs (kind_of_cell c)) c choices (line.Stop server calls f))
   standing_kind dbs st choices c (line.Crash server) is =
-      staged st c (run_in (dbs (kind_of_cell c)) c choices (line.Crash server)) is (line_stays (dbs (kind_of_cell c)) c choices (line.Crash server))
+      staged st c (run_in (dbs (kind_of_cell c)) c choices (line.Crash server)) is
+      (line_stays (dbs (kind_of_cell c)) c choices (line.Crash server))
   standing_kind dbs st choices c (line.Restart server) is =
-      staged st c (run_in (dbs (kind_of_cell c)) c choices (line.Restart server)) is (line_stays (dbs (kind_of_cell c)) c choices (line.Restart server))
+      staged st c (run_in (dbs (kind_of_cell c)) c choices (line.Restart server)) is
+      (line_stays (dbs (kind_of_cell c)) c choices (line.Restart server))
   standing_kind dbs st choices c (line.Show server) is =
-      staged st c (run_in (dbs (kind_of_cell c)) c choices (line.Show server)) is (line_stays (dbs (kind_of_cell c)) c choices (line.Show server))
+      staged st c (run_in (dbs (kind_of_cell c)) c choices (line.Show server)) is
+      (line_stays (dbs (kind_of_cell c)) c choices (line.Show server))
   standing_kind dbs st choices c (line.Cell servers clock other) is =
-      staged st c (run_in (dbs (kind_of_cell c)) c choices (line.Cell servers clock other)) is (line_stays (dbs (kind_of_cell c)) c choices (line.Cell servers clock other))
+      staged st c (run_in (dbs (kind_of_cell c)) c choices (line.Cell servers clock other)) is
+      (line_stays (dbs (kind_of_cell c)) c choices (line.Cell servers clock other))
   standing_kind dbs st choices c line.Nothing is =
       staged st c (run_in (dbs (kind_of_cell c)) c choices line.Nothing) is (line_stays (dbs (kind_of_cell c)) c choices line.Nothing)
 
@@ -199,7 +226,8 @@ module _ (k : Kind) where
   first_kind dbs st choices (Ok (line.Restart server)) none opens = tt
   first_kind dbs st choices (Ok (line.Show server)) none opens = tt
 
-  meaning_kind : (dbs : Databases) (st : Stage) (choices : Choices) (cell : Option Cell) (m : Result Line Why) → st.cell ≡ cell → IsOfKind k cell
+  meaning_kind : (dbs : Databases) (st : Stage) (choices : Choices) (cell : Option Cell) (m : Result Line Why) → st.cell ≡ cell
+      → IsOfKind k cell
       → OpensIn k cell m → KeepsKind (meaning_with dbs st choices cell m)
   meaning_kind dbs st choices None m is kind opens = first_kind dbs st choices m is opens
   meaning_kind dbs st choices (Some c) (Err w) is kind opens = tt
@@ -209,12 +237,14 @@ module _ (k : Kind) where
   refused_kind (Ok run) keeps = keeps
   refused_kind (Err w) keeps = tt
 
-  result_kind : (dbs : Databases) (st : Stage) (r : LineRead) → IsOfKind k st.cell → OpensKind k st.cell r.line → KeepsKind (line_result dbs st r)
+  result_kind : (dbs : Databases) (st : Stage) (r : LineRead) → IsOfKind k st.cell → OpensKind k st.cell r.line
+      → KeepsKind (line_result dbs st r)
   result_kind dbs st r kind opens =
       let m = line_of r.line in
       either_is KeepsKind (nat_le MAX_LINES st.lines) (Err (Limit Lines)) (or_refused (meaning_run dbs (next_line st) r.choices m)) tt
       (refused_kind (meaning_run dbs (next_line st) r.choices m)
-      (subst KeepsKind (sym (meaning_is dbs (next_line st) r.choices m)) (meaning_kind dbs (next_line st) r.choices st.cell m refl kind opens)))
+      (subst KeepsKind (sym (meaning_is dbs (next_line st) r.choices m))
+      (meaning_kind dbs (next_line st) r.choices st.cell m refl kind opens)))
 
   -- ---- and so does what it does
 
@@ -244,13 +274,15 @@ module _ (k : Kind) where
   meaning_same st choices cell (Err w) kind = refl
   meaning_same st choices None (Ok l) kind = refl
   meaning_same st choices (Some c) (Ok l) kind =
-      subst (λ (x : Kind). run_standing (only (databases x)) st choices c l ≡ run_standing databases st choices c l) kind (standing_same st choices c l)
+      subst (λ (x : Kind). run_standing (only (databases x)) st choices c l ≡ run_standing databases st choices c l) kind
+      (standing_same st choices c l)
 
   result_same : (st : Stage) (r : LineRead) → IsOfKind k st.cell → line_result own st r ≡ line_result databases st r
   result_same st r kind =
       let m = line_of r.line in
       ap (λ (x : Result Line_run Why). cond (nat_le MAX_LINES st.lines) (Err (Limit Lines)) (or_refused x))
-      (meaning_is own (next_line st) r.choices m ∙ meaning_same (next_line st) r.choices st.cell m kind ∙ sym (meaning_is databases (next_line st) r.choices m))
+      (meaning_is own (next_line st) r.choices m ∙ meaning_same (next_line st) r.choices st.cell m kind
+      ∙ sym (meaning_is databases (next_line st) r.choices m))
 
   text_same : (cell : Option Cell) (items : List TraceItem) → IsOfKind k cell → text_in own cell items ≡ text_in databases cell items
   text_same None items kind = refl
@@ -261,17 +293,25 @@ module _ (k : Kind) where
   told_same t (Err ending) keeps = refl
   told_same t (Ok run) keeps =
       let ended = ended_at (t.stage.lines + 1) run.ending in
-      ap (λ (text : List ℕ). record { stage = run.stage; items = t.items ++ run.items; text = t.text ++ text ++ end_text ended; ended = ended })
+      ap (λ (text : List ℕ). record {
+        stage = run.stage;
+        items = t.items ++ run.items;
+        text = t.text ++ text
+            ++ end_text ended;
+        ended = ended;
+      })
       (text_same run.stage.cell run.items keeps)
 
-  told_kind : (t : Told) (r : Result Line_run Ending) → IsOfKind k t.stage.cell → KeepsKind r → IsOfKind k (told_with databases t r).stage.cell
+  told_kind : (t : Told) (r : Result Line_run Ending) → IsOfKind k t.stage.cell → KeepsKind r
+      → IsOfKind k (told_with databases t r).stage.cell
   told_kind t (Err ending) kind keeps = kind
   told_kind t (Ok run) kind keeps = keeps
 
   module _ (t : Told) (r : LineRead) (kind : IsOfKind k t.stage.cell) (opens : OpensKind k t.stage.cell r.line) where
     pub line_same : told_with own t (line_result own t.stage r) ≡ told_with databases t (line_result databases t.stage r)
     line_same =
-        ap (told_with own t) (result_same t.stage r kind) ∙ told_same t (line_result databases t.stage r) (result_kind databases t.stage r kind opens)
+        ap (told_with own t) (result_same t.stage r kind)
+        ∙ told_same t (line_result databases t.stage r) (result_kind databases t.stage r kind opens)
 
     pub line_kind : IsOfKind k (told_with databases t (line_result databases t.stage r)).stage.cell
     line_kind = told_kind t (line_result databases t.stage r) kind (result_kind databases t.stage r kind opens)
@@ -289,7 +329,8 @@ module _ (k : Kind) where
     -- what a line told over the database of the kind is what it tells over all
     pub told_line : (result : Result (Unit {0}) RunEnd) (Follows Goes : Told → Type 0) (sites : ℕ) (text_before text_after : List ℕ)
         → ((later : Told) → IsOfKind k later.stage.cell → Follows later → Goes later)
-        → ToldLine own line t result Follows sites text_before text_after → ToldLine databases line t result Goes sites text_before text_after
+        → ToldLine own line t result Follows sites text_before text_after
+        → ToldLine databases line t result Goes sites text_before text_after
     told_line result Follows Goes sites text_before text_after goes of =
         let r : LineRead = record { line = line; choices = of.choices } in
         let is : of.later ≡ told_with databases t (line_result databases t.stage r) = of.is ∙ line_same t r kind opens in

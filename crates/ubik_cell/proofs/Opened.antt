@@ -55,7 +55,8 @@ no_causes k [] = tt
 no_causes k (disk ∷ disks) = (omega arith, no_causes (k + 1) disks)
 
 -- before a cell stands nothing is told
-nothing_before : {D V : Type 0} (g : Ghosts D) (cell : Option (OpenCell D V g)) (items : List TraceItem) → cell ≡ None → HasCauses g cell items → items ≡ []
+nothing_before : {D V : Type 0} (g : Ghosts D) (cell : Option (OpenCell D V g)) (items : List TraceItem) → cell ≡ None
+    → HasCauses g cell items → items ≡ []
 nothing_before g None items is none = none
 nothing_before g (Some running) items is none = absurd (cc)
 
@@ -65,24 +66,30 @@ pub none_asked : {D V : Type 0} (g : Ghosts D) (standing : Standing) (bounds : B
 none_asked g standing bounds None none is = is
 none_asked g standing bounds (Some running) none is = absurd (cc)
 
-module _ {D V : Type 0} (g : Ghosts D) (db : ScriptDatabase) (servers clock : ℕ) (k : Kind) (before : CellRun D V g) (running : OpenCell D V g)
-    (after : CellRun D V g) (here : after.cell ≡ Some running) (none : before.cell ≡ None) (lines : after.lines ≡ before.lines) (asks : after.asks ≡ before.asks) where
+module _ {D V : Type 0} (g : Ghosts D) (db : ScriptDatabase) (servers clock : ℕ) (k : Kind) (before : CellRun D V g)
+    (running : OpenCell D V g)
+    (after : CellRun D V g) (here : after.cell ≡ Some running) (none : before.cell ≡ None) (lines : after.lines ≡ before.lines)
+    (asks : after.asks ≡ before.asks) where
   abbrev opens : Line
   opens = line.Cell servers clock k
 
-  opens_is : (st : Stage) → st.cell ≡ None → (choices : Choices) → run_of_line db opens st choices ≡ Ok (opened (next_line st) choices servers clock k)
+  opens_is : (st : Stage) → st.cell ≡ None → (choices : Choices)
+      → run_of_line db opens st choices ≡ Ok (opened (next_line st) choices servers clock k)
   opens_is st is choices = ap (λ (o : Option Cell). line_run (only db) (next_line st) choices opens o) is
 
   -- each failed opening is a fault of its disk
-  told_causes : {text_before text_after : List ℕ} (given : List D) (items : List TraceItem) (is : IsOpened g db clock k given running text_before text_after)
-      → length given ≡ servers → HasCauses g before.cell items → HasCauses g after.cell (items ++ opening_items (fails_at servers is.choices))
+  told_causes : {text_before text_after : List ℕ} (given : List D) (items : List TraceItem)
+      (is : IsOpened g db clock k given running text_before text_after)
+      → length given ≡ servers → HasCauses g before.cell items
+      → HasCauses g after.cell (items ++ opening_items (fails_at servers is.choices))
   told_causes given items is count causes =
       let failed = fails_at servers is.choices in
       let told : AreCauses 0 (opening_items failed) (helds g running) =
       more_causes 0 [] (opening_items failed) (all_held g given) (helds g running) (no_causes 0 (all_held g given))
       (subst (λ n. AreRises 0 (opening_items (fails_at n is.choices)) (all_held g given) (helds g running)) count is.causes) in
       subst (λ (o : Option (OpenCell D V g)). HasCauses g o (items ++ opening_items failed)) (sym here)
-      (subst (λ (l : List TraceItem). AreCauses 0 (l ++ opening_items failed) (helds g running)) (sym (nothing_before g before.cell items none causes)) told)
+      (subst (λ (l : List TraceItem). AreCauses 0 (l ++ opening_items failed) (helds g running))
+      (sym (nothing_before g before.cell items none causes)) told)
 
   -- the disks that a run without a cell has are all
   all_given : (given : List ℕ) (st : Stage) → IsNear g (only db) given 0 before st → counts_of g before.spare.items ≡ given
@@ -100,13 +107,15 @@ module _ {D V : Type 0} (g : Ghosts D) (db : ScriptDatabase) (servers clock : �
       let whole : Choices = record { each = choices; most = MAX_PACKETS } in
       let failed = fails_at servers choices in
       let opened_c : Cell = opened_cell servers clock k failed in
-      let hosts_are : length running.hosts.items ≡ length running.sites.items = ap length is.sound.steady.hosts ∙ hosts_count (length running.sites.items) in
+      let hosts_are : length running.hosts.items ≡ length running.sites.items = ap length is.sound.steady.hosts
+      ∙ hosts_count (length running.sites.items) in
       let sites_are : length running.sites.items ≡ servers = sym hosts_are ∙ ap length hosts ∙ hosts_count servers in
       let all : counts_of g before.spare.items ≡ given = all_given given st near in
       let own : counts_of g disks ≡ take (length running.sites.items) given =
       counts-take g servers before.spare.items ∙ ap (take servers) all ∙ ap (λ (n : ℕ). take n given) (sym sites_are) in
       let behind : counts_of g after.spare.items ≡ drop (length running.sites.items) given =
-      ap (counts_of g) left ∙ counts-drop g servers before.spare.items ∙ ap (drop servers) all ∙ ap (λ (n : ℕ). drop n given) (sym sites_are) in
+      ap (counts_of g) left ∙ counts-drop g servers before.spare.items ∙ ap (drop servers) all
+      ∙ ap (λ (n : ℕ). drop n given) (sym sites_are) in
       let stands : IsModelledBy g db.database (take (length running.sites.items) given) running opened_c =
       subst (λ (l : List ℕ). IsModelledBy g db.database l running opened_c) own
       (subst (λ n. IsModelledBy g db.database (counts_of g disks) running (opened_cell n clock k (fails_at n choices))) count is.stands) in
@@ -139,7 +148,8 @@ module _ {D V : Type 0} (g : Ghosts D) (db : ScriptDatabase) (servers clock : �
   -- memory ran out in the opening
   pub opened_short : (text_before text_after : List ℕ)
       → AreUnwritten (counts_of g (take (length running.sites.items) before.spare.items)) (helds g running)
-      → All (λ disk. g.files disk ≡ Some no_files) after.spare.items → after.spare.items ≡ drop (length running.sites.items) before.spare.items
+      → All (λ disk. g.files disk ≡ Some no_files) after.spare.items
+      → after.spare.items ≡ drop (length running.sites.items) before.spare.items
       → LineDone g db opens (Err NoMemory) before after text_before text_after
   opened_short text_before text_after cell empty left = λ given st near.
       let n : ℕ = length running.sites.items in
@@ -152,7 +162,8 @@ module _ {D V : Type 0} (g : Ghosts D) (db : ScriptDatabase) (servers clock : �
       subst (λ (l : List ℕ). AreUnwritten l (run_helds g after)) split
       (subst (λ (o : Option (OpenCell D V g)). AreUnwritten (counts_of g (take n before.spare.items) ++ counts_of g after.spare.items)
       (cell_helds g o ++ all_held g after.spare.items)) (sym here)
-      (unwritten-append (counts_of g (take n before.spare.items)) (counts_of g after.spare.items) (helds g running) (all_held g after.spare.items)
+      (unwritten-append (counts_of g (take n before.spare.items)) (counts_of g after.spare.items) (helds g running)
+      (all_held g after.spare.items)
       cell (unwritten g after.spare.items empty))) in
       let no_cell : st.cell ≡ None = none_of g (only db) given before.cell st.cell none near.cell in
       record {
@@ -162,13 +173,16 @@ module _ {D V : Type 0} (g : Ghosts D) (db : ScriptDatabase) (servers clock : �
       }
 
   -- what stays
-  pub opened_keeps : {standing : Standing} (result : Result (Unit {0}) LineFault) → IsSoundRun g standing before → before.lines < MAX_LINES → length running.sites.items ≤ MAXSERVERS
-      → after.spare.items ≡ drop (length running.sites.items) before.spare.items → (result ≡ Ok tt → IsSound g standing.database (record { clock = clock; asks = 0 }) running) → clock ≤ MAX_CLOCK
+  pub opened_keeps : {standing : Standing} (result : Result (Unit {0}) LineFault) → IsSoundRun g standing before
+      → before.lines < MAX_LINES → length running.sites.items ≤ MAXSERVERS
+      → after.spare.items ≡ drop (length running.sites.items) before.spare.items
+      → (result ≡ Ok tt → IsSound g standing.database (record { clock = clock; asks = 0 }) running) → clock ≤ MAX_CLOCK
       → KeepsRun g standing result before after
   opened_keeps {standing} result sound room few spare is_sound early =
       let count : sites_in after.cell ≡ length running.sites.items = ap sites_in here in
       let no_sites : sites_in before.cell ≡ 0 = ap sites_in none in
-      let left : length after.spare.items ≡ length before.spare.items - length running.sites.items = ap length spare ∙ length-drop (length running.sites.items) before.spare.items in
+      let left : length after.spare.items ≡ length before.spare.items - length running.sites.items = ap length spare
+      ∙ length-drop (length running.sites.items) before.spare.items in
       let whole : sites_in after.cell + length after.spare.items ≡ MAXSERVERS = omega (arith, sound.disks, count, no_sites, left, few) in
       record {
         lines = lines;
@@ -182,9 +196,11 @@ module _ {D V : Type 0} (g : Ghosts D) (db : ScriptDatabase) (servers clock : �
               (sym (asks ∙ none_asked g standing (bounds_after before.lines before.asks) before.cell none sound.cell))
               (raised g standing.database (record { clock = clock; asks = 0 }) (clock_bound (before.lines + 1)) running
               (omega (arith, early)) (is_sound done)));
-          spare = subst (All (λ disk. g.files disk ≡ Some no_files)) (sym spare) (All-drop (λ disk. g.files disk ≡ Some no_files) (length running.sites.items) before.spare.items sound.spare);
+          spare = subst (All (λ disk. g.files disk ≡ Some no_files)) (sym spare)
+              (All-drop (λ disk. g.files disk ≡ Some no_files) (length running.sites.items) before.spare.items sound.spare);
           settled = subst (All (λ disk. IsSettled (g.files disk) (g.may_leave disk))) (sym spare)
-              (All-drop (λ disk. IsSettled (g.files disk) (g.may_leave disk)) (length running.sites.items) before.spare.items sound.settled);
+              (All-drop (λ disk. IsSettled (g.files disk) (g.may_leave disk))
+              (length running.sites.items) before.spare.items sound.settled);
           unarmed = subst (All (λ disk. g.stop disk ≡ Unarmed)) (sym spare)
               (All-drop (λ disk. g.stop disk ≡ Unarmed) (length running.sites.items) before.spare.items sound.unarmed);
           disks = whole;
@@ -195,7 +211,8 @@ module _ {D V : Type 0} (g : Ghosts D) (db : ScriptDatabase) (servers clock : �
 
 -- ---- an empty line
 
-module _ {D V : Type 0} {standing : Standing} (g : Ghosts D) (db : ScriptDatabase) (before : CellRun D V g) (sound : IsSoundRun g standing before) where
+module _ {D V : Type 0} {standing : Standing} (g : Ghosts D) (db : ScriptDatabase) (before : CellRun D V g)
+    (sound : IsSoundRun g standing before) where
   nothing_in : (st : Stage) (cell : Option Cell) → st.cell ≡ cell → (choices : Choices)
       → run_of_line db line.Nothing st choices ≡ Ok (record { stage = record (next_line st) { cell = cell }; items = []; ending = None })
   nothing_in st None is choices =
@@ -215,7 +232,8 @@ module _ {D V : Type 0} {standing : Standing} (g : Ghosts D) (db : ScriptDatabas
     is = nothing_in st st.cell refl sound_choices;
     ends = refl;
     near = λ _. record { lines = omega (arith, near.lines); asks = near.asks; cell = near.cell; spare = near.spare };
-    servers = sym (servers_match standing g (only db) given (bounds_after before.lines before.asks) before.cell st.cell sound.cell near.cell);
+    servers =
+        sym (servers_match standing g (only db) given (bounds_after before.lines before.asks) before.cell st.cell sound.cell near.cell);
     holds = near_holds g (only db) given 0 before st sound near;
     kept = λ o items at causes. run_causes g (only db) given before.cell o items (all_held g before.spare.items) at causes;
     told = sym (ap (λ (l : List ℕ). text ++ l) (no_text st.cell) ∙ append-nil text);
@@ -249,9 +267,11 @@ module _ {D V : Type 0} {standing : Standing} (g : Ghosts D) (db : ScriptDatabas
 
 -- ---- the disks that are left
 
-pub rest_empty : {D : Type 0} (files : D → Option Files) (spare rest : List D) (n : ℕ) → rest ≡ drop n spare → All (λ disk. files disk ≡ Some no_files) spare
+pub rest_empty : {D : Type 0} (files : D → Option Files) (spare rest : List D) (n : ℕ) → rest ≡ drop n spare
+    → All (λ disk. files disk ≡ Some no_files) spare
     → All (λ disk. files disk ≡ Some no_files) rest
-rest_empty files spare rest n is empty = subst (All (λ disk. files disk ≡ Some no_files)) (sym is) (All-drop (λ disk. files disk ≡ Some no_files) n spare empty)
+rest_empty files spare rest n is empty =
+    subst (All (λ disk. files disk ≡ Some no_files)) (sym is) (All-drop (λ disk. files disk ≡ Some no_files) n spare empty)
 
 pub taken_count : {X : Type 0} (xs : List X) (n : ℕ) → n ≤ length xs → length (take n xs) ≡ n
 taken_count [] zero few = refl

@@ -12,7 +12,8 @@ use Rattle.ubik_cell.specs.Lines.{AreUnwritten, IsUnwritten}
 use Rattle.ubik_cell.proofs.LineDisks.{unwritten-append}
 
 -- what the disks of a cell read as
-sites_held : {D V : Type 0} (g : Ghosts D) (sites : List (Site D V g)) → map (λ (site : Site D V g). held g (site_disk site)) sites ≡ all_held g (map site_disk sites)
+sites_held : {D V : Type 0} (g : Ghosts D) (sites : List (Site D V g))
+    → map (λ (site : Site D V g). held g (site_disk site)) sites ≡ all_held g (map site_disk sites)
 sites_held g [] = refl
 sites_held g (site ∷ sites) = ap (λ (l : List Held). held g (site_disk site) ∷ l) (sites_held g sites)
 
@@ -21,7 +22,8 @@ held-append g [] b = refl
 held-append g (disk ∷ a) b = ap (λ (l : List Held). held g disk ∷ l) (held-append g a b)
 
 -- one more disk stands for no database
-pub added_unwritten : {D V : Type 0} (g : Ghosts D) (given : List ℕ) (disk : D) (before after : OpenCell D V g) → IsAdded g disk before after
+pub added_unwritten : {D V : Type 0} (g : Ghosts D) (given : List ℕ) (disk : D) (before after : OpenCell D V g)
+    → IsAdded g disk before after
     → AreUnwritten given (helds g before) → AreUnwritten (given ++ g.steps disk ∷ []) (helds g after)
 added_unwritten g given disk before after added empty =
     let disks : helds g after ≡ helds g before ++ held g added.kept ∷ [] =
@@ -37,7 +39,8 @@ none_unwritten {D} {V} g running none =
     subst (λ (sites : List (Site D V g)). AreUnwritten [] (map (λ site. held g (site_disk site)) sites)) (sym none) tt
 
 -- the counts of one more disk
-pub counts-push : {D : Type 0} (g : Ghosts D) (disks : List D) (disk : D) → counts_of g (disks ++ disk ∷ []) ≡ counts_of g disks ++ g.steps disk ∷ []
+pub counts-push : {D : Type 0} (g : Ghosts D) (disks : List D) (disk : D) → counts_of g (disks ++ disk ∷ []) ≡ counts_of g disks
+    ++ g.steps disk ∷ []
 counts-push g [] disk = refl
 counts-push g (first ∷ disks) disk = ap (λ (l : List ℕ). g.steps first ∷ l) (counts-push g disks disk)
 
@@ -62,7 +65,8 @@ module _ {D : Type 0} (given : List D) (i : ℕ) (disk : D) (inside : i < length
   pub next_is : (P : D → Type 0) → All P given → P disk
   next_is P all = subst P there (all i disk inside)
 
-pub next_left : {D : Type 0} (given left after : List D) (i : ℕ) → left ≡ drop i given → after ≡ take 0 left ++ drop 1 left → after ≡ drop (i + 1) given
+pub next_left : {D : Type 0} (given left after : List D) (i : ℕ) → left ≡ drop i given → after ≡ take 0 left ++ drop 1 left
+    → after ≡ drop (i + 1) given
 next_left given left after i is removed = removed ∙ ap (λ l. take 0 l ++ drop 1 l) is ∙ drop-next given i
 
 -- the disks of a closed run

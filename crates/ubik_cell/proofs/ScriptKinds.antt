@@ -30,7 +30,8 @@ use Rattle.ubik_cell.proofs.LineDisks.{stage_short}
 -- ---- facts of a run over one database
 
 module _ {D V : Type 0} (g : Ghosts D) (k : Kind) (given : List ℕ) where
-  kind_held : (run : CellRun D V g) (t : Told) → IsSoundRun g (standings k) run → IsAtKind g k given run t → AreHeld databases given false t (run_helds g run)
+  kind_held : (run : CellRun D V g) (t : Told) → IsSoundRun g (standings k) run → IsAtKind g k given run t
+      → AreHeld databases given false t (run_helds g run)
   kind_held run t sound at =
       let held = held_at {standing = standings k} g (only (databases k)) given run t sound at.at in
       record { holds = hold_same k given false t.stage.cell (run_helds g run) at.kind held.holds; causes = held.causes }
@@ -42,7 +43,8 @@ module _ {D V : Type 0} (g : Ghosts D) (k : Kind) (given : List ℕ) where
       → (later : Told) → IsOfKind k later.stage.cell → Leaves g (only (databases k)) given result after later → Goes later
   kind_leaves (Ok done) after Goes on ends later kind at = on refl later (record { at = at; kind = kind })
   kind_leaves (Err e) after Goes on ends later kind held =
-      ends (λ is. cc) later (record { holds = hold_same k given false later.stage.cell (run_helds g after) kind held.holds; causes = held.causes })
+      ends (λ is. cc) later
+      (record { holds = hold_same k given false later.stage.cell (run_helds g after) kind held.holds; causes = held.causes })
 
   -- a cell stands in a run where one stands in its meaning
   opens_kind : (dbs : Databases) (cell : Option (OpenCell D V g)) (c : Option Cell) (bytes : List ℕ) → CellStandsFor g dbs given cell c
@@ -55,20 +57,25 @@ module _ {D V : Type 0} (g : Ghosts D) (k : Kind) (given : List ℕ) where
 -- ---- the same of a run over whichever
 
 module _ {D : Type 0} (g : Ghosts D) (given : List ℕ) where
-  pub script_held_at : (run : ScriptRun D g) (t : Told) → IsSoundScript g run → StandsAt g given run t → AreHeld databases given false t (script_helds g run)
+  pub script_held_at : (run : ScriptRun D g) (t : Told) → IsSoundScript g run → StandsAt g given run t
+      → AreHeld databases given false t (script_helds g run)
   script_held_at (over.Protection run) t sound at = kind_held g Protection given run t sound at
   script_held_at (over.Location run) t sound at = kind_held g Location given run t sound at
 
-  pub script_count_at : (run : ScriptRun D g) (t : Told) → IsSoundScript g run → StandsAt g given run t → script_sites run ≡ servers_of t.stage.cell
-  script_count_at (over.Protection run) t sound at = count_at {standing = standings Protection} g (only (databases Protection)) given run t sound at.at
-  script_count_at (over.Location run) t sound at = count_at {standing = standings Location} g (only (databases Location)) given run t sound at.at
+  pub script_count_at : (run : ScriptRun D g) (t : Told) → IsSoundScript g run → StandsAt g given run t
+      → script_sites run ≡ servers_of t.stage.cell
+  script_count_at (over.Protection run) t sound at =
+      count_at {standing = standings Protection} g (only (databases Protection)) given run t sound at.at
+  script_count_at (over.Location run) t sound at =
+      count_at {standing = standings Location} g (only (databases Location)) given run t sound at.at
 
   pub lines_at : (run : ScriptRun D g) (t : Told) → StandsAt g given run t → t.stage.lines ≡ script_lines run
   lines_at (over.Protection run) t at = omega (arith, at.at.stage.lines)
   lines_at (over.Location run) t at = omega (arith, at.at.stage.lines)
 
   -- memory ran out before a line did anything
-  pub script_short_at : (run : ScriptRun D g) (t : Told) (line : List ℕ) → IsSoundScript g run → StandsAt g given run t → ShortLine databases given line t (script_helds g run)
+  pub script_short_at : (run : ScriptRun D g) (t : Told) (line : List ℕ) → IsSoundScript g run → StandsAt g given run t
+      → ShortLine databases given line t (script_helds g run)
   script_short_at run t line sound at =
       let held = script_held_at run t sound at in
       record { causes = held.causes; held = inl (stage_short databases given t.stage.cell (script_helds g run) held.holds) }
@@ -87,7 +94,8 @@ module _ {D : Type 0} (g : Ghosts D) where
   long_none true x y is none = none
   long_none false x y is none = absurd cc
 
-  pub long_opens : {V : Type 0} (k : Kind) (cell : Option (OpenCell D V g)) (bytes : List ℕ) → MAX_LINE < length bytes → IfSome (kind_opened cell bytes) (λ x. x ≡ k)
+  pub long_opens : {V : Type 0} (k : Kind) (cell : Option (OpenCell D V g)) (bytes : List ℕ) → MAX_LINE < length bytes
+      → IfSome (kind_opened cell bytes) (λ x. x ≡ k)
   long_opens k None bytes long =
       let over_long : nat_lt MAX_LINE (length bytes) ≡ true = grind (arith, nat_tests) in
       let none : kind_in (line_of bytes) ≡ None = long_none (nat_lt MAX_LINE (length bytes)) (Err why.Syntax) _ over_long refl in
@@ -96,7 +104,8 @@ module _ {D : Type 0} (g : Ghosts D) where
 
 -- ---- a line of a run over one database
 
-module _ {D V : Type 0} (g : Ghosts D) (k : Kind) (given line : List ℕ) (t : Told) (before : CellRun D V g) (at : IsAtKind g k given before t)
+module _ {D V : Type 0} (g : Ghosts D) (k : Kind) (given line : List ℕ) (t : Told) (before : CellRun D V g)
+    (at : IsAtKind g k given before t)
     (opens : IfSome (kind_opened before.cell line) (λ x. x ≡ k)) where
   abbrev may_open : OpensKind k t.stage.cell line
   may_open = opens_kind g k given (only (databases k)) before.cell t.stage.cell line at.at.stage.cell opens
@@ -107,16 +116,19 @@ module _ {D V : Type 0} (g : Ghosts D) (k : Kind) (given line : List ℕ) (t : T
       → LineTold g (only (databases k)) given line t result after text_before text_after
       → ToldLine databases line t result Goes (sites_in after.cell) text_before text_after
   kind_told result after Goes text_before text_after on ends of =
-      told_line k given line t at.kind may_open result (Leaves g (only (databases k)) given result after) Goes (sites_in after.cell) text_before text_after
+      told_line k given line t at.kind may_open result (Leaves g (only (databases k)) given result after) Goes
+      (sites_in after.cell) text_before text_after
       (kind_leaves g k given result after Goes on ends) of
 
-  pub kind_short : (after : CellRun D V g) → ShortLine (only (databases k)) given line t (run_helds g after) → ShortLine databases given line t (run_helds g after)
+  pub kind_short : (after : CellRun D V g) → ShortLine (only (databases k)) given line t (run_helds g after)
+      → ShortLine databases given line t (run_helds g after)
   kind_short after short = short_line k given line t at.kind may_open (run_helds g after) short
 
 -- ---- a line of a run over whichever database
 
 module _ {D : Type 0} (g : Ghosts D) (given line : List ℕ) (t : Told) where
-  leaves_on : (result : Result (Unit {0}) RunEnd) (run : ScriptRun D g) (later : Told) → result ≡ Ok tt → StandsAt g given run later → ScriptLeaves g given result run later
+  leaves_on : (result : Result (Unit {0}) RunEnd) (run : ScriptRun D g) (later : Told) → result ≡ Ok tt → StandsAt g given run later
+      → ScriptLeaves g given result run later
   leaves_on (Ok done) run later is at = at
   leaves_on (Err e) run later is at = absurd (cc)
 
@@ -143,11 +155,13 @@ module _ {D : Type 0} (g : Ghosts D) (given line : List ℕ) (t : Told) where
       kind_told g Location given line t before at opens result after (ScriptLeaves g given result next) text_before text_after
       (λ is later there. leaves_on result next later is there) (λ other later held. leaves_ended result next later other held) of
 
-  pub protection_short : (before after : CellRun D PtService g) → StandsAt g given (over.Protection before) t → OpensItsKind line (over.Protection before)
+  pub protection_short : (before after : CellRun D PtService g) → StandsAt g given (over.Protection before) t
+      → OpensItsKind line (over.Protection before)
       → ShortLine (only (databases Protection)) given line t (run_helds g after) → ShortLine databases given line t (run_helds g after)
   protection_short before after at opens short = kind_short g Protection given line t before at opens after short
 
-  pub location_short : (before after : CellRun D VlService g) → StandsAt g given (over.Location before) t → OpensItsKind line (over.Location before)
+  pub location_short : (before after : CellRun D VlService g) → StandsAt g given (over.Location before) t
+      → OpensItsKind line (over.Location before)
       → ShortLine (only (databases Location)) given line t (run_helds g after) → ShortLine databases given line t (run_helds g after)
   location_short before after at opens short = kind_short g Location given line t before at opens after short
 
@@ -161,7 +175,8 @@ module _ {D : Type 0} (g : Ghosts D) where
 -- ---- the kind that a line opens
 
 -- where a line opens a cell of a kind no cell stands
-none_stands : {D V : Type 0} {g : Ghosts D} (cell : Option (OpenCell D V g)) (line : List ℕ) (k : Kind) → kind_opened cell line ≡ Some k → cell ≡ None
+none_stands : {D V : Type 0} {g : Ghosts D} (cell : Option (OpenCell D V g)) (line : List ℕ) (k : Kind) → kind_opened cell line ≡ Some k
+    → cell ≡ None
 none_stands None line k is = refl
 none_stands (Some running) line k is = absurd (cc)
 

@@ -54,7 +54,8 @@ module _ {D V : Type 0} (g : Ghosts D) where
       joined_settled run.cell run.spare.items (cell_settled standing (bounds_after run.lines run.asks) run.cell sound.cell) sound.settled
 
   -- the cell of a sound run
-  pub here_settled : {standing : Standing} (run : CellRun D V g) (running : OpenCell D V g) → run.cell ≡ Some running → IsSoundRun g standing run
+  pub here_settled : {standing : Standing} (run : CellRun D V g) (running : OpenCell D V g) → run.cell ≡ Some running
+      → IsSoundRun g standing run
       → AreSettled g (disks_of running)
   here_settled {standing} run running here sound =
       subst (λ (o : Option (OpenCell D V g)). AreSettled g (cell_disks o)) here

@@ -70,7 +70,8 @@ module _ {D : Type 0} (g : Ghosts D) (dbs : Databases) where
 
 module _ {D : Type 0} (g : Ghosts D) where
   -- before the first line
-  pub first_so_far : (given : List ℕ) (ended : Bool) (run : ScriptRun D g) → ended ≡ false → StandsAt g given run first_told → (script before : List ℕ)
+  pub first_so_far : (given : List ℕ) (ended : Bool) (run : ScriptRun D g) → ended ≡ false → StandsAt g given run first_told
+      → (script before : List ℕ)
       → SoFar g given script ended (Some script) before (Some before) run
   first_so_far given ended run going at script before =
       let P : Bool → Type 0 = λ b. IsConsumed b script script [] in

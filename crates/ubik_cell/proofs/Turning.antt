@@ -126,7 +126,8 @@ module _ {D : Type 0} (g : Ghosts D) (given : List ℕ) where
       -- the sink failed in what the line tells
       pub part_told : (result ≡ Ok tt → IsSoundScript g next) → AppendsPart written after bytes → RanSo kind.WriteFault
       part_told sound wrote =
-          ran_all databases given text left before after (script_sites next) (script_helds g next) kind.WriteFault readings all_whole refl (record {
+          ran_all databases given text left before after (script_sites next)
+          (script_helds g next) kind.WriteFault readings all_whole refl (record {
             earlier = at.readings;
             last = last;
             is = refl;
@@ -150,7 +151,8 @@ module _ {D : Type 0} (g : Ghosts D) (given : List ℕ) where
         let result : Result (Unit {0}) RunEnd = Err (Ended ending) in
         let all : List LineRead = readings result bytes of in
         let place : t.stage.lines + 1 ≡ number = omega (arith, lines_at g given run t at.at, is) in
-        ran_all databases given text left before after (script_sites next) (script_helds g next) (kind_at number ending) all (all_whole result bytes of)
+        ran_all databases given text left before after (script_sites next) (script_helds g next) (kind_at number ending) all
+        (all_whole result bytes of)
         (until_enough databases given text left before after (script_sites next) (script_helds g next) number ending)
         (until_kind databases given text left before after (script_sites next) (script_helds g next) number ending all (record {
           earlier = at.readings;
@@ -163,7 +165,8 @@ module _ {D : Type 0} (g : Ghosts D) (given : List ℕ) where
           good = at.good;
           ended = ap (λ (d : Told). d.ended) (more result bytes of) ∙ of.ended ∙ ap (λ (n : ℕ). Some (ends_at n ending)) place;
           wrote = whole_wrote result bytes of wrote;
-        })) (later_has result bytes of (λ d. AreHeld databases given false d (script_helds g next)) of.leaves) (servers_later result bytes of)
+        })) (later_has result bytes of (λ d. AreHeld databases given false d (script_helds g next)) of.leaves)
+        (servers_later result bytes of)
 
     -- memory ran out in the line
     abbrev disks : List Held
@@ -242,7 +245,8 @@ module _ {D : Type 0} (g : Ghosts D) (given : List ℕ) where
         wrote = whole_wrote text left before written after run next line at.at (Ok tt) bytes of wrote;
       }
 
-  module _ (script : List ℕ) (was now : Bool) (left later : Option (List ℕ)) (before : List ℕ) (after : Option (List ℕ)) (run : ScriptRun D g)
+  module _ (script : List ℕ) (was now : Bool) (left later : Option (List ℕ)) (before : List ℕ) (after : Option (List ℕ))
+      (run : ScriptRun D g)
       (so : SoFar g given script was left before after run) where
     abbrev lines : List (List ℕ)
     lines = read_lines so.readings

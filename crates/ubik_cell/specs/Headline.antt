@@ -64,6 +64,7 @@ pub record Headline {D : Type 0} (g : Ghosts D) (k : CellKind) (script : List �
   pub kept : OfOneAfter (λ c. IsKept (standing_of c) c) readings
   pub single_copy : OfOneAfter (λ c. HasSingleReplies (standing_of c) c) readings
   pub causes : HeldCauses (told databases readings).stage.cell (told databases readings).items (all_held g disks_after)
-  pub disks : DisksHold readings (untold_of k readings script left before after run) (counts_of g disks_before) (is_short k) (all_held g disks_after)
+  pub disks : DisksHold readings (untold_of k readings script left before after run) (counts_of g disks_before) (is_short k)
+      (all_held g disks_after)
   pub on_disk : IsOnDisk g (told databases (readings ++ disks.more)).stage.cell disks_after
   pub others : OthersStay k (servers_of (told databases readings).stage.cell) disks_before disks_after

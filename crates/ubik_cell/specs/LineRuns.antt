@@ -31,17 +31,21 @@ run_of_line db l st choices = line_run (only db) (next_line st) choices l st.cel
 abbrev pub LineDone : {D V : Type 0} (g : Ghosts D) → ScriptDatabase → Line → Result (Unit {0}) LineFault
     → (before after : CellRun D V g) → (text_before text_after : List ℕ) → Type 0
 LineDone g db l (Ok done) before after text_before text_after =
-    (given : List ℕ) (st : Stage) → IsNear g (only db) given 0 before st → StageTold g (only db) given (run_of_line db l st) None before after text_before text_after
+    (given : List ℕ) (st : Stage) → IsNear g (only db) given 0 before st
+    → StageTold g (only db) given (run_of_line db l st) None before after text_before text_after
 LineDone g db l (Err (Limit which)) before after text_before text_after =
     (given : List ℕ) (st : Stage) → IsNear g (only db) given 0 before st →
     StageTold g (only db) given (run_of_line db l st) (Some (ending.Limit which)) before after text_before text_after
 LineDone g db l (Err (Refused why)) before after text_before text_after =
-    (after ≡ before) × (text_after ≡ text_before) × ((given : List ℕ) (st : Stage) → IsNear g (only db) given 0 before st → IsRefusedLine why (run_of_line db l st))
+    (after ≡ before) × (text_after ≡ text_before)
+    × ((given : List ℕ) (st : Stage) → IsNear g (only db) given 0 before st → IsRefusedLine why (run_of_line db l st))
 LineDone g db l (Err NoMemory) before after text_before text_after =
-    (given : List ℕ) (st : Stage) → IsNear g (only db) given 0 before st → StageShort g (only db) given (run_of_line db l st) st before after
+    (given : List ℕ) (st : Stage) → IsNear g (only db) given 0 before st
+    → StageShort g (only db) given (run_of_line db l st) st before after
 
 -- what a line keeps of a run: how many lines there were, and each disk in its place
-pub record KeepsRun {D V : Type 0} (g : Ghosts D) (standing : Standing) (result : Result (Unit {0}) LineFault) (before after : CellRun D V g) : Type 0 where
+pub record KeepsRun {D V : Type 0} (g : Ghosts D) (standing : Standing) (result : Result (Unit {0}) LineFault)
+    (before after : CellRun D V g) : Type 0 where
   pub lines : after.lines ≡ before.lines
   pub disks : sites_in after.cell + length after.spare.items ≡ MAXSERVERS
   pub spare : after.spare.items ≡ drop (sites_in after.cell - sites_in before.cell) before.spare.items
@@ -52,7 +56,8 @@ abbrev pub result_of : ScriptDatabase → List ℕ → Stage → Choices → Res
 result_of db bytes st choices = line_result (only db) st (record { line = bytes; choices = choices })
 
 -- the script ends before a line does anything
-abbrev pub IsEnded : {D V : Type 0} (g : Ghosts D) → ScriptDatabase → List ℕ → Ending → (before after : CellRun D V g) → (text_before text_after : List ℕ) → Type 0
+abbrev pub IsEnded : {D V : Type 0} (g : Ghosts D) → ScriptDatabase → List ℕ → Ending → (before after : CellRun D V g)
+    → (text_before text_after : List ℕ) → Type 0
 IsEnded g db bytes e before after text_before text_after =
     (after ≡ before) × (text_after ≡ text_before)
     × ((given : List ℕ) (st : Stage) → IsNear g (only db) given 0 before st → (choices : Choices) → result_of db bytes st choices ≡ Err e)
@@ -61,7 +66,8 @@ IsEnded g db bytes e before after text_before text_after =
 abbrev pub ReadDone : {D V : Type 0} (g : Ghosts D) → ScriptDatabase → List ℕ → Result (Unit {0}) LineFault
     → (before after : CellRun D V g) → (text_before text_after : List ℕ) → Type 0
 ReadDone g db bytes (Ok done) before after text_before text_after =
-    (given : List ℕ) (st : Stage) → IsNear g (only db) given 0 before st → StageTold g (only db) given (result_of db bytes st) None before after text_before text_after
+    (given : List ℕ) (st : Stage) → IsNear g (only db) given 0 before st
+    → StageTold g (only db) given (result_of db bytes st) None before after text_before text_after
 ReadDone g db bytes (Err (Limit which)) before after text_before text_after =
     IsEnded g db bytes (ending.Limit which) before after text_before text_after
     ⊎ ((given : List ℕ) (st : Stage) → IsNear g (only db) given 0 before st →
@@ -69,13 +75,15 @@ ReadDone g db bytes (Err (Limit which)) before after text_before text_after =
 ReadDone g db bytes (Err (Refused why)) before after text_before text_after =
     IsEnded g db bytes (ending.Refused why) before after text_before text_after
 ReadDone g db bytes (Err NoMemory) before after text_before text_after =
-    (given : List ℕ) (st : Stage) → IsNear g (only db) given 0 before st → StageShort g (only db) given (result_of db bytes st) st before after
+    (given : List ℕ) (st : Stage) → IsNear g (only db) given 0 before st
+    → StageShort g (only db) given (result_of db bytes st) st before after
 
 -- What the bytes of a line left of a run: it was told, with its end where the script ends in it; or memory ran out.
 abbrev pub LineEnds : {D V : Type 0} (g : Ghosts D) → ScriptDatabase → List ℕ → Result (Unit {0}) RunEnd
     → (before after : CellRun D V g) → (text_before text_after : List ℕ) → Type 0
 LineEnds g db bytes (Ok done) before after text_before text_after =
-    (given : List ℕ) (t : Told) → IsAt g (only db) given before t → t.ended ≡ None → LineTold g (only db) given bytes t (Ok done) after text_before text_after
+    (given : List ℕ) (t : Told) → IsAt g (only db) given before t → t.ended ≡ None
+    → LineTold g (only db) given bytes t (Ok done) after text_before text_after
 LineEnds g db bytes (Err (run_end.Ended e)) before after text_before text_after =
     (given : List ℕ) (t : Told) → IsAt g (only db) given before t → t.ended ≡ None
     → LineTold g (only db) given bytes t (Err (run_end.Ended e)) after text_before text_after
@@ -89,7 +97,8 @@ EndTold line e (Err (run_end.Ended other)) text_before text_after = (other ≡ e
 EndTold line e (Err run_end.NoMemory) text_before text_after = Unit {0}
 
 -- what the bytes of a line keep of a run
-pub record KeepsPlaces {D V : Type 0} (g : Ghosts D) (standing : Standing) (result : Result (Unit {0}) RunEnd) (before after : CellRun D V g) : Type 0 where
+pub record KeepsPlaces {D V : Type 0} (g : Ghosts D) (standing : Standing) (result : Result (Unit {0}) RunEnd)
+    (before after : CellRun D V g) : Type 0 where
   pub disks : sites_in after.cell + length after.spare.items ≡ MAXSERVERS
   pub spare : after.spare.items ≡ drop (sites_in after.cell - sites_in before.cell) before.spare.items
   pub sound : result ≡ Ok tt → IsSoundRun g standing after
@@ -99,15 +108,19 @@ pub record KeepsPlaces {D V : Type 0} (g : Ghosts D) (standing : Standing) (resu
 abbrev pub CellDone : {D V : Type 0} (g : Ghosts D) → ScriptDatabase → (Cell → Choices → Run_or_why)
     → Result (Unit {0}) LineFault → (before after : OpenCell D V g) → (text_before text_after : List ℕ) → Type 0
 CellDone g db run (Ok done) before after text_before text_after =
-    (given : List ℕ) (c : Cell) → IsModelledBy g db.database given before c → CellTold g db given (run c) None before after text_before text_after
+    (given : List ℕ) (c : Cell) → IsModelledBy g db.database given before c
+    → CellTold g db given (run c) None before after text_before text_after
 CellDone g db run (Err (Limit which)) before after text_before text_after =
-    (given : List ℕ) (c : Cell) → IsModelledBy g db.database given before c → CellTold g db given (run c) (Some (ending.Limit which)) before after text_before text_after
+    (given : List ℕ) (c : Cell) → IsModelledBy g db.database given before c
+    → CellTold g db given (run c) (Some (ending.Limit which)) before after text_before text_after
 CellDone g db run (Err (Refused why)) before after text_before text_after =
-    (after ≡ before) × (text_after ≡ text_before) × ((given : List ℕ) (c : Cell) → IsModelledBy g db.database given before c → IsRefused why (run c))
+    (after ≡ before) × (text_after ≡ text_before)
+    × ((given : List ℕ) (c : Cell) → IsModelledBy g db.database given before c → IsRefused why (run c))
 CellDone g db run (Err NoMemory) before after text_before text_after =
     (given : List ℕ) (c : Cell) → IsModelledBy g db.database given before c → IsShort g db.database given (run c) c before after
 
-pub record KeepsCell {D V : Type 0} (g : Ghosts D) (standing : Standing) (result : Result (Unit {0}) LineFault) (before after : OpenCell D V g) : Type 0 where
+pub record KeepsCell {D V : Type 0} (g : Ghosts D) (standing : Standing) (result : Result (Unit {0}) LineFault)
+    (before after : OpenCell D V g) : Type 0 where
   pub sound : result ≡ Ok tt → (bounds : Bounds) → IsSound g standing.database bounds before
       → IsSound g standing.database (record bounds { clock = bounds.clock + MAX_TICK }) after
   pub never_falls : AreRises 0 [] (helds g before) (helds g after)

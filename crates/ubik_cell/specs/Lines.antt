@@ -95,7 +95,8 @@ HasCauses g None items = items ≡ []
 HasCauses g (Some running) items = AreCauses 0 items (helds g running)
 
 -- a run stands at a stage, some lines before it
-pub record IsNear {D V : Type 0} (g : Ghosts D) (dbs : Databases) (given : List ℕ) (ahead : ℕ) (run : CellRun D V g) (st : Stage) : Type 0 where
+pub record IsNear {D V : Type 0} (g : Ghosts D) (dbs : Databases) (given : List ℕ) (ahead : ℕ) (run : CellRun D V g)
+    (st : Stage) : Type 0 where
   pub lines : st.lines ≡ run.lines + ahead
   pub asks : st.asks ≡ run.asks
   pub cell : CellStandsFor g dbs given run.cell st.cell
@@ -162,7 +163,8 @@ pub record ToldLine (dbs : Databases) (line : List ℕ) (t : Told) (result : Res
   pub leaves : Follows later
   pub servers : sites ≡ servers_of later.stage.cell
 
-abbrev pub LineTold : {D V : Type 0} (g : Ghosts D) → Databases → (given line : List ℕ) → Told → Result (Unit {0}) RunEnd → (after : CellRun D V g)
+abbrev pub LineTold : {D V : Type 0} (g : Ghosts D) → Databases → (given line : List ℕ) → Told → Result (Unit {0}) RunEnd
+    → (after : CellRun D V g)
     → (text_before text_after : List ℕ) → Type 0
 LineTold g dbs given line t result after text_before text_after =
     ToldLine dbs line t result (Leaves g dbs given result after) (sites_in after.cell) text_before text_after

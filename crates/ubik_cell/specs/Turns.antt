@@ -45,7 +45,8 @@ is_short kind.NoMemory = true
 is_short _ = false
 
 -- A run at its end: what it has read and written, how many disks were reached, and what the disks hold.
-pub record Ran (k : CellKind) (dbs : Databases) (given : List ℕ) (text : List ℕ) (left : Option (List ℕ)) (before : List ℕ) (after : Option (List ℕ))
+pub record Ran (k : CellKind) (dbs : Databases) (given : List ℕ) (text : List ℕ) (left : Option (List ℕ)) (before : List ℕ)
+    (after : Option (List ℕ))
     (reached : ℕ) (disks : List Held) : Type 0 where
   pub readings : List LineRead
   pub whole : AreWhole readings

@@ -19,8 +19,10 @@ open-requires-clause-me g c = omega (arith, c.requires.me, length_permutation _ 
 pub returns-in-Ok-open : goal.returns-in-Ok-open
 returns-in-Ok-open g c = λ d stands.
     let e = c.in-Ok-open.ensures in
-    let same = cell_hosts (length c.args.hosts.now) c.args.hosts.now c.in-Ok.cell c.requires.cell c.in-Ok.ensures.cell c.in-Ok.ensures.same in
-    opened_up g.D.Disk c.args.hosts.now c.in-Ok.cell c.args.me c.args.clock c.args.disk c.in-Ok-open.node d e.opened.0 c.requires.sound stands e.opening
+    let same = cell_hosts
+    (length c.args.hosts.now) c.args.hosts.now c.in-Ok.cell c.requires.cell c.in-Ok.ensures.cell c.in-Ok.ensures.same in
+    opened_up g.D.Disk c.args.hosts.now c.in-Ok.cell c.args.me c.args.clock c.args.disk c.in-Ok-open.node d e.opened.0 c.requires.sound
+    stands e.opening
     same e.opened.1 e.opened.2 e.member e.told e.steps e.last c.version-version.result c.version-version.ensures
 
 pub returns-after-why : goal.returns-after-why
@@ -33,11 +35,13 @@ returns-after-why g c = λ d stands.
     elim c.match-why.branch [
       | in-NoMemory w ↦
           subst P (sym w.end-is)
-          (down_by_memory g.D.Disk m c.args.clock c.args.disk c.in-Err.field-0.disk c.revive.new.self d c.in-Err.field-0.why c.requires.sound stands e.opening
+          (down_by_memory g.D.Disk m c.args.clock c.args.disk c.in-Err.field-0.disk c.revive.new.self d c.in-Err.field-0.why
+          c.requires.sound stands e.opening
           e.refused r.unarmed r.left r.tells_files r.steps r.faults)
       | in_default-why w ↦
           subst P (sym w.end-is)
-          (down_by_fault g.D.Disk m c.args.clock c.args.disk c.in-Err.field-0.disk c.revive.new.self d c.in-Err.field-0.why c.requires.sound stands e.opening
+          (down_by_fault g.D.Disk m c.args.clock c.args.disk c.in-Err.field-0.disk c.revive.new.self d c.in-Err.field-0.why
+          c.requires.sound stands e.opening
           e.refused r.unarmed r.left r.tells_files r.steps r.faults
           (λ same. w.in_default-why.not-NoMemory same))
     ]

@@ -16,13 +16,15 @@ loop-k-preserved c =
     let same : length c.loop-k.handed ≡ length c.args.sent.now = c.loop-k.auto.handed ∙ c.requires.each in
     elim c.if-packet-host.branch [
       | then-packet-host w ↦
-          c.loop-k.invariant ∙ walk_drops_at c.args.host c.args.sent.now c.loop-k.handed c.if-packet-host.handed c.loop-k.k packet same there
+          c.loop-k.invariant ∙ walk_drops_at c.args.host c.args.sent.now c.loop-k.handed c.if-packet-host.handed c.loop-k.k packet same
+          there
           (elim w.then-packet-host.branch [
             | then-packet-host-via-then-packet-host w' ↦ is_of c.args.host packet w'.if-packet-host.true
             | then-packet-host-via-else-packet-host+then-packet-host-2 w' ↦ is_to c.args.host packet w'.if-packet-host-2.true
           ]) w.handed-is
       | else-packet-host+else-packet-host-2 w ↦
-          c.loop-k.invariant ∙ walk_passes_at c.args.host c.args.sent.now c.loop-k.handed c.if-packet-host.handed c.loop-k.k packet same there
+          c.loop-k.invariant ∙ walk_passes_at c.args.host c.args.sent.now c.loop-k.handed c.if-packet-host.handed c.loop-k.k packet same
+          there
           (is_no c.args.host packet w.if-packet-host.false w.if-packet-host-2.false) w.handed-is
     ]
 

@@ -17,10 +17,12 @@ loop-one-preserved c =
     let one = get_or c.loop-one.swept c.loop-one.one-index none in
     elim c.if-one-host.branch [
       | then-one-host w ↦
-          c.loop-one.invariant ∙ map_step (swept_to c.args.host c.args.end) c.loop-one.swept c.if-one-host.swept c.loop-one.one-index none within
+          c.loop-one.invariant
+          ∙ map_step (swept_to c.args.host c.args.end) c.loop-one.swept c.if-one-host.swept c.loop-one.one-index none within
           (w.swept-is ∙ ap (set c.loop-one.swept c.loop-one.one-index) (to_swept c.args.host c.args.end one w.if-one-host.true))
       | else-one-host w ↦
-          c.loop-one.invariant ∙ map_step (swept_to c.args.host c.args.end) c.loop-one.swept c.if-one-host.swept c.loop-one.one-index none within
+          c.loop-one.invariant
+          ∙ map_step (swept_to c.args.host c.args.end) c.loop-one.swept c.if-one-host.swept c.loop-one.one-index none within
           (w.swept-is ∙ ap (set c.loop-one.swept c.loop-one.one-index) (not_swept c.args.host c.args.end one w.if-one-host.false))
     ]
 

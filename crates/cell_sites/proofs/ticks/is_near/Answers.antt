@@ -20,7 +20,8 @@ loop-j-preserved g c = λ i site below there other.
         | else-j-k-via-then-j-k+else-from w ↦
             let at = subst (λ (k : ℕ). slice_get c.args.sites.now k ≡ Some site) same there in
             let clock : (get_or c.args.sites.now c.loop-j.j w.index-sites-j.result).clock ≡ site.clock =
-            ap (λ (s : Site g.row.D.Denot g.row.V.Denot g.D.Disk). s.clock) (read_there c.args.sites.now c.loop-j.j w.index-sites-j.result site at) in
+            ap (λ (s : Site g.row.D.Denot g.row.V.Denot g.D.Disk). s.clock)
+            (read_there c.args.sites.now c.loop-j.j w.index-sites-j.result site at) in
             omega (arith, clock, w.if-from.false, w.from.ensures, w.from-then-j-k.ensures, w.from-then-j-k-2.ensures)
         | else-j-k-via-else-j-k w ↦ absurd (other (same ∙ w.if-j-k.false))
       ]

@@ -8,8 +8,10 @@ use Rattle.cell_sites.proofs.ticks.tick_sites.Goals as goal
 pub loop-site-preserved : goal.loop-site-preserved
 loop-site-preserved g c =
     let within : c.loop-site.site-index < length c.loop-site.sites = omega (arith, c.loop-site-test.true, c.loop-site.auto.sites) in (
-      c.loop-site.invariant.0 ∙ map_step (ticked_on c.args.seconds) c.loop-site.sites _ c.loop-site.site-index c.site-item.result within refl,
-      λ k le. get_set_before c.loop-site.sites c.loop-site.site-index k _ (omega (arith, le)) ∙ c.loop-site.invariant.1 k (omega (arith, le)),
+      c.loop-site.invariant.0
+          ∙ map_step (ticked_on c.args.seconds) c.loop-site.sites _ c.loop-site.site-index c.site-item.result within refl,
+      λ k le. get_set_before c.loop-site.sites c.loop-site.site-index k _ (omega (arith, le))
+          ∙ c.loop-site.invariant.1 k (omega (arith, le)),
     )
 
 pub overflow_add-site : goal.overflow_add-site

@@ -10,7 +10,8 @@ use Rattle.client_shell.proofs.runs.run_command.Goals as goal
 pub returns-in-Ok : goal.returns-in-Ok
 returns-in-Ok g c =
     let words = map string_bytes c.args.words.now in
-    let ran = subst (λ (kept : List Exchange). ClientRan (request_of words) kept (g.L.Link.exchanges c.client_top.new.link) c.client_top.result
+    let ran = subst (λ (kept : List Exchange). ClientRan (request_of words) kept
+    (g.L.Link.exchanges c.client_top.new.link) c.client_top.result
     (g.K.Sink.written c.args.out.now) (g.K.Sink.written c.client_top.new.out)
     (g.K.Sink.written c.args.err.now) (g.K.Sink.written c.client_top.new.err)) c.begin_command.ensures c.client_top.ensures.ran in
     runs_named g.L.CommandLink.begun (names_hosts words) c.args.tool words _ _ _ c.in-Ok.ensures.hosts

@@ -16,9 +16,11 @@ returns-in-Say g c = plan_is g.L.CommandLink.begun c.args.tool c.args.plan.now _
 pub returns-in-Command : goal.returns-in-Command
 returns-in-Command g c =
     let before = stands g.L.Link.exchanges g.K.Sink.written g.K.Sink.faults c.args.link.now c.args.out.now c.args.err.now in
-    let after = stands g.L.Link.exchanges g.K.Sink.written g.K.Sink.faults c.run_command.new.link c.run_command.new.out c.run_command.new.err in
+    let after = stands g.L.Link.exchanges g.K.Sink.written g.K.Sink.faults c.run_command.new.link c.run_command.new.out
+    c.run_command.new.err in
     plan_is g.L.CommandLink.begun c.args.tool c.args.plan.now _ before after c.run_command.result c.in-Command.is
-    (subst (λ (ws : List (String Global)). CommandDone g.L.CommandLink.begun c.args.tool (map string_bytes ws) before after c.run_command.result)
+    (subst (λ (ws : List (String Global)). CommandDone g.L.CommandLink.begun c.args.tool
+    (map string_bytes ws) before after c.run_command.result)
     c.deref.ensures.value c.run_command.ensures)
 
 pub returns-in-Source : goal.returns-in-Source

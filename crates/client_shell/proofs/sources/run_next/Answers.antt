@@ -34,7 +34,8 @@ returns-in-Line-clause-turned g c =
     (stands g.L.Link.exchanges g.K.Sink.written g.K.Sink.faults c.args.link.now c.args.out.now c.args.err.now)
     (g.L.Link.exchanges ran.new.link) (g.K.Sink.written ran.new.out) (g.K.Sink.written ran.new.err) (g.K.Sink.written named.new.err)
     (g.K.Sink.faults ran.new.out) (g.K.Sink.faults ran.new.err) (g.K.Sink.faults named.new.err) ran.result named.result
-    (was_going _ _ line_is_no_end (λ was. (c.in-Line.ensures.ended was).0)) c.in-Line.ensures.told c.line.ensures.line ran.ensures named.ensures
+    (was_going _ _ line_is_no_end (λ was. (c.in-Line.ensures.ended was).0)) c.in-Line.ensures.told c.line.ensures.line ran.ensures
+    named.ensures
 
 pub returns-in-TooLong-clause-turned : goal.returns-in-TooLong-clause-turned
 returns-in-TooLong-clause-turned g c =

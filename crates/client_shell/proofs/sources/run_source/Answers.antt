@@ -8,12 +8,16 @@ pub returns-in_default-clause-ran : goal.returns-in_default-clause-ran
 returns-in_default-clause-ran g c =
     let left = g.S.Source.left c.args.source.now in
     let at = stands g.L.Link.exchanges g.K.Sink.written g.K.Sink.faults c.args.link.now c.args.out.now c.args.err.now in
-    ran_short g.L.CommandLink.begun c.args.shell.now.tool c.args.shell.now.hosts.now left 1 (g.S.Source.faults c.args.source.now < g.S.Source.faults c.args.source.now)
-    false left at at _ c.status.ensures (first_so_far g.L.CommandLink.begun c.args.shell.now.tool c.args.shell.now.hosts.now left false at refl)
+    ran_short g.L.CommandLink.begun c.args.shell.now.tool c.args.shell.now.hosts.now left 1
+    (g.S.Source.faults c.args.source.now < g.S.Source.faults c.args.source.now)
+    false left at at _ c.status.ensures
+    (first_so_far g.L.CommandLink.begun c.args.shell.now.tool c.args.shell.now.hosts.now left false at refl)
 
 pub loop-number-init : goal.loop-number-init
 loop-number-init g c = record {
-  so_far = first_so_far g.L.CommandLink.begun c.args.shell.now.tool c.args.shell.now.hosts.now (g.S.Source.left c.args.source.now) c.in-Ok.reader.ended
+  so_far =
+      first_so_far g.L.CommandLink.begun c.args.shell.now.tool c.args.shell.now.hosts.now
+      (g.S.Source.left c.args.source.now) c.in-Ok.reader.ended
       (stands g.L.Link.exchanges g.K.Sink.written g.K.Sink.faults c.args.link.now c.args.out.now c.args.err.now)
       (ap (λ (r : ReaderState). r.ended) c.in-Ok.ensures);
   faults = omega arith;

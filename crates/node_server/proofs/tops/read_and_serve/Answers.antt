@@ -7,7 +7,8 @@ use Rattle.node_server.proofs.tops.read_and_serve.Goals as goal
 
 pub returns-in-Ok-clause-words : goal.returns-in-Ok-clause-words
 returns-in-Ok-clause-words g c =
-    follows_read (meaning_of (map string_bytes c.args.words.now)) c.in-Ok.words c.serve.result.kind c.in-Ok.ensures.meaning c.serve.ensures.words
+    follows_read (meaning_of (map string_bytes c.args.words.now)) c.in-Ok.words c.serve.result.kind c.in-Ok.ensures.meaning
+    c.serve.ensures.words
 
 pub returns-in-Err-clause-words : goal.returns-in-Err-clause-words
 returns-in-Err-clause-words g c =
@@ -20,7 +21,8 @@ returns-in-Err-clause-explained g c =
 
 pub returns-in-Ok-clause-replays : goal.returns-in-Ok-clause-replays
 returns-in-Ok-clause-replays g c =
-    replays_named g.D.Disk g.J.Keeper.items (meaning_of (map string_bytes c.args.words.now)) c.in-Ok.words c.args.disk c.serve.result.disk c.serve.result.run
+    replays_named g.D.Disk g.J.Keeper.items
+    (meaning_of (map string_bytes c.args.words.now)) c.in-Ok.words c.args.disk c.serve.result.disk c.serve.result.run
     c.in-Ok.ensures.meaning c.serve.ensures.replays
 
 pub returns-in-Err-clause-replays : goal.returns-in-Err-clause-replays

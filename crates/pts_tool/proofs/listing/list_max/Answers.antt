@@ -9,12 +9,14 @@ use Rattle.pts_tool.proofs.listing.list_max.Goals as goal
 pub returns-in_err-maxima : goal.returns-in_err-maxima
 unfolding lists_maxima
 returns-in_err-maxima g c =
-    ran_broken (λ (maxima : Maxima). gives (maxima_text maxima)) c.in_err-maxima.field-0.0 c.from_residual.result c.from_residual.ensures.1 refl c.in_err-maxima.ensures
+    ran_broken (λ (maxima : Maxima). gives (maxima_text maxima)) c.in_err-maxima.field-0.0 c.from_residual.result
+    c.from_residual.ensures.1 refl c.in_err-maxima.ensures
 
 pub returns-in_err-text : goal.returns-in_err-text
 unfolding lists_maxima
 returns-in_err-text g c =
-    ran_lacks (λ (maxima : Maxima). gives (maxima_text maxima)) c.in_ok-maxima.maxima c.from_residual-in_err-text.result c.from_residual-in_err-text.ensures.1 refl c.in_ok-maxima.ensures
+    ran_lacks (λ (maxima : Maxima). gives (maxima_text maxima)) c.in_ok-maxima.maxima c.from_residual-in_err-text.result
+    c.from_residual-in_err-text.ensures.1 refl c.in_ok-maxima.ensures
 
 pub returns : goal.returns
 unfolding lists_maxima

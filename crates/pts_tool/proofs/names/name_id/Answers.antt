@@ -11,11 +11,13 @@ use Rattle.pts_tool.proofs.names.name_id.Goals as goal
 pub returns-in_err-id : goal.returns-in_err-id
 unfolding name_id
 returns-in_err-id g c =
-    ran_broken (λ (id : ℤ). still (known_id c.args.name.now id)) c.in_err-id.field-0.0 c.from_residual-in_err-id.result c.from_residual-in_err-id.ensures.1 refl (rw (c.in_ok-names.ensures) at c.in_err-id.ensures)
+    ran_broken (λ (id : ℤ). still (known_id c.args.name.now id)) c.in_err-id.field-0.0 c.from_residual-in_err-id.result
+    c.from_residual-in_err-id.ensures.1 refl (rw (c.in_ok-names.ensures) at c.in_err-id.ensures)
 
 pub returns : goal.returns
 unfolding name_id
 returns g c =
     let fits0 : FitsSigned w32 c.in_ok-id.id = search rules in
     ran_then (λ (id : ℤ). still (known_id c.args.name.now id)) c.in_ok-id.id refl (rw (c.in_ok-names.ensures) at c.in_ok-id.ensures)
-    (ran_is _ _ (known_id c.args.name.now c.in_ok-id.id) _ (known_quiet c.args.name.now c.in_ok-id.id) (rw (to_z-of_z w32 c.in_ok-id.id fits0) at c.known_id.ensures))
+    (ran_is _ _ (known_id c.args.name.now c.in_ok-id.id) _ (known_quiet c.args.name.now c.in_ok-id.id)
+    (rw (to_z-of_z w32 c.in_ok-id.id fits0) at c.known_id.ensures))

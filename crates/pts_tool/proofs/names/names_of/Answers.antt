@@ -10,16 +10,19 @@ loop-init g c =
 pub returns-in_err-found : goal.returns-in_err-found
 returns-in_err-found g c =
     ran_err c.in_err-found.field-0.0 c.from_residual.result c.from_residual.ensures.1
-    (names_stop _ _ c.loop.counter c.loop.names.items c.loop.left.now _ _ _ _ _ _ _ c.in_err-found.field-0.0 c.loop-test.true c.split.ensures.now c.loop.invariant c.in_err-found.ensures)
+    (names_stop _ _ c.loop.counter c.loop.names.items c.loop.left.now _ _ _ _ _ _ _ c.in_err-found.field-0.0 c.loop-test.true
+    c.split.ensures.now c.loop.invariant c.in_err-found.ensures)
 
 pub returns-in_err-all : goal.returns-in_err-all
 returns-in_err-all g c =
     ran_err _ c.from_residual-in_err-all.result c.from_residual-in_err-all.ensures.1
-    (names_short _ _ c.loop.counter c.loop.names.items c.loop.left.now _ _ _ _ _ _ _ c.in_ok-found.found c.loop-test.true c.split.ensures.now c.loop.invariant c.in_ok-found.ensures)
+    (names_short _ _ c.loop.counter c.loop.names.items c.loop.left.now _ _ _ _ _ _ _ c.in_ok-found.found c.loop-test.true
+    c.split.ensures.now c.loop.invariant c.in_ok-found.ensures)
 
 pub loop-preserved : goal.loop-preserved
 loop-preserved g c =
-    names_next _ _ c.loop.counter c.loop.names.items _ c.loop.left.now _ _ _ _ _ _ _ _ c.in_ok-found.found c.loop-test.true c.split.ensures.now c.split.ensures.later c.in_ok-all.ensures c.loop.invariant c.in_ok-found.ensures
+    names_next _ _ c.loop.counter c.loop.names.items _ c.loop.left.now _ _ _ _ _ _ _ _ c.in_ok-found.found c.loop-test.true
+    c.split.ensures.now c.split.ensures.later c.in_ok-all.ensures c.loop.invariant c.in_ok-found.ensures
 
 pub returns : goal.returns
 returns g c =

@@ -5,4 +5,5 @@ use Rattle.pts_tool.proofs.running.run_pts.Goals as goal
 
 pub returns-clause-commanded : goal.returns-clause-commanded
 returns-clause-commanded g c =
-    commanded (codes "pts") (pts_course c.args.words.now) _ _ _ _ _ _ _ _ c.run_words-end.result c.say_end.result c.of.ensures (rw (c.new-client.ensures) at c.run_words-end.ensures.told) c.say_end.ensures.said
+    commanded (codes "pts") (pts_course c.args.words.now) _ _ _ _ _ _ _ _ c.run_words-end.result c.say_end.result c.of.ensures
+    (rw (c.new-client.ensures) at c.run_words-end.ensures.told) c.say_end.ensures.said

@@ -7,7 +7,8 @@ use Rattle.pts_tool.proofs.setting.do_call.Goals as goal
 pub returns-in_err-ask : goal.returns-in_err-ask
 unfolding does
 returns-in_err-ask g c =
-    ran_broken (λ (done : Unit {0}). gives {A = List ℕ} []) c.in_err-ask.field-0.0 c.from_residual.result c.from_residual.ensures.1 refl c.in_err-ask.ensures
+    ran_broken (λ (done : Unit {0}). gives {A = List ℕ} []) c.in_err-ask.field-0.0 c.from_residual.result c.from_residual.ensures.1 refl
+    c.in_err-ask.ensures
 
 pub returns : goal.returns
 unfolding does

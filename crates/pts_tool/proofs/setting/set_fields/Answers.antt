@@ -10,7 +10,8 @@ use Rattle.pts_tool.proofs.setting.set_fields.Goals as goal
 pub returns-in_err-id : goal.returns-in_err-id
 unfolding sets_fields
 returns-in_err-id g c =
-    ran_broken (λ (id : ℤ). does (call.SetFields id c.args.mask c.args.flags c.args.quota)) c.in_err-id.field-0.0 c.from_residual.result c.from_residual.ensures.1 refl c.in_err-id.ensures
+    ran_broken (λ (id : ℤ). does (call.SetFields id c.args.mask c.args.flags c.args.quota)) c.in_err-id.field-0.0 c.from_residual.result
+    c.from_residual.ensures.1 refl c.in_err-id.ensures
 
 pub returns : goal.returns
 unfolding sets_fields

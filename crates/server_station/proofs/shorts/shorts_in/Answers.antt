@@ -9,4 +9,5 @@ pub loop-place-preserved : goal.loop-place-preserved
 loop-place-preserved c =
     let none = sym c.get.ensures.place ∙ ap option_copied c.in_default.is in
     c.loop-place.invariant
-    ∙ ap (λ (bs : List Bool). bits bs % 2 ^ 128) (sym (shorts_none c.args.outputs.now (c.loop-place.place - 1) c.loop-place.place none (omega (arith, c.loop-place-test.true))))
+    ∙ ap (λ (bs : List Bool). bits bs % 2 ^ 128)
+    (sym (shorts_none c.args.outputs.now (c.loop-place.place - 1) c.loop-place.place none (omega (arith, c.loop-place-test.true))))

@@ -9,7 +9,8 @@ use Rattle.ubik_cell.proofs.scripts.open_servers.Given as goal
 
 abbrev pub invariant-loop : goal.invariant-loop
 invariant-loop g l = record {
-  opened : ArePartOpened g.D.Disk (script_database g.V.DraftService.standing.database g.V.DraftWords.words) l.clock (take l.counter l.fn.spare.items)
+  opened : ArePartOpened g.D.Disk (script_database g.V.DraftService.standing.database g.V.DraftWords.words) l.clock
+      (take l.counter l.fn.spare.items)
       l.cell (string_bytes l.fn.text) (string_bytes l.text);
   count : length l.cell.sites.items ≡ l.counter;
   left : l.spare.items ≡ drop l.counter l.fn.spare.items;

@@ -8,7 +8,8 @@ use Rattle.ubik_cell.proofs.scripts.run_in_cell.Goals as goal
 
 pub returns-in-Nothing-clause-done : goal.returns-in-Nothing-clause-done
 returns-in-Nothing-clause-done g c =
-    told_of g.D.Disk c.args.cell.now c.args.cell.now (script_database g.V.DraftService.standing.database g.V.DraftWords.words) _ _ c.in-Nothing.is _ _
+    told_of g.D.Disk c.args.cell.now c.args.cell.now
+    (script_database g.V.DraftService.standing.database g.V.DraftWords.words) _ _ c.in-Nothing.is _ _
     (nothing_told g.D.Disk (script_database g.V.DraftService.standing.database g.V.DraftWords.words) c.args.cell.now _)
 
 pub returns-in-Nothing-clause-kept : goal.returns-in-Nothing-clause-kept
@@ -25,7 +26,8 @@ returns-in-Ask-clause-kept g c =
 
 pub returns-in_ok-tick-in-Tick-clause-done : goal.returns-in_ok-tick-in-Tick-clause-done
 returns-in_ok-tick-in-Tick-clause-done g c =
-    told_of g.D.Disk c.args.cell.now c.tick.new.self (script_database g.V.DraftService.standing.database g.V.DraftWords.words) _ _ c.in-Tick.is _ _
+    told_of g.D.Disk c.args.cell.now c.tick.new.self
+    (script_database g.V.DraftService.standing.database g.V.DraftWords.words) _ _ c.in-Tick.is _ _
     (λ given cell stands. c.in_ok-tick-in-Tick.ensures.told refl given cell _ stands)
 
 pub returns-in_ok-tick-in-Tick-clause-kept : goal.returns-in_ok-tick-in-Tick-clause-kept
@@ -35,12 +37,14 @@ returns-in_ok-tick-in-Tick-clause-kept g c =
 
 pub returns-in_err-tick-in-Tick-clause-done : goal.returns-in_err-tick-in-Tick-clause-done
 returns-in_err-tick-in-Tick-clause-done g c =
-    refused_of g.D.Disk c.args.cell.now c.tick.new.self (script_database g.V.DraftService.standing.database g.V.DraftWords.words) _ _ c.in-Tick.is _ c.in_err-tick-in-Tick.field-0.0 _
+    refused_of g.D.Disk c.args.cell.now c.tick.new.self
+    (script_database g.V.DraftService.standing.database g.V.DraftWords.words) _ _ c.in-Tick.is _ c.in_err-tick-in-Tick.field-0.0 _
     c.from_residual.ensures.1 (c.tick.ensures.refused _ c.in_err-tick-in-Tick.was)
 
 pub returns-in-TickAll-clause-done : goal.returns-in-TickAll-clause-done
 returns-in-TickAll-clause-done g c =
-    told_of g.D.Disk c.args.cell.now c.tick_all.new.self (script_database g.V.DraftService.standing.database g.V.DraftWords.words) _ _ c.in-TickAll.is _ _
+    told_of g.D.Disk c.args.cell.now c.tick_all.new.self
+    (script_database g.V.DraftService.standing.database g.V.DraftWords.words) _ _ c.in-TickAll.is _ _
     (λ given cell stands. c.tick_all.ensures.told given cell _ stands)
 
 pub returns-in-TickAll-clause-kept : goal.returns-in-TickAll-clause-kept
@@ -50,7 +54,8 @@ returns-in-TickAll-clause-kept g c =
 
 pub returns-in_ok-drop_packet-in-Drop-clause-done : goal.returns-in_ok-drop_packet-in-Drop-clause-done
 returns-in_ok-drop_packet-in-Drop-clause-done g c =
-    told_of g.D.Disk c.args.cell.now c.drop_packet.new.self (script_database g.V.DraftService.standing.database g.V.DraftWords.words) _ _ c.in-Drop.is _ _
+    told_of g.D.Disk c.args.cell.now c.drop_packet.new.self
+    (script_database g.V.DraftService.standing.database g.V.DraftWords.words) _ _ c.in-Drop.is _ _
     (λ given cell stands. c.in_ok-drop_packet-in-Drop.ensures.told refl given cell _ stands)
 
 pub returns-in_ok-drop_packet-in-Drop-clause-kept : goal.returns-in_ok-drop_packet-in-Drop-clause-kept
@@ -60,12 +65,14 @@ returns-in_ok-drop_packet-in-Drop-clause-kept g c =
 
 pub returns-in_err-drop_packet-in-Drop-clause-done : goal.returns-in_err-drop_packet-in-Drop-clause-done
 returns-in_err-drop_packet-in-Drop-clause-done g c =
-    refused_of g.D.Disk c.args.cell.now c.drop_packet.new.self (script_database g.V.DraftService.standing.database g.V.DraftWords.words) _ _ c.in-Drop.is _ c.in_err-drop_packet-in-Drop.field-0.0 _
+    refused_of g.D.Disk c.args.cell.now c.drop_packet.new.self
+    (script_database g.V.DraftService.standing.database g.V.DraftWords.words) _ _ c.in-Drop.is _ c.in_err-drop_packet-in-Drop.field-0.0 _
     c.from_residual-in_err-drop_packet-in-Drop.ensures.1 (c.drop_packet.ensures.refused _ c.in_err-drop_packet-in-Drop.was)
 
 pub returns-in_ok-drop_all-in-DropAll-clause-done : goal.returns-in_ok-drop_all-in-DropAll-clause-done
 returns-in_ok-drop_all-in-DropAll-clause-done g c =
-    told_of g.D.Disk c.args.cell.now c.drop_all.new.self (script_database g.V.DraftService.standing.database g.V.DraftWords.words) _ _ c.in-DropAll.is _ _
+    told_of g.D.Disk c.args.cell.now c.drop_all.new.self
+    (script_database g.V.DraftService.standing.database g.V.DraftWords.words) _ _ c.in-DropAll.is _ _
     (λ given cell stands. c.in_ok-drop_all-in-DropAll.ensures.told refl given cell _ stands)
 
 pub returns-in_ok-drop_all-in-DropAll-clause-kept : goal.returns-in_ok-drop_all-in-DropAll-clause-kept
@@ -75,12 +82,14 @@ returns-in_ok-drop_all-in-DropAll-clause-kept g c =
 
 pub returns-in_err-drop_all-in-DropAll-clause-done : goal.returns-in_err-drop_all-in-DropAll-clause-done
 returns-in_err-drop_all-in-DropAll-clause-done g c =
-    refused_of g.D.Disk c.args.cell.now c.drop_all.new.self (script_database g.V.DraftService.standing.database g.V.DraftWords.words) _ _ c.in-DropAll.is _ c.in_err-drop_all-in-DropAll.field-0.0 _
+    refused_of g.D.Disk c.args.cell.now c.drop_all.new.self
+    (script_database g.V.DraftService.standing.database g.V.DraftWords.words) _ _ c.in-DropAll.is _ c.in_err-drop_all-in-DropAll.field-0.0 _
     c.from_residual-in_err-drop_all-in-DropAll.ensures.1 (c.drop_all.ensures.refused _ c.in_err-drop_all-in-DropAll.was)
 
 pub returns-in-Beacon-clause-done : goal.returns-in-Beacon-clause-done
 returns-in-Beacon-clause-done g c =
-    done_of g.D.Disk c.args.cell.now c.beacon.new.self (script_database g.V.DraftService.standing.database g.V.DraftWords.words) _ _ c.in-Beacon.is c.beacon.result _ _
+    done_of g.D.Disk c.args.cell.now c.beacon.new.self
+    (script_database g.V.DraftService.standing.database g.V.DraftWords.words) _ _ c.in-Beacon.is c.beacon.result _ _
     c.beacon.ensures.told c.beacon.ensures.limit c.beacon.ensures.refused c.beacon.ensures.quiet c.beacon.ensures.short
 
 pub returns-in-Beacon-clause-kept : goal.returns-in-Beacon-clause-kept
@@ -90,7 +99,8 @@ returns-in-Beacon-clause-kept g c =
 
 pub returns-in-Recover-clause-done : goal.returns-in-Recover-clause-done
 returns-in-Recover-clause-done g c =
-    done_of g.D.Disk c.args.cell.now c.recover.new.self (script_database g.V.DraftService.standing.database g.V.DraftWords.words) _ _ c.in-Recover.is c.recover.result _ _
+    done_of g.D.Disk c.args.cell.now c.recover.new.self
+    (script_database g.V.DraftService.standing.database g.V.DraftWords.words) _ _ c.in-Recover.is c.recover.result _ _
     c.recover.ensures.told c.recover.ensures.limit c.recover.ensures.refused c.recover.ensures.quiet c.recover.ensures.short
 
 pub returns-in-Recover-clause-kept : goal.returns-in-Recover-clause-kept
@@ -100,7 +110,8 @@ returns-in-Recover-clause-kept g c =
 
 pub returns-in-Deliver-clause-done : goal.returns-in-Deliver-clause-done
 returns-in-Deliver-clause-done g c =
-    done_of g.D.Disk c.args.cell.now c.deliver.new.self (script_database g.V.DraftService.standing.database g.V.DraftWords.words) _ _ c.in-Deliver.is c.deliver.result _ _
+    done_of g.D.Disk c.args.cell.now c.deliver.new.self
+    (script_database g.V.DraftService.standing.database g.V.DraftWords.words) _ _ c.in-Deliver.is c.deliver.result _ _
     c.deliver.ensures.told c.deliver.ensures.limit c.deliver.ensures.refused c.deliver.ensures.quiet c.deliver.ensures.short
 
 pub returns-in-Deliver-clause-kept : goal.returns-in-Deliver-clause-kept
@@ -110,9 +121,11 @@ returns-in-Deliver-clause-kept g c =
 
 pub returns-in-DeliverAll-clause-done : goal.returns-in-DeliverAll-clause-done
 returns-in-DeliverAll-clause-done g c =
-    done_of g.D.Disk c.args.cell.now c.deliver_all.new.self (script_database g.V.DraftService.standing.database g.V.DraftWords.words) _ _ c.in-DeliverAll.is c.deliver_all.result _ _
+    done_of g.D.Disk c.args.cell.now c.deliver_all.new.self
+    (script_database g.V.DraftService.standing.database g.V.DraftWords.words) _ _ c.in-DeliverAll.is c.deliver_all.result _ _
     c.deliver_all.ensures.told c.deliver_all.ensures.limit
-    (λ reason is. absurd (c.deliver_all.ensures.refused reason is)) (λ reason is. absurd (c.deliver_all.ensures.refused reason is)) c.deliver_all.ensures.short
+    (λ reason is. absurd (c.deliver_all.ensures.refused reason is))
+    (λ reason is. absurd (c.deliver_all.ensures.refused reason is)) c.deliver_all.ensures.short
 
 pub returns-in-DeliverAll-clause-kept : goal.returns-in-DeliverAll-clause-kept
 returns-in-DeliverAll-clause-kept g c =
@@ -121,8 +134,10 @@ returns-in-DeliverAll-clause-kept g c =
 
 pub returns-in-Show-clause-done : goal.returns-in-Show-clause-done
 returns-in-Show-clause-done g c =
-    done_of g.D.Disk c.args.cell.now c.args.cell.now (script_database g.V.DraftService.standing.database g.V.DraftWords.words) _ _ c.in-Show.is c.show.result _ _ c.show.ensures.told
-    (λ which is. absurd (c.show.ensures.limit which is)) (λ why is. (refl, c.show.ensures.refused why is)) c.show.ensures.quiet c.show.ensures.short
+    done_of g.D.Disk c.args.cell.now c.args.cell.now
+    (script_database g.V.DraftService.standing.database g.V.DraftWords.words) _ _ c.in-Show.is c.show.result _ _ c.show.ensures.told
+    (λ which is. absurd (c.show.ensures.limit which is))
+    (λ why is. (refl, c.show.ensures.refused why is)) c.show.ensures.quiet c.show.ensures.short
 
 pub returns-in-Show-clause-kept : goal.returns-in-Show-clause-kept
 returns-in-Show-clause-kept g c =
@@ -130,7 +145,8 @@ returns-in-Show-clause-kept g c =
 
 pub returns-in_ok-stop-in-Stop-clause-done : goal.returns-in_ok-stop-in-Stop-clause-done
 returns-in_ok-stop-in-Stop-clause-done g c =
-    told_of g.D.Disk c.args.cell.now c.stop.new.self (script_database g.V.DraftService.standing.database g.V.DraftWords.words) _ _ c.in-Stop.is _ _
+    told_of g.D.Disk c.args.cell.now c.stop.new.self
+    (script_database g.V.DraftService.standing.database g.V.DraftWords.words) _ _ c.in-Stop.is _ _
     (λ given cell stands. c.in_ok-stop-in-Stop.ensures.told refl given cell _ stands)
 
 pub returns-in_ok-stop-in-Stop-clause-kept : goal.returns-in_ok-stop-in-Stop-clause-kept
@@ -140,12 +156,14 @@ returns-in_ok-stop-in-Stop-clause-kept g c =
 
 pub returns-in_err-stop-in-Stop-clause-done : goal.returns-in_err-stop-in-Stop-clause-done
 returns-in_err-stop-in-Stop-clause-done g c =
-    refused_of g.D.Disk c.args.cell.now c.stop.new.self (script_database g.V.DraftService.standing.database g.V.DraftWords.words) _ _ c.in-Stop.is _ c.in_err-stop-in-Stop.field-0.0 _
+    refused_of g.D.Disk c.args.cell.now c.stop.new.self
+    (script_database g.V.DraftService.standing.database g.V.DraftWords.words) _ _ c.in-Stop.is _ c.in_err-stop-in-Stop.field-0.0 _
     c.from_residual-in_err-stop-in-Stop.ensures.1 (c.stop.ensures.refused _ c.in_err-stop-in-Stop.was)
 
 pub returns-in_ok-crash-in-Crash-clause-done : goal.returns-in_ok-crash-in-Crash-clause-done
 returns-in_ok-crash-in-Crash-clause-done g c =
-    told_of g.D.Disk c.args.cell.now c.crash.new.self (script_database g.V.DraftService.standing.database g.V.DraftWords.words) _ _ c.in-Crash.is _ _
+    told_of g.D.Disk c.args.cell.now c.crash.new.self
+    (script_database g.V.DraftService.standing.database g.V.DraftWords.words) _ _ c.in-Crash.is _ _
     (λ given cell stands. c.in_ok-crash-in-Crash.ensures.told refl given cell _ stands)
 
 pub returns-in_ok-crash-in-Crash-clause-kept : goal.returns-in_ok-crash-in-Crash-clause-kept
@@ -155,12 +173,14 @@ returns-in_ok-crash-in-Crash-clause-kept g c =
 
 pub returns-in_err-crash-in-Crash-clause-done : goal.returns-in_err-crash-in-Crash-clause-done
 returns-in_err-crash-in-Crash-clause-done g c =
-    refused_of g.D.Disk c.args.cell.now c.crash.new.self (script_database g.V.DraftService.standing.database g.V.DraftWords.words) _ _ c.in-Crash.is _ c.in_err-crash-in-Crash.field-0.0 _
+    refused_of g.D.Disk c.args.cell.now c.crash.new.self
+    (script_database g.V.DraftService.standing.database g.V.DraftWords.words) _ _ c.in-Crash.is _ c.in_err-crash-in-Crash.field-0.0 _
     c.from_residual-in_err-crash-in-Crash.ensures.1 (c.crash.ensures.refused _ c.in_err-crash-in-Crash.was)
 
 pub returns-in-Restart-clause-done : goal.returns-in-Restart-clause-done
 returns-in-Restart-clause-done g c =
-    done_of g.D.Disk c.args.cell.now c.restart.new.self (script_database g.V.DraftService.standing.database g.V.DraftWords.words) _ _ c.in-Restart.is c.restart.result _ _
+    done_of g.D.Disk c.args.cell.now c.restart.new.self
+    (script_database g.V.DraftService.standing.database g.V.DraftWords.words) _ _ c.in-Restart.is c.restart.result _ _
     c.restart.ensures.told (λ which is. absurd (c.restart.ensures.limit which is)) c.restart.ensures.refused c.restart.ensures.quiet
     c.restart.ensures.short
 
@@ -189,7 +209,8 @@ returns-in_ok-tick-in-Tick-clause-settled g c =
 
 pub returns-in_err-tick-in-Tick-clause-settled : goal.returns-in_err-tick-in-Tick-clause-settled
 returns-in_err-tick-in-Tick-clause-settled g c =
-    stays_settled g.D.Disk c.requires.sound.0 c.args.cell.now c.tick.new.self (c.tick.ensures.refused _ c.in_err-tick-in-Tick.was).0 c.requires.sound.1
+    stays_settled g.D.Disk c.requires.sound.0 c.args.cell.now c.tick.new.self
+    (c.tick.ensures.refused _ c.in_err-tick-in-Tick.was).0 c.requires.sound.1
 
 pub returns-in_ok-drop_packet-in-Drop-clause-settled : goal.returns-in_ok-drop_packet-in-Drop-clause-settled
 returns-in_ok-drop_packet-in-Drop-clause-settled g c =
@@ -197,7 +218,8 @@ returns-in_ok-drop_packet-in-Drop-clause-settled g c =
 
 pub returns-in_err-drop_packet-in-Drop-clause-settled : goal.returns-in_err-drop_packet-in-Drop-clause-settled
 returns-in_err-drop_packet-in-Drop-clause-settled g c =
-    stays_settled g.D.Disk c.requires.sound.0 c.args.cell.now c.drop_packet.new.self (c.drop_packet.ensures.refused _ c.in_err-drop_packet-in-Drop.was).0 c.requires.sound.1
+    stays_settled g.D.Disk c.requires.sound.0 c.args.cell.now c.drop_packet.new.self
+    (c.drop_packet.ensures.refused _ c.in_err-drop_packet-in-Drop.was).0 c.requires.sound.1
 
 pub returns-in_ok-drop_all-in-DropAll-clause-settled : goal.returns-in_ok-drop_all-in-DropAll-clause-settled
 returns-in_ok-drop_all-in-DropAll-clause-settled g c =
@@ -205,7 +227,8 @@ returns-in_ok-drop_all-in-DropAll-clause-settled g c =
 
 pub returns-in_err-drop_all-in-DropAll-clause-settled : goal.returns-in_err-drop_all-in-DropAll-clause-settled
 returns-in_err-drop_all-in-DropAll-clause-settled g c =
-    stays_settled g.D.Disk c.requires.sound.0 c.args.cell.now c.drop_all.new.self (c.drop_all.ensures.refused _ c.in_err-drop_all-in-DropAll.was).0 c.requires.sound.1
+    stays_settled g.D.Disk c.requires.sound.0 c.args.cell.now c.drop_all.new.self
+    (c.drop_all.ensures.refused _ c.in_err-drop_all-in-DropAll.was).0 c.requires.sound.1
 
 pub returns-in_ok-stop-in-Stop-clause-settled : goal.returns-in_ok-stop-in-Stop-clause-settled
 returns-in_ok-stop-in-Stop-clause-settled g c =
@@ -213,7 +236,8 @@ returns-in_ok-stop-in-Stop-clause-settled g c =
 
 pub returns-in_err-stop-in-Stop-clause-settled : goal.returns-in_err-stop-in-Stop-clause-settled
 returns-in_err-stop-in-Stop-clause-settled g c =
-    stays_settled g.D.Disk c.requires.sound.0 c.args.cell.now c.stop.new.self (c.stop.ensures.refused _ c.in_err-stop-in-Stop.was).0 c.requires.sound.1
+    stays_settled g.D.Disk c.requires.sound.0 c.args.cell.now c.stop.new.self
+    (c.stop.ensures.refused _ c.in_err-stop-in-Stop.was).0 c.requires.sound.1
 
 pub returns-in_ok-crash-in-Crash-clause-settled : goal.returns-in_ok-crash-in-Crash-clause-settled
 returns-in_ok-crash-in-Crash-clause-settled g c =
@@ -221,7 +245,8 @@ returns-in_ok-crash-in-Crash-clause-settled g c =
 
 pub returns-in_err-crash-in-Crash-clause-settled : goal.returns-in_err-crash-in-Crash-clause-settled
 returns-in_err-crash-in-Crash-clause-settled g c =
-    stays_settled g.D.Disk c.requires.sound.0 c.args.cell.now c.crash.new.self (c.crash.ensures.refused _ c.in_err-crash-in-Crash.was).0 c.requires.sound.1
+    stays_settled g.D.Disk c.requires.sound.0 c.args.cell.now c.crash.new.self
+    (c.crash.ensures.refused _ c.in_err-crash-in-Crash.was).0 c.requires.sound.1
 
 pub returns-in-TickAll-clause-settled : goal.returns-in-TickAll-clause-settled
 returns-in-TickAll-clause-settled g c =

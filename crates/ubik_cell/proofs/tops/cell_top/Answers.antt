@@ -18,7 +18,8 @@ pub returns-then-not-is_empty-clause-headline : goal.returns-then-not-is_empty-c
 returns-then-not-is_empty-clause-headline g c =
     let disks = c.args.disks.now.items in
     of_both (λ script left before written. Headline g.D.Disk (kind.Words 1) script left before written disks disks) _ _
-    (λ script before. headline c.law_scripts_are_runs.ensures c.law_memory_is_found.ensures c.law_words_are_calls.ensures c.law_scripts_keep_promises.ensures c.law_cells_keep_promises.ensures
+    (λ script before. headline c.law_scripts_are_runs.ensures c.law_memory_is_found.ensures c.law_words_are_calls.ensures
+    c.law_scripts_keep_promises.ensures c.law_cells_keep_promises.ensures
     g.D.Disk (kind.Words 1) script (Some script) before (Some before) disks disks
     (at_once g.D.Disk databases (kind.Words 1) script (Some script) before (Some before) disks
     (All-weaker (λ d. IsFresh g.D.Disk.files g.D.Disk.may_leave g.D.Disk.stop g.D.Disk.faults d)
@@ -46,7 +47,8 @@ returns-clause-headline g c =
     let later = c.run_script-kind.new.disks.items in
     over_both (λ script before. RanOver g.D.Disk k databases script left before after disks later)
     (λ script before. Headline g.D.Disk k script left before after disks later) _ _ c.run_script-kind.ensures.ran
-    (λ script before ran. headline c.law_scripts_are_runs.ensures c.law_memory_is_found.ensures c.law_words_are_calls.ensures c.law_scripts_keep_promises.ensures c.law_cells_keep_promises.ensures
+    (λ script before ran. headline c.law_scripts_are_runs.ensures c.law_memory_is_found.ensures c.law_words_are_calls.ensures
+    c.law_scripts_keep_promises.ensures c.law_cells_keep_promises.ensures
     g.D.Disk k script left before after disks later ran c.run_script-kind.ensures.settled)
 
 pub returns-clause-complete : goal.returns-clause-complete

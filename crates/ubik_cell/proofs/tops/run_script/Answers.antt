@@ -51,13 +51,16 @@ returns-in-Some-clause-ran g c =
     let left = g.S.Source.left c.turn.new.input in
     let after = g.K.Sink.written c.turn.new.out in
     let disks = c.args.disks.now.items in
-    let spare = unreached g.D.Disk l.run next disks c.close.new.disks.items (sound_disks g.D.Disk l.run l.invariant.sound) c.turn.ensures.disks
+    let spare = unreached g.D.Disk l.run next disks c.close.new.disks.items
+    (sound_disks g.D.Disk l.run l.invariant.sound) c.turn.ensures.disks
     l.invariant.spare c.turn.ensures.spare in
     let given = counts_of g.D.Disk disks in
     let ran = so_far_on g.D.Disk given l.reader.ended (g.S.Source.left l.input) (g.K.Sink.written l.out) l.run
-    (λ given script before. Ran c.in-Some.kind databases given script left before after (script_sites next) (script_helds g.D.Disk next)) _ _
+    (λ given script before. Ran c.in-Some.kind databases given script left before after (script_sites next) (script_helds g.D.Disk next))
+    _ _
     l.invariant.so_far c.in-Some.ensures.ends in
-    over_both (λ script before. Ran c.in-Some.kind databases given script left before after (script_sites next) (script_helds g.D.Disk next))
+    over_both (λ script before. Ran c.in-Some.kind databases given script left before after (script_sites next)
+    (script_helds g.D.Disk next))
     (λ script before. RanOver g.D.Disk c.in-Some.kind databases script left before after disks c.close.new.disks.items) _ _ ran
     (λ script before is. closed g.D.Disk c.in-Some.kind script left before after next disks c.close.new.disks.items
     c.close.ensures.held c.close.ensures.others spare is)
@@ -68,7 +71,9 @@ loop-kind-preserved g c =
     let next = c.turn.new.run in
     let none = c.in_default-turn.is in
     record {
-      so_far = so_far_on g.D.Disk (counts_of g.D.Disk c.args.disks.now.items) l.reader.ended (g.S.Source.left l.input) (g.K.Sink.written l.out) l.run
+      so_far =
+          so_far_on g.D.Disk (counts_of g.D.Disk c.args.disks.now.items) l.reader.ended (g.S.Source.left l.input)
+          (g.K.Sink.written l.out) l.run
           (λ given script before. SoFar g.D.Disk given script c.turn.new.reader.ended (g.S.Source.left c.turn.new.input) before
           (g.K.Sink.written c.turn.new.out) next)
           _ _ l.invariant.so_far (c.turn.ensures.goes none);

@@ -69,7 +69,9 @@ returns-in-TooLong-clause-ends g c =
       line_told = λ goes. retold g.D.Disk left after run run given long.line (told databases long.at.readings) _ _ _ _ c.clear.ensures.bytes
           c.deref.ensures
           (c.long_line-told.ensures.told goes given long.line (told databases long.at.readings) long.long long.at.at long.at.good);
-      short = λ none. c.long_line-told.ensures.short none given (take 1025 long.line) (told databases long.at.readings) long.long_part long.at.at;
+      short =
+          λ none. c.long_line-told.ensures.short none given (take 1025 long.line)
+          (told databases long.at.readings) long.long_part long.at.at;
     })
 
 pub returns-in-Line-clause-goes : goal.returns-in-Line-clause-goes
@@ -139,7 +141,9 @@ returns-in-Line-clause-ends g c =
       line_told = λ goes. retold g.D.Disk left after run next given c.line.result.now (told databases at.at.readings) _ _ _ _
           c.clear.ensures.bytes c.deref-in-Line.ensures
           (c.line-told.ensures.told goes given (told databases at.at.readings) at.at.at at.at.good);
-      short = λ none. subst (λ (l : List ℕ). ShortLine databases given l (told databases at.at.readings) (script_helds g.D.Disk next)) (sym at.bound)
+      short =
+          λ none. subst (λ (l : List ℕ). ShortLine databases given l (told databases at.at.readings) (script_helds g.D.Disk next))
+          (sym at.bound)
           (c.line-told.ensures.short none given (told databases at.at.readings) at.at.at at.at.good);
     })
 

@@ -43,7 +43,8 @@ returns-in_err-k-clause-never_falls g c = rises_same _ _ refl
 
 pub returns-in_err-keep-clause-short : goal.returns-in_err-keep-clause-short
 returns-in_err-keep-clause-short g c = λ is given cell stands.
-    inl (subst (λ (r : OpenCell _ _ _). HoldRun g.V.DraftService.standing.database given true cell (helds g.D.Disk r)) (sym c.in_err-keep.ensures.same)
+    inl (subst (λ (r : OpenCell _ _ _). HoldRun g.V.DraftService.standing.database given true cell (helds g.D.Disk r))
+    (sym c.in_err-keep.ensures.same)
     (nothing_done g.D.Disk g.V.DraftService.standing.database given c.args.self.now cell stands))
 
 pub returns-in_err-keep-clause-never_falls : goal.returns-in_err-keep-clause-never_falls
@@ -56,7 +57,8 @@ pub step-requires-clause-sound : goal.step-requires-clause-sound
 step-requires-clause-sound g c =
     let b = c.requires.sound.0 in (
       record b { asks = c.args.id },
-      subst (λ (r : OpenCell _ _ _). IsSound g.D.Disk g.V.DraftService.standing.database (record b { asks = c.args.id }) r) (sym c.in_ok-keep.ensures.same)
+      subst (λ (r : OpenCell _ _ _). IsSound g.D.Disk g.V.DraftService.standing.database (record b { asks = c.args.id }) r)
+          (sym c.in_ok-keep.ensures.same)
           (kept_sound g.D.Disk c.args.self.now c.keep.new.self.calls g.V.DraftService.standing.database b c.args.call c.args.id
           c.in_ok-keep.ensures.kept c.requires.next c.requires.sound.1),
     )
@@ -91,11 +93,13 @@ returns-clause-told g c = λ ok given cell stands.
     let size = size_of g.D.Disk c.requires.sound.0.clock c.args.self.now cell c.requires.sound.1.steady stands in
     let kept = subst (λ (r : OpenCell _ _ _). IsModelledBy g.D.Disk db.database given r cell) (sym c.in_ok-keep.ensures.same)
     (kept_stands g.D.Disk c.args.self.now c.keep.new.self.calls cell stands) in
-    told_as g.D.Disk (λ choices. asked_at db cell (first_choice choices) c.args.id c.args.call (Some c.args.server)) (λ choices. Ok (does choices c.in_ok-k.k))
+    told_as g.D.Disk (λ choices. asked_at db cell (first_choice choices) c.args.id c.args.call (Some c.args.server))
+    (λ choices. Ok (does choices c.in_ok-k.k))
     (λ choices. c.in_ok-k.ensures.up cell (does choices) size stands.sites)
     db _ _ _ _ _
     (told_from g.D.Disk c.args.self.now c.keep.new.self.calls db (λ choices. Ok (does choices c.in_ok-k.k)) None _ _ _
-    (subst (λ (r : OpenCell _ _ _). CellTold g.D.Disk db given (λ choices. Ok (does choices c.in_ok-k.k)) None r c.step.new.self (string_bytes c.args.text.now)
+    (subst (λ (r : OpenCell _ _ _). CellTold g.D.Disk db given (λ choices. Ok (does choices c.in_ok-k.k)) None r c.step.new.self
+    (string_bytes c.args.text.now)
     (string_bytes c.step.new.text)) c.in_ok-keep.ensures.same
     (c.step.ensures.told ok given cell (Asking c.in_ok-k.k c.args.id c.args.call) kept o)))
 
@@ -109,11 +113,14 @@ returns-clause-limit g c = λ which is given cell stands.
     let size = size_of g.D.Disk c.requires.sound.0.clock c.args.self.now cell c.requires.sound.1.steady stands in
     let kept = subst (λ (r : OpenCell _ _ _). IsModelledBy g.D.Disk db.database given r cell) (sym c.in_ok-keep.ensures.same)
     (kept_stands g.D.Disk c.args.self.now c.keep.new.self.calls cell stands) in
-    told_as g.D.Disk (λ choices. asked_at db cell (first_choice choices) c.args.id c.args.call (Some c.args.server)) (λ choices. Ok (does choices c.in_ok-k.k))
+    told_as g.D.Disk (λ choices. asked_at db cell (first_choice choices) c.args.id c.args.call (Some c.args.server))
+    (λ choices. Ok (does choices c.in_ok-k.k))
     (λ choices. c.in_ok-k.ensures.up cell (does choices) size stands.sites)
     db _ _ _ _ _
-    (told_from g.D.Disk c.args.self.now c.keep.new.self.calls db (λ choices. Ok (does choices c.in_ok-k.k)) (Some (ending.Limit which)) _ _ _
-    (subst (λ (r : OpenCell _ _ _). CellTold g.D.Disk db given (λ choices. Ok (does choices c.in_ok-k.k)) (Some (ending.Limit which)) r c.step.new.self (string_bytes c.args.text.now)
+    (told_from g.D.Disk c.args.self.now c.keep.new.self.calls db (λ choices. Ok (does choices c.in_ok-k.k))
+    (Some (ending.Limit which)) _ _ _
+    (subst (λ (r : OpenCell _ _ _). CellTold g.D.Disk db given (λ choices. Ok (does choices c.in_ok-k.k))
+    (Some (ending.Limit which)) r c.step.new.self (string_bytes c.args.text.now)
     (string_bytes c.step.new.text)) c.in_ok-keep.ensures.same
     (c.step.ensures.limit which is given cell (Asking c.in_ok-k.k c.args.id c.args.call) kept o)))
 
@@ -127,7 +134,8 @@ returns-clause-short g c = λ is given cell stands.
     let size = size_of g.D.Disk c.requires.sound.0.clock c.args.self.now cell c.requires.sound.1.steady stands in
     let kept = subst (λ (r : OpenCell _ _ _). IsModelledBy g.D.Disk db.database given r cell) (sym c.in_ok-keep.ensures.same)
     (kept_stands g.D.Disk c.args.self.now c.keep.new.self.calls cell stands) in
-    short_as g.D.Disk (λ choices. asked_at db cell (first_choice choices) c.args.id c.args.call (Some c.args.server)) (λ choices. Ok (does choices c.in_ok-k.k))
+    short_as g.D.Disk (λ choices. asked_at db cell (first_choice choices) c.args.id c.args.call (Some c.args.server))
+    (λ choices. Ok (does choices c.in_ok-k.k))
     (λ choices. c.in_ok-k.ensures.up cell (does choices) size stands.sites)
     cell _ _
     (short_from g.D.Disk c.args.self.now c.keep.new.self.calls (λ choices. Ok (does choices c.in_ok-k.k)) cell _
@@ -145,15 +153,18 @@ returns-clause-sound g c = λ ok bounds new still.
           (kept_steady g.D.Disk c.args.self.now c.keep.new.self.calls bounds.clock still.steady));
       keeps = c.step.ensures.keeps ok;
       calls = ap length c.step.ensures.calls ∙ many ∙ sym next;
-      run = asked_on g.D.Disk (script_database g.V.DraftService.standing.database g.V.DraftWords.words) bounds.asks c.args.id c.args.self.now
-          c.step.new.self c.args.call c.args.server (string_bytes c.args.text.now) (string_bytes c.step.new.text) c.law_cells_go_on.ensures new still.run
+      run =
+          asked_on g.D.Disk (script_database g.V.DraftService.standing.database g.V.DraftWords.words) bounds.asks c.args.id c.args.self.now
+          c.step.new.self c.args.call c.args.server (string_bytes c.args.text.now)
+          (string_bytes c.step.new.text) c.law_cells_go_on.ensures new still.run
           (returns-clause-told g c ok still.run.given still.run.cell still.run.stands);
       blocks = still.blocks;
     }
 
 pub returns-clause-never_falls : goal.returns-clause-never_falls
 returns-clause-never_falls g c =
-    subst (λ (r : OpenCell _ _ _). AreRises 0 [] (helds g.D.Disk r) (helds g.D.Disk c.step.new.self)) c.in_ok-keep.ensures.same c.step.ensures.never_falls
+    subst (λ (r : OpenCell _ _ _). AreRises 0 [] (helds g.D.Disk r) (helds g.D.Disk c.step.new.self)) c.in_ok-keep.ensures.same
+    c.step.ensures.never_falls
 
 pub returns-clause-same : goal.returns-clause-same
 returns-clause-same g c = c.step.ensures.same ∙ ap (λ (r : OpenCell _ _ _). length r.sites.items) c.in_ok-keep.ensures.same

@@ -23,7 +23,8 @@ returns-in_err-k-clause-refused g c = λ why is.
       refl,
       λ given cell stands choices.
           let does : ℕ → Cell_run = λ k. with_event db (record cell { armed = set cell.armed k None }) (Crash k) in
-          c.in_err-k.ensures.up cell does (size_of g.D.Disk c.requires.0.clock c.args.self.now cell c.requires.1.steady stands) stands.sites ∙ ap Err same,
+          c.in_err-k.ensures.up cell does
+          (size_of g.D.Disk c.requires.0.clock c.args.self.now cell c.requires.1.steady stands) stands.sites ∙ ap Err same,
     )
 
 pub returns-in_err-k-clause-never_falls : goal.returns-in_err-k-clause-never_falls
@@ -40,7 +41,8 @@ returns-clause-told g c = λ ok given cell text stands.
     crash_told g.D.Disk c.args.self.now c.take_down.new.self c.in_ok-k.k down
     (disk_here g.D.Disk c.requires.0.clock c.args.self.now c.in_ok-k.k _ c.requires.1.steady down.there) db given cell
     (λ choices. run_in db cell choices (line.Crash c.args.server)) text stands
-    (λ choices. c.in_ok-k.ensures.up cell does (size_of g.D.Disk c.requires.0.clock c.args.self.now cell c.requires.1.steady stands) stands.sites)
+    (λ choices. c.in_ok-k.ensures.up cell does
+    (size_of g.D.Disk c.requires.0.clock c.args.self.now cell c.requires.1.steady stands) stands.sites)
 
 pub returns-clause-sound : goal.returns-clause-sound
 returns-clause-sound g c = λ bounds still.
@@ -49,7 +51,8 @@ returns-clause-sound g c = λ bounds still.
       steady = crash_sound g.D.Disk c.args.self.now c.take_down.new.self c.in_ok-k.k down
           (disk_here g.D.Disk c.requires.0.clock c.args.self.now c.in_ok-k.k _ c.requires.1.steady down.there) bounds.clock still.steady;
       keeps = keeps_set g.V.DraftService.standing.database c.args.self.now c.take_down.new.self still.keeps down.hosts c.in_ok-k.k
-          (record { clock = down.clock; server = Down down.disk }) [] down.sites down.calls (down.packets ∙ none_sent c.args.self.now.packets)
+          (record { clock = down.clock; server = Down down.disk }) [] down.sites down.calls
+          (down.packets ∙ none_sent c.args.self.now.packets)
           (down_keeps g.V.DraftService.standing.database c.args.self.now.hosts.items c.args.self.now.calls down.disk) (All-nil _);
       calls = ap length down.calls ∙ still.calls;
       run = runs_on g.D.Disk (script_database g.V.DraftService.standing.database g.V.DraftWords.words) bounds.asks c.args.self.now
@@ -65,4 +68,5 @@ returns-clause-never_falls g c =
     (disk_here g.D.Disk c.requires.0.clock c.args.self.now c.in_ok-k.k _ c.requires.1.steady down.there)
 
 pub returns-clause-same : goal.returns-clause-same
-returns-clause-same g c = many_at g.D.Disk c.args.self.now c.take_down.new.self c.in_ok-k.k _ _ c.take_down.ensures.there c.take_down.ensures.sites
+returns-clause-same g c =
+    many_at g.D.Disk c.args.self.now c.take_down.new.self c.in_ok-k.k _ _ c.take_down.ensures.there c.take_down.ensures.sites

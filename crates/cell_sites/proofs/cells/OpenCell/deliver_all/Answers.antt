@@ -16,7 +16,8 @@ use Rattle.cell_sites.proofs.cells.OpenCell.deliver_all.Goals as goal
 
 pub loop-init : goal.loop-init
 loop-init g c =
-    follows_none g.D.Disk (script_database g.V.DraftService.standing.database g.V.DraftWords.words) MAX_PACKETS (MAX_PACKETS - 0) c.args.self.now
+    follows_none g.D.Disk (script_database g.V.DraftService.standing.database g.V.DraftWords.words) MAX_PACKETS
+    (MAX_PACKETS - 0) c.args.self.now
     (string_bytes c.args.text.now) (omega arith)
 
 pub deliver_sent-requires-clause-some : goal.deliver_sent-requires-clause-some
@@ -26,21 +27,25 @@ deliver_sent-requires-clause-some g c =
 pub deliver_sent-requires-clause-sent : goal.deliver_sent-requires-clause-sent
 deliver_sent-requires-clause-sent g c =
     let w = is_waiting 1 c.loop.self.packets.handed c.in-Some.number (sym c.in-Some.ensures.first) in
-    let sent : length c.first_waiting.new.self.sent ≡ length c.loop.self.packets.sent = ap (λ (t : Traffic). length t.sent) c.first_waiting.ensures.same in
+    let sent : length c.first_waiting.new.self.sent ≡ length c.loop.self.packets.sent = ap
+    (λ (t : Traffic). length t.sent) c.first_waiting.ensures.same in
     omega (arith, w.1, c.first_waiting.ensures.each, sent)
 
 pub returns-in_default-clause-told : goal.returns-in_default-clause-told
 returns-in_default-clause-told g c = λ ok given cell stands.
     let db = script_database g.V.DraftService.standing.database g.V.DraftWords.words in
     let now = with_packets c.loop.self c.first_waiting.new.self in
-    all_followed g.D.Disk db MAX_PACKETS (MAX_PACKETS - c.loop.counter) c.args.self.now now (string_bytes c.args.text.now) (string_bytes c.loop.text)
+    all_followed g.D.Disk db MAX_PACKETS (MAX_PACKETS - c.loop.counter) c.args.self.now now (string_bytes c.args.text.now)
+    (string_bytes c.loop.text)
     (subst (λ (p : Traffic). Follows g.D.Disk db MAX_PACKETS (MAX_PACKETS - c.loop.counter) c.args.self.now
-    (with_packets c.loop.self p) (string_bytes c.args.text.now) (string_bytes c.loop.text)) (sym c.first_waiting.ensures.same) c.loop.invariant)
+    (with_packets c.loop.self p) (string_bytes c.args.text.now) (string_bytes c.loop.text))
+    (sym c.first_waiting.ensures.same) c.loop.invariant)
     refl (ap (λ (p : Traffic). first_waiting 1 p.handed) c.first_waiting.ensures.same ∙ sym c.in_default.ensures.first) given cell stands
 
 pub returns-in_default-clause-sound : goal.returns-in_default-clause-sound
 returns-in_default-clause-sound g c = λ is bounds still.
-    subst (λ (p : Traffic). IsSound g.D.Disk g.V.DraftService.standing.database bounds (with_packets c.loop.self p)) (sym c.first_waiting.ensures.same)
+    subst (λ (p : Traffic). IsSound g.D.Disk g.V.DraftService.standing.database bounds (with_packets c.loop.self p))
+    (sym c.first_waiting.ensures.same)
     (c.loop.invariant.sound bounds still)
 
 pub returns-in_err-deliver_sent-clause-limit : goal.returns-in_err-deliver_sent-clause-limit
@@ -53,7 +58,8 @@ returns-in_err-deliver_sent-clause-limit g c = λ which is given cell stands.
     c.deliver_sent.new.self
     (string_bytes c.args.text.now) (string_bytes c.loop.text) (string_bytes c.deliver_sent.new.text)
     (subst (λ (p : Traffic). Follows g.D.Disk db MAX_PACKETS (MAX_PACKETS - c.loop.counter) c.args.self.now
-    (with_packets c.loop.self p) (string_bytes c.args.text.now) (string_bytes c.loop.text)) (sym c.first_waiting.ensures.same) c.loop.invariant)
+    (with_packets c.loop.self p) (string_bytes c.args.text.now) (string_bytes c.loop.text))
+    (sym c.first_waiting.ensures.same) c.loop.invariant)
     (omega (arith, c.loop-test.true)) c.requires.1 c.in-Some.number
     (ap (λ (p : Traffic). first_waiting 1 p.handed) c.first_waiting.ensures.same ∙ sym c.in-Some.ensures.first)
     refl given cell stands (ending.Limit which) (c.in_err-deliver_sent.ensures.limit which (ap Err e) given)
@@ -65,27 +71,32 @@ returns-in_err-deliver_sent-clause-short g c = λ is given cell stands.
     short_there g.D.Disk db MAX_PACKETS (MAX_PACKETS - c.loop.counter) c.args.self.now now c.deliver_sent.new.self
     (string_bytes c.args.text.now) (string_bytes c.loop.text)
     (subst (λ (p : Traffic). Follows g.D.Disk db MAX_PACKETS (MAX_PACKETS - c.loop.counter) c.args.self.now
-    (with_packets c.loop.self p) (string_bytes c.args.text.now) (string_bytes c.loop.text)) (sym c.first_waiting.ensures.same) c.loop.invariant)
+    (with_packets c.loop.self p) (string_bytes c.args.text.now) (string_bytes c.loop.text))
+    (sym c.first_waiting.ensures.same) c.loop.invariant)
     c.in-Some.number (ap (λ (p : Traffic). first_waiting 1 p.handed) c.first_waiting.ensures.same ∙ sym c.in-Some.ensures.first)
     c.in_err-deliver_sent.ensures.never_falls
     (c.in_err-deliver_sent.ensures.short
-    (ap Err (let p = err_from_is_err_and c.from_residual.result c.from_residual.ensures.1 in let from = p.2 in let left = p.1 in cc (from, left, is))))
+    (ap Err (let p = err_from_is_err_and c.from_residual.result c.from_residual.ensures.1 in let from = p.2 in let left = p.1 in cc
+    (from, left, is))))
     given cell stands
 
 pub returns-in_err-deliver_sent-clause-never_falls : goal.returns-in_err-deliver_sent-clause-never_falls
 returns-in_err-deliver_sent-clause-never_falls g c =
-    rises_both 0 [] [] (helds g.D.Disk c.args.self.now) (helds g.D.Disk c.loop.self) (helds g.D.Disk c.deliver_sent.new.self) c.loop.invariant.rises
+    rises_both 0 [] [] (helds g.D.Disk c.args.self.now) (helds g.D.Disk c.loop.self)
+    (helds g.D.Disk c.deliver_sent.new.self) c.loop.invariant.rises
     c.in_err-deliver_sent.ensures.never_falls
 
 pub loop-preserved : goal.loop-preserved
 loop-preserved g c =
     let db = script_database g.V.DraftService.standing.database g.V.DraftWords.words in
     let now = with_packets c.loop.self c.first_waiting.new.self in
-    follows_more g.D.Disk db MAX_PACKETS (MAX_PACKETS - c.loop.counter) (MAX_PACKETS - (c.loop.counter + 1)) c.requires.0 c.args.self.now now
+    follows_more g.D.Disk db MAX_PACKETS (MAX_PACKETS - c.loop.counter)
+    (MAX_PACKETS - (c.loop.counter + 1)) c.requires.0 c.args.self.now now
     c.deliver_sent.new.self
     (string_bytes c.args.text.now) (string_bytes c.loop.text) (string_bytes c.deliver_sent.new.text)
     (subst (λ (p : Traffic). Follows g.D.Disk db MAX_PACKETS (MAX_PACKETS - c.loop.counter) c.args.self.now
-    (with_packets c.loop.self p) (string_bytes c.args.text.now) (string_bytes c.loop.text)) (sym c.first_waiting.ensures.same) c.loop.invariant)
+    (with_packets c.loop.self p) (string_bytes c.args.text.now) (string_bytes c.loop.text))
+    (sym c.first_waiting.ensures.same) c.loop.invariant)
     (omega (arith, c.loop-test.true)) c.requires.1 c.in-Some.number
     (ap (λ (p : Traffic). first_waiting 1 p.handed) c.first_waiting.ensures.same ∙ sym c.in-Some.ensures.first)
     (c.in_ok-deliver_sent.ensures.told refl) (c.in_ok-deliver_sent.ensures.sound refl) c.in_ok-deliver_sent.ensures.never_falls
@@ -94,7 +105,8 @@ loop-preserved g c =
 pub returns-clause-told : goal.returns-clause-told
 returns-clause-told g c = λ ok given cell stands.
     let db = script_database g.V.DraftService.standing.database g.V.DraftWords.words in
-    fuel_followed g.D.Disk db MAX_PACKETS (MAX_PACKETS - c.loop.counter) c.args.self.now c.loop.self (string_bytes c.args.text.now) (string_bytes c.loop.text)
+    fuel_followed g.D.Disk db MAX_PACKETS (MAX_PACKETS - c.loop.counter) c.args.self.now c.loop.self (string_bytes c.args.text.now)
+    (string_bytes c.loop.text)
     c.loop.invariant
     refl (omega (arith, c.loop-test.false)) given cell stands
 

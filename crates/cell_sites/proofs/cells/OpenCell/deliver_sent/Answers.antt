@@ -32,8 +32,10 @@ unreachable-requires g c =
     let hosts = c.args.self.now.hosts.items in
     let to = c.packet.result.now.to in
     let sent = sym (ap (λ (t : Traffic). slice_get t.sent (c.args.number - 1)) c.hand_over.ensures) ∙ c.packet.ensures in
-    let packet = all_at (IsCellPacket hosts) c.args.self.now.packets.sent (c.args.number - 1) c.packet.result.now c.requires.sound.1.keeps.packets sent in
-    let none : place_of hosts to ≡ None = sym (c.place_of.ensures ∙ ap (λ (h : List Host). place_of h to) c.deref.ensures.value) ∙ c.in_default.is in
+    let packet = all_at (IsCellPacket hosts) c.args.self.now.packets.sent
+    (c.args.number - 1) c.packet.result.now c.requires.sound.1.keeps.packets sent in
+    let none : place_of hosts to ≡ None = sym (c.place_of.ensures ∙ ap (λ (h : List Host). place_of h to) c.deref.ensures.value)
+    ∙ c.in_default.is in
     false≢true (subst IsSome none packet.receiver)
 
 pub step-requires-clause-sound : goal.step-requires-clause-sound
@@ -43,7 +45,8 @@ step-requires-clause-sound g c =
       b,
       record {
         steady = sound_with g.D.Disk b.clock c.args.self.now p c.requires.sound.1.steady;
-        keeps = keeps_with g.V.DraftService.standing.database c.args.self.now p c.requires.sound.1.keeps (ap (λ (t : Traffic). t.sent) c.hand_over.ensures);
+        keeps = keeps_with g.V.DraftService.standing.database c.args.self.now p c.requires.sound.1.keeps
+            (ap (λ (t : Traffic). t.sent) c.hand_over.ensures);
         calls = c.requires.sound.1.calls;
         run = handed_on g.D.Disk (script_database g.V.DraftService.standing.database g.V.DraftWords.words) b.asks c.args.self.now p
             c.args.number c.law_cells_go_on.ensures c.requires.some c.requires.sent c.hand_over.ensures c.requires.sound.1.run;
@@ -52,7 +55,8 @@ step-requires-clause-sound g c =
     )
 
 pub step-requires-clause-there : goal.step-requires-clause-there
-step-requires-clause-there g c = (c.requires.some, subst (λ (t : Traffic). c.args.number ≤ length t.sent) (sym c.hand_over.ensures) c.requires.sent)
+step-requires-clause-there g c =
+    (c.requires.some, subst (λ (t : Traffic). c.args.number ≤ length t.sent) (sym c.hand_over.ensures) c.requires.sent)
 
 pub step-requires-clause-brought : goal.step-requires-clause-brought
 step-requires-clause-brought g c =
@@ -83,7 +87,8 @@ returns-then-is_up-clause-limit g c = λ which is given cell stands.
     let h = handed_cell c.args.self.now cell p c.args.number c.in-Some.k c.packet.result.now stands c.hand_over.ensures c.requires.some
     c.packet.ensures place in
     told_before g.D.Disk db c.args.self.now c.step.new.self p _ _ _ _
-    (c.step.ensures.limit which is given (with_handed cell (set cell.handed (c.args.number - 1) true)) (Delivery c.args.number) h.stands h.goes)
+    (c.step.ensures.limit which is given (with_handed cell (set cell.handed (c.args.number - 1) true))
+    (Delivery c.args.number) h.stands h.goes)
 
 pub returns-then-is_up-clause-short : goal.returns-then-is_up-clause-short
 returns-then-is_up-clause-short g c = λ is given cell stands.
@@ -102,7 +107,8 @@ returns-then-is_up-clause-sound g c = λ ok bounds still. record {
   keeps = c.step.ensures.keeps ok;
   calls = ap length c.step.ensures.calls ∙ still.calls;
   run = delivered_on g.D.Disk (script_database g.V.DraftService.standing.database g.V.DraftWords.words) bounds.asks c.args.self.now
-      c.step.new.self c.args.number (string_bytes c.args.text.now) (string_bytes c.step.new.text) c.law_cells_go_on.ensures c.requires.some c.requires.sent
+      c.step.new.self c.args.number (string_bytes c.args.text.now)
+      (string_bytes c.step.new.text) c.law_cells_go_on.ensures c.requires.some c.requires.sent
       still.run (returns-then-is_up-clause-told g c ok still.run.given still.run.cell still.run.stands);
   blocks = still.blocks;
 }
@@ -127,18 +133,22 @@ returns-clause-told g c = λ ok given cell stands.
     let h = handed_cell c.args.self.now cell p c.args.number c.in-Some.k c.packet.result.now stands c.hand_over.ensures c.requires.some
     c.packet.ensures place in
     told_before g.D.Disk db c.args.self.now (with_packets c.args.self.now p) p _ _ _ _
-    (lost g.D.Disk db (with_packets c.args.self.now p) (with_handed cell (set cell.handed (c.args.number - 1) true)) c.args.number c.in-Some.k
+    (lost g.D.Disk db (with_packets c.args.self.now p)
+    (with_handed cell (set cell.handed (c.args.number - 1) true)) c.args.number c.in-Some.k
     (packet_under p.sent c.args.number) (string_bytes c.args.text.now) (string_bytes c.tell_mark.new.text)
     h.stands c.if-is_up.ensures h.goes c.in_ok-tell_mark.ensures)
 
 pub returns-clause-sound : goal.returns-clause-sound
 returns-clause-sound g c = λ ok bounds still. record {
   steady = sound_with g.D.Disk bounds.clock c.args.self.now c.hand_over.new.self still.steady;
-  keeps = keeps_with g.V.DraftService.standing.database c.args.self.now c.hand_over.new.self still.keeps (ap (λ (t : Traffic). t.sent) c.hand_over.ensures);
+  keeps =
+      keeps_with g.V.DraftService.standing.database c.args.self.now c.hand_over.new.self still.keeps
+      (ap (λ (t : Traffic). t.sent) c.hand_over.ensures);
   calls = still.calls;
   run = delivered_on g.D.Disk (script_database g.V.DraftService.standing.database g.V.DraftWords.words) bounds.asks c.args.self.now
       (with_packets c.args.self.now c.hand_over.new.self) c.args.number (string_bytes c.args.text.now) (string_bytes c.tell_mark.new.text)
-      c.law_cells_go_on.ensures c.requires.some c.requires.sent still.run (returns-clause-told g c ok still.run.given still.run.cell still.run.stands);
+      c.law_cells_go_on.ensures c.requires.some c.requires.sent still.run
+      (returns-clause-told g c ok still.run.given still.run.cell still.run.stands);
   blocks = still.blocks;
 }
 

@@ -30,7 +30,9 @@ returns-clause-never_falls g c = rises_none 0 _
 pub returns-clause-sound : goal.returns-clause-sound
 returns-clause-sound g c = λ bounds still. record {
   steady = sound_with g.D.Disk bounds.clock c.args.self.now c.hand_over.new.self still.steady;
-  keeps = keeps_with g.V.DraftService.standing.database c.args.self.now c.hand_over.new.self still.keeps (ap (λ (t : Traffic). t.sent) c.hand_over.ensures);
+  keeps =
+      keeps_with g.V.DraftService.standing.database c.args.self.now c.hand_over.new.self still.keeps
+      (ap (λ (t : Traffic). t.sent) c.hand_over.ensures);
   calls = still.calls;
   run = runs_on g.D.Disk (script_database g.V.DraftService.standing.database g.V.DraftWords.words) bounds.asks c.args.self.now
       _ (line.Drop c.args.number) [] [] c.law_cells_go_on.ensures tt still.run

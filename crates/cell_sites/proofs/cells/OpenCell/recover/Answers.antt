@@ -19,7 +19,8 @@ returns-in_err-k-clause-refused g c = λ why is.
       refl,
       λ given cell stands choices.
           let does : ℕ → Cell_run = λ k. stepped db cell (first_choice choices) (Recover_turn k) in
-          c.in_err-k.ensures.up cell does (size_of g.D.Disk c.requires.0.clock c.args.self.now cell c.requires.1.steady stands) stands.sites ∙ ap Err same,
+          c.in_err-k.ensures.up cell does
+          (size_of g.D.Disk c.requires.0.clock c.args.self.now cell c.requires.1.steady stands) stands.sites ∙ ap Err same,
     )
 
 pub returns-in_err-k-clause-never_falls : goal.returns-in_err-k-clause-never_falls
@@ -30,7 +31,8 @@ returns-clause-told g c = λ ok given cell stands.
     let db = script_database g.V.DraftService.standing.database g.V.DraftWords.words in
     let does : Choices → ℕ → Cell_run = λ choices k. stepped db cell (first_choice choices) (Recover_turn k) in
     told_as g.D.Disk (λ choices. run_in db cell choices (line.Recover c.args.server)) (λ choices. Ok (does choices c.in_ok-k.k))
-    (λ choices. c.in_ok-k.ensures.up cell (does choices) (size_of g.D.Disk c.requires.0.clock c.args.self.now cell c.requires.1.steady stands) stands.sites)
+    (λ choices. c.in_ok-k.ensures.up cell (does choices)
+    (size_of g.D.Disk c.requires.0.clock c.args.self.now cell c.requires.1.steady stands) stands.sites)
     db _ _ _ _ _ (c.step.ensures.told ok given cell (Recover_turn c.in_ok-k.k) stands refl)
 
 pub returns-clause-limit : goal.returns-clause-limit
@@ -38,7 +40,8 @@ returns-clause-limit g c = λ which is given cell stands.
     let db = script_database g.V.DraftService.standing.database g.V.DraftWords.words in
     let does : Choices → ℕ → Cell_run = λ choices k. stepped db cell (first_choice choices) (Recover_turn k) in
     told_as g.D.Disk (λ choices. run_in db cell choices (line.Recover c.args.server)) (λ choices. Ok (does choices c.in_ok-k.k))
-    (λ choices. c.in_ok-k.ensures.up cell (does choices) (size_of g.D.Disk c.requires.0.clock c.args.self.now cell c.requires.1.steady stands) stands.sites)
+    (λ choices. c.in_ok-k.ensures.up cell (does choices)
+    (size_of g.D.Disk c.requires.0.clock c.args.self.now cell c.requires.1.steady stands) stands.sites)
     db _ _ _ _ _ (c.step.ensures.limit which is given cell (Recover_turn c.in_ok-k.k) stands refl)
 
 pub returns-clause-short : goal.returns-clause-short
@@ -46,7 +49,8 @@ returns-clause-short g c = λ is given cell stands.
     let db = script_database g.V.DraftService.standing.database g.V.DraftWords.words in
     let does : Choices → ℕ → Cell_run = λ choices k. stepped db cell (first_choice choices) (Recover_turn k) in
     short_as g.D.Disk (λ choices. run_in db cell choices (line.Recover c.args.server)) (λ choices. Ok (does choices c.in_ok-k.k))
-    (λ choices. c.in_ok-k.ensures.up cell (does choices) (size_of g.D.Disk c.requires.0.clock c.args.self.now cell c.requires.1.steady stands) stands.sites)
+    (λ choices. c.in_ok-k.ensures.up cell (does choices)
+    (size_of g.D.Disk c.requires.0.clock c.args.self.now cell c.requires.1.steady stands) stands.sites)
     cell _ _ (c.step.ensures.short is given cell (Recover_turn c.in_ok-k.k) stands refl)
 
 pub step-requires-clause-brought : goal.step-requires-clause-brought
@@ -58,7 +62,8 @@ returns-clause-sound g c = λ ok bounds still. record {
   keeps = c.step.ensures.keeps ok;
   calls = ap length c.step.ensures.calls ∙ still.calls;
   run = runs_on g.D.Disk (script_database g.V.DraftService.standing.database g.V.DraftWords.words) bounds.asks c.args.self.now
-      c.step.new.self (line.Recover c.args.server) (string_bytes c.args.text.now) (string_bytes c.step.new.text) c.law_cells_go_on.ensures tt still.run
+      c.step.new.self (line.Recover c.args.server) (string_bytes c.args.text.now)
+      (string_bytes c.step.new.text) c.law_cells_go_on.ensures tt still.run
       (returns-clause-told g c ok still.run.given still.run.cell still.run.stands);
   blocks = still.blocks;
 }

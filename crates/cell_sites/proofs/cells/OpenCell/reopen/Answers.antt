@@ -20,7 +20,8 @@ pub open_server-server-requires-clause-cell : goal.open_server-server-requires-c
 open_server-server-requires-clause-cell g c =
     let running = c.args.self.now in
     let count = host_count g.D.Disk c.requires.sound.0.clock running c.requires.sound.1.steady in
-    subst (λ (h : List Host). h ≡ hosts_of (length h)) (sym c.deref.ensures.value) (c.requires.sound.1.steady.hosts ∙ ap hosts_of (sym count))
+    subst (λ (h : List Host). h ≡ hosts_of (length h)) (sym c.deref.ensures.value)
+    (c.requires.sound.1.steady.hosts ∙ ap hosts_of (sym count))
 
 pub open_server-server-requires-clause-few : goal.open_server-server-requires-clause-few
 open_server-server-requires-clause-few g c =
@@ -41,7 +42,8 @@ open_server-server-requires-clause-moment g c =
     let running = c.args.self.now in
     let within = slice_get_within running.sites.items c.args.k _ c.requires.down.there in
     let there = site_there running.sites.items c.args.k c.remove-clock.result within c.remove-clock.ensures.value in
-    (sound_at g.D.Disk running.hosts.items 0 c.requires.sound.0.clock running.sites.items c.args.k c.remove-clock.result c.requires.sound.1.steady.sites
+    (sound_at g.D.Disk running.hosts.items 0 c.requires.sound.0.clock running.sites.items c.args.k c.remove-clock.result
+    c.requires.sound.1.steady.sites
     there).moment
 
 pub open_server-server-requires-clause-sound : goal.open_server-server-requires-clause-sound
@@ -78,7 +80,8 @@ returns g c =
           c.deref.ensures.value
           (c.open_server-server.ensures d stands);
       sites = c.put_site.ensures.sites
-          ∙ ap (λ (l : List (Site _ _ _)). insert l c.args.k (record { clock = site.clock; server = opened.0 })) c.remove-clock.ensures.items
+          ∙ ap (λ (l : List (Site _ _ _)). insert l c.args.k (record { clock = site.clock; server = opened.0 }))
+          c.remove-clock.ensures.items
           ∙ put_back running.sites.items c.args.k (record { clock = site.clock; server = opened.0 }) within;
       hosts = ap (λ (v : Vec Host Global). v.items) c.put_site.ensures.same.0;
       packets = c.put_site.ensures.same.1;

@@ -40,7 +40,8 @@ step_node-requires-clause-cuts g c =
     let site = c.index_mut-site.result.now in
     let there = found_up c.args.self.now c.args.k site c.in-Up.node c.requires.up c.index_mut-site.ensures.value c.in-Up.is in
     up_cuts g.D.Disk g.V.DraftService.standing c.requires.sound.0.asks c.args.self.now c.args.k site.clock c.in-Up.node
-    (c.law_images_stand.ensures.service c.requires.sound.1.blocks) c.requires.sound.1.run there c.law_writes_stand.ensures (own_member c.in-Up.node)
+    (c.law_images_stand.ensures.service c.requires.sound.1.blocks) c.requires.sound.1.run there c.law_writes_stand.ensures
+    (own_member c.in-Up.node)
     c.event_of-event.result.now
 
 pub step_node-requires-clause-needs : goal.step_node-requires-clause-needs
@@ -48,7 +49,8 @@ step_node-requires-clause-needs g c =
     let site = c.index_mut-site.result.now in
     let there = found_up c.args.self.now c.args.k site c.in-Up.node c.requires.up c.index_mut-site.ensures.value c.in-Up.is in
     let at = here g.D.Disk c.requires.sound.0.clock c.args.self.now c.args.k site.clock c.in-Up.node c.requires.sound.1.steady there in
-    needs_met g.D.Disk g.V.DraftService.standing.database (own_member c.in-Up.node) c.in-Up.node at.disk c.event_of-event.result.now site.clock
+    needs_met g.D.Disk g.V.DraftService.standing.database
+    (own_member c.in-Up.node) c.in-Up.node at.disk c.event_of-event.result.now site.clock
 
 pub step_node-requires-clause-holds : goal.step_node-requires-clause-holds
 step_node-requires-clause-holds g c =
@@ -75,7 +77,9 @@ returns g c =
       node = c.in-Up.node;
       there = there;
       later = c.step_node.new.node;
-      step = subst (λ (e : NodeEvent). NodeStepped g.D.Disk g.V.DraftService.standing.database (member_at c.args.self.now c.args.k) site.clock e
+      step =
+          subst (λ (e : NodeEvent). NodeStepped g.D.Disk g.V.DraftService.standing.database
+          (member_at c.args.self.now c.args.k) site.clock e
           c.step_node.result c.in-Up.node c.step_node.new.node c.step_node.new.out) c.event_of-event.ensures
           (subst (λ (m : Member). NodeStepped g.D.Disk g.V.DraftService.standing.database m site.clock c.event_of-event.result.now
           c.step_node.result c.in-Up.node c.step_node.new.node c.step_node.new.out) at.sound.member c.step_node.ensures);

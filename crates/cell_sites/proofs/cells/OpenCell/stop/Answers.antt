@@ -24,8 +24,10 @@ returns-in_err-k-clause-refused g c = λ why is.
     let same : c.in_err-k.field-0.0 ≡ why = let given = p.2 in let left = p.1 in cc (given, left, is) in (
       refl,
       λ given cell stands choices.
-          let does : ℕ → Cell_run = λ k. resting (record cell { armed = set cell.armed k (Some (record { calls = c.args.calls; made = 0 })) }) in
-          c.in_err-k.ensures.up cell does (size_of g.D.Disk c.requires.0.clock c.args.self.now cell c.requires.1.steady stands) stands.sites ∙ ap Err same,
+          let does : ℕ → Cell_run = λ k. resting
+          (record cell { armed = set cell.armed k (Some (record { calls = c.args.calls; made = 0 })) }) in
+          c.in_err-k.ensures.up cell does
+          (size_of g.D.Disk c.requires.0.clock c.args.self.now cell c.requires.1.steady stands) stands.sites ∙ ap Err same,
     )
 
 pub returns-in_err-k-clause-never_falls : goal.returns-in_err-k-clause-never_falls
@@ -38,7 +40,8 @@ index_mut-requires g c =
 
 pub unreachable-requires : goal.unreachable-requires
 unreachable-requires g c =
-    not_down c.args.self.now c.in_ok-k.k c.index_mut.result.now c.in_default.field-0 c.in_ok-k.ensures.place.1 c.index_mut.ensures.value c.in_default.is
+    not_down c.args.self.now c.in_ok-k.k c.index_mut.result.now c.in_default.field-0 c.in_ok-k.ensures.place.1 c.index_mut.ensures.value
+    c.in_default.is
 
 pub returns-clause-told : goal.returns-clause-told
 returns-clause-told g c = λ ok given cell text stands.
@@ -46,10 +49,12 @@ returns-clause-told g c = λ ok given cell text stands.
     let site = c.index_mut.result.now in
     let there = found_up c.args.self.now c.in_ok-k.k site c.in-Up.node c.in_ok-k.ensures.place.1 c.index_mut.ensures.value c.in-Up.is in
     let does : ℕ → Cell_run = λ k. resting (record cell { armed = set cell.armed k (Some (record { calls = c.args.calls; made = 0 })) }) in
-    arm_told g.D.Disk c.args.self.now _ c.in_ok-k.k site.clock c.args.calls c.args.fill c.in-Up.node c.arm.new.self there refl refl refl c.arm.ensures.disk
+    arm_told g.D.Disk c.args.self.now _ c.in_ok-k.k site.clock c.args.calls c.args.fill c.in-Up.node c.arm.new.self there refl refl refl
+    c.arm.ensures.disk
     c.arm.ensures.same db given cell
     (λ choices. run_in db cell choices (line.Stop c.args.server c.args.calls c.args.fill)) text stands
-    (λ choices. c.in_ok-k.ensures.up cell does (size_of g.D.Disk c.requires.0.clock c.args.self.now cell c.requires.1.steady stands) stands.sites)
+    (λ choices. c.in_ok-k.ensures.up cell does
+    (size_of g.D.Disk c.requires.0.clock c.args.self.now cell c.requires.1.steady stands) stands.sites)
 
 pub returns-clause-sound : goal.returns-clause-sound
 returns-clause-sound g c = λ bounds still.
@@ -58,13 +63,16 @@ returns-clause-sound g c = λ bounds still.
     let there = found_up c.args.self.now k site c.in-Up.node c.in_ok-k.ensures.place.1 c.index_mut.ensures.value c.in-Up.is in
     let at = here g.D.Disk bounds.clock c.args.self.now k site.clock c.in-Up.node still.steady there in
     record {
-      steady = sound_at_place g.D.Disk c.args.self.now _ k (up_site site.clock c.in-Up.node) (up_site site.clock c.arm.new.self) there refl bounds.clock
+      steady =
+          sound_at_place g.D.Disk c.args.self.now _ k (up_site site.clock c.in-Up.node)
+          (up_site site.clock c.arm.new.self) there refl bounds.clock
           still.steady refl
           (arm_node g.D.Disk site.clock c.args.calls c.args.fill c.in-Up.node c.arm.new.self c.arm.ensures.disk c.arm.ensures.same
           (member_at c.args.self.now k) at.sound)
           (arm_disk g.D.Disk site.clock c.args.calls c.args.fill c.in-Up.node c.arm.new.self c.arm.ensures.disk c.arm.ensures.same at.disk)
           refl refl;
-      keeps = keeps_set g.V.DraftService.standing.database c.args.self.now _ still.keeps refl k (up_site site.clock c.arm.new.self) [] refl refl
+      keeps =
+          keeps_set g.V.DraftService.standing.database c.args.self.now _ still.keeps refl k (up_site site.clock c.arm.new.self) [] refl refl
           (none_sent c.args.self.now.packets)
           (same_keeps g.V.DraftService.standing.database c.args.self.now.hosts.items c.args.self.now.calls c.in-Up.node c.arm.new.self
           (still.keeps.servers k (up_site site.clock c.in-Up.node) there) (ap (λ (s : State). server_of s) c.arm.ensures.same.0)
@@ -82,5 +90,6 @@ returns-clause-never_falls g c =
     let site = c.index_mut.result.now in
     let there = found_up c.args.self.now c.in_ok-k.k site c.in-Up.node c.in_ok-k.ensures.place.1 c.index_mut.ensures.value c.in-Up.is in
     let same = c.arm.ensures.disk.faults in
-    rises_set g.D.Disk [] 0 c.in_ok-k.k c.args.self.now.sites.items (up_site site.clock c.in-Up.node) (up_site site.clock c.arm.new.self) there
+    rises_set g.D.Disk [] 0 c.in_ok-k.k c.args.self.now.sites.items (up_site site.clock c.in-Up.node)
+    (up_site site.clock c.arm.new.self) there
     (omega (arith, same)) (λ j other. refl)

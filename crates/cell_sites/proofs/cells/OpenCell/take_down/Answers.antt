@@ -28,7 +28,8 @@ returns g c =
         faults = revived.faults;
       });
       sites = c.put_site.ensures.sites
-          ∙ ap (λ (l : List (Site _ _ _)). insert l c.args.k (record { clock = site.clock; server = Down disk })) c.remove-clock.ensures.items
+          ∙ ap (λ (l : List (Site _ _ _)). insert l c.args.k (record { clock = site.clock; server = Down disk }))
+          c.remove-clock.ensures.items
           ∙ put_back items c.args.k (record { clock = site.clock; server = Down disk }) c.requires.place;
       hosts = ap (λ (v : Vec Host Global). v.items) c.put_site.ensures.same.0;
       packets = c.put_site.ensures.same.1;

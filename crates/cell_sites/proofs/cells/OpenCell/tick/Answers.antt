@@ -20,7 +20,8 @@ returns-in_err-k-clause-refused g c = λ w is. (
   refl,
   λ given c' stands choices.
       c.in_err-k.ensures.there c' (λ k. unless_skewed (script_database g.V.DraftService.standing.database g.V.DraftWords.words) c'
-      (tick_at c'.run.world.sites k c.args.seconds) (Tick k c.args.seconds)) (cell_size g.D.Disk c.requires.0.clock c.args.self.now c' c.requires.1.steady
+      (tick_at c'.run.world.sites k c.args.seconds) (Tick k c.args.seconds))
+      (cell_size g.D.Disk c.requires.0.clock c.args.self.now c' c.requires.1.steady
       stands)
       ∙ ap Err (refused_so c.from_residual.result c.in_err-k.field-0.0 w c.from_residual.ensures.1 is),
 )
@@ -31,7 +32,8 @@ returns-in_err-k-clause-never_falls g c = rises_none 0 _
 pub overflow_add-now : goal.overflow_add-now
 overflow_add-now g c =
     let there = site_there c.args.self.now.sites.items c.in_ok-k.k c.index.result.now c.in_ok-k.ensures.place.1 c.index.ensures in
-    let fits = fits_at g.D.Disk c.requires.0.clock c.args.seconds c.args.self.now c.in_ok-k.k c.index.result.now c.requires.1.steady c.requires.2 there in
+    let fits = fits_at g.D.Disk c.requires.0.clock c.args.seconds c.args.self.now c.in_ok-k.k c.index.result.now c.requires.1.steady
+    c.requires.2 there in
     omega (arith, fits)
 
 pub returns-then-not-is_near-clause-refused : goal.returns-then-not-is_near-clause-refused
@@ -42,9 +44,11 @@ returns-then-not-is_near-clause-refused g c = λ w is.
           c.in_ok-k.ensures.there c' (λ k. unless_skewed (script_database g.V.DraftService.standing.database g.V.DraftWords.words) c'
           (tick_at c'.run.world.sites k c.args.seconds) (Tick k c.args.seconds)) (cell_size g.D.Disk c.requires.0.clock c.args.self.now c'
           c.requires.1.steady stands)
-          ∙ tick_skews (script_database g.V.DraftService.standing.database g.V.DraftWords.words) c.args.self.now c' c.in_ok-k.k c.args.seconds
+          ∙ tick_skews (script_database g.V.DraftService.standing.database g.V.DraftWords.words) c.args.self.now c' c.in_ok-k.k
+          c.args.seconds
           c.index.result.now stands there (λ near. let t = c.is_near.ensures.1
-          (subst (λ (l : List _). IsNearAt l c.in_ok-k.k (c.index.result.now.clock + c.args.seconds)) (sym c.deref.ensures.value) near) in cc)
+          (subst (λ (l : List _). IsNearAt l c.in_ok-k.k (c.index.result.now.clock + c.args.seconds))
+          (sym c.deref.ensures.value) near) in cc)
           ∙ ap Err (let same : why.Skew ≡ w = cc in same),
     )
 
@@ -58,13 +62,16 @@ returns-clause-told g c = λ is given c' text stands.
     let there = site_there c.args.self.now.sites.items k c.index.result.now c.in_ok-k.ensures.place.1 c.index.ensures in
     let there' = site_there c.args.self.now.sites.items k c.index_mut.result.now c.in_ok-k.ensures.place.1 c.index_mut.ensures.value in
     let passed : c.is_near.result ≡ true = cc in
-    let near = subst (λ (l : List _). IsNearAt l k (c.index.result.now.clock + c.args.seconds)) c.deref.ensures.value (c.is_near.ensures.0 passed) in
+    let near = subst (λ (l : List _). IsNearAt l k (c.index.result.now.clock + c.args.seconds)) c.deref.ensures.value
+    (c.is_near.ensures.0 passed) in
     let does = c.in_ok-k.ensures.there c' (λ k. unless_skewed db c' (tick_at c'.run.world.sites k c.args.seconds) (Tick k c.args.seconds))
     (cell_size g.D.Disk c.requires.0.clock c.args.self.now c' c.requires.1.steady stands) in
-    subst (λ (after : OpenCell _ _ _). CellTold g.D.Disk db given (λ choices. run_in db c' choices (line.Tick c.args.server c.args.seconds)) None c.args.self.now
+    subst (λ (after : OpenCell _ _ _). CellTold g.D.Disk db given
+    (λ choices. run_in db c' choices (line.Tick c.args.server c.args.seconds)) None c.args.self.now
     after text text)
     (ticked_so c.args.self.now k c.args.seconds c.index.result.now c.index_mut.result.now there there')
-    (tick_told g.D.Disk db c.requires.0.clock c.args.self.now c' k c.args.seconds c.index.result.now _ text c.requires.1.steady c.requires.2 stands there
+    (tick_told g.D.Disk db c.requires.0.clock c.args.self.now c' k c.args.seconds c.index.result.now _ text c.requires.1.steady
+    c.requires.2 stands there
     near does)
 
 pub returns-clause-sound : goal.returns-clause-sound
@@ -73,8 +80,10 @@ returns-clause-sound g c = λ is bounds still.
     let there = site_there c.args.self.now.sites.items k c.index.result.now c.in_ok-k.ensures.place.1 c.index.ensures in
     let there' = site_there c.args.self.now.sites.items k c.index_mut.result.now c.in_ok-k.ensures.place.1 c.index_mut.ensures.value in
     let passed : c.is_near.result ≡ true = cc in
-    let near = subst (λ (l : List _). IsNearAt l k (c.index.result.now.clock + c.args.seconds)) c.deref.ensures.value (c.is_near.ensures.0 passed) in
-    let fits = fits_at g.D.Disk c.requires.0.clock c.args.seconds c.args.self.now k c.index.result.now c.requires.1.steady c.requires.2 there in
+    let near = subst (λ (l : List _). IsNearAt l k (c.index.result.now.clock + c.args.seconds)) c.deref.ensures.value
+    (c.is_near.ensures.0 passed) in
+    let fits = fits_at g.D.Disk c.requires.0.clock c.args.seconds c.args.self.now k c.index.result.now c.requires.1.steady c.requires.2
+    there in
     let same = ticked_so c.args.self.now k c.args.seconds c.index.result.now c.index_mut.result.now there there' in
     record {
       steady = subst (λ (after : OpenCell _ _ _). IsSteady g.D.Disk (bounds.clock + c.args.seconds) after) same

@@ -16,14 +16,17 @@ tick_sites-requires g c = λ k site there.
 pub returns-clause-told : goal.returns-clause-told
 returns-clause-told g c = λ given c' text stands.
     let are = c.tick_sites.ensures ∙ ap (map (ticked_on c.args.seconds)) c.deref_mut.ensures.value in
-    all_told g.D.Disk (script_database g.V.DraftService.standing.database g.V.DraftWords.words) c.requires.0.clock c.args.self.now c.tick_sites.new.sites c'
+    all_told g.D.Disk (script_database g.V.DraftService.standing.database g.V.DraftWords.words) c.requires.0.clock c.args.self.now
+    c.tick_sites.new.sites c'
     c.args.seconds text are c.requires.1.steady c.requires.2 stands
 
 pub returns-clause-sound : goal.returns-clause-sound
 returns-clause-sound g c = λ bounds still.
     let are = c.tick_sites.ensures ∙ ap (map (ticked_on c.args.seconds)) c.deref_mut.ensures.value in
     record {
-      steady = all_sound g.D.Disk c.requires.0.clock bounds.clock c.args.self.now c.tick_sites.new.sites c.args.seconds are c.requires.1.steady c.requires.2
+      steady =
+          all_sound g.D.Disk c.requires.0.clock bounds.clock c.args.self.now c.tick_sites.new.sites c.args.seconds are
+          c.requires.1.steady c.requires.2
           still.steady;
       keeps = all_keeps g.V.DraftService.standing.database c.args.self.now c.tick_sites.new.sites c.args.seconds are still.keeps;
       calls = still.calls;

@@ -12,10 +12,12 @@ returns-clause-first c =
     let place = c.next_waiting-place.result in
     let seen : c.deref.result.now ≡ handed = c.deref.ensures.value in
     let next : (k : ℕ) → c.self.inside.low ≤ k → k < place → get_or handed k false ≡ true =
-    subst (λ (h : List Bool). (k : ℕ) → c.self.inside.low ≤ k → k < place → get_or h k false ≡ true) seen c.next_waiting-place.ensures.none in
+    subst (λ (h : List Bool). (k : ℕ) → c.self.inside.low ≤ k → k < place
+    → get_or h k false ≡ true) seen c.next_waiting-place.ensures.none in
     let none : NoneWaits handed place = none_upto handed c.self.inside.low place c.self.invariant.none next in
     let len : c.len.result ≡ length handed = omega (arith, c.len.ensures, c.self.inside.handed.ok.0) in
-    let is : first_waiting 1 handed ≡ first_waiting 1 c.args.self.now.handed = ap (λ (t : Traffic). first_waiting 1 t.handed) c.self.view_is in
+    let is : first_waiting 1 handed ≡ first_waiting 1 c.args.self.now.handed = ap
+    (λ (t : Traffic). first_waiting 1 t.handed) c.self.view_is in
     let end : place ≤ length handed = subst (λ (h : List Bool). place ≤ length h) seen c.next_waiting-place.ensures.end in
     let waits : place < length handed → get_or handed place true ≡ false =
     subst (λ (h : List Bool). place < length h → get_or h place true ≡ false) seen c.next_waiting-place.ensures.waits in

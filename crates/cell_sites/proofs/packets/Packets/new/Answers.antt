@@ -12,7 +12,8 @@ loop-host-preserved c =
     let P : Swept → Type 0 = λ s. s.below ≤ 0 in
     let Q : Swept → Type 0 = λ s. HasSwept [] [] s.host s.below in (
       All-same P _ _ c.in_ok-push.ensures.items (All-push P c.loop-host.swept.items _ c.loop-host.invariant.0 (omega arith)),
-      All-same Q _ _ c.in_ok-push.ensures.items (All-push Q c.loop-host.swept.items _ c.loop-host.invariant.1 (λ k p lt there is. absurd (omega arith))),
+      All-same Q _ _ c.in_ok-push.ensures.items
+          (All-push Q c.loop-host.swept.items _ c.loop-host.invariant.1 (λ k p lt there is. absurd (omega arith))),
     )
 
 pub invariant_of-result : goal.invariant_of-result
@@ -28,5 +29,7 @@ invariant_of-result c =
       low = omega arith;
       none = λ k lt. absurd (omega arith);
       within = subst (λ (s : List Packet). AreWithin (length s) c.loop-host.swept.items) (sym sent) c.loop-host.invariant.0;
-      swept = subst (λ (s : List Packet). A s c.new-2.result.items) (sym sent) (subst (λ (h : List Bool). A [] h) (sym handed) c.loop-host.invariant.1);
+      swept =
+          subst (λ (s : List Packet). A s c.new-2.result.items) (sym sent)
+          (subst (λ (h : List Bool). A [] h) (sym handed) c.loop-host.invariant.1);
     }

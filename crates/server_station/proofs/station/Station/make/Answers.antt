@@ -10,7 +10,8 @@ pub invariant_of-result-clause-numbered : goal.invariant_of-result-clause-number
 invariant_of-result-clause-numbered g c = subst (λ (items : List JournalItem). are_numbered 0 items ≡ true) (sym c.requires.empty) refl
 
 pub invariant_of-result-clause-taken : goal.invariant_of-result-clause-taken
-invariant_of-result-clause-taken g c = subst (λ (items : List JournalItem). are_taken (own_member c.args.node) items ≡ true) (sym c.requires.empty) refl
+invariant_of-result-clause-taken g c =
+    subst (λ (items : List JournalItem). are_taken (own_member c.args.node) items ≡ true) (sym c.requires.empty) refl
 
 pub invariant_of-result-clause-opened : goal.invariant_of-result-clause-opened
 invariant_of-result-clause-opened g c = subst (λ node. IsJustOpened node) (sym c.of-past.ensures.opened) c.requires.opened
@@ -21,5 +22,7 @@ invariant_of-result-clause-member g c = ap (λ node. own_member node) (sym c.of-
 pub invariant_of-result-clause-replays : goal.invariant_of-result-clause-replays
 invariant_of-result-clause-replays g c =
     let node = c.args.node in
-    replays_at g.D.Disk g.V.DraftService.standing node c.of-past.result.opened.value node [] (g.J.Keeper.items c.args.journal) [] c.of-past.result.outputs.value
-    c.of-past.ensures.opened c.requires.empty c.of-past.ensures.outputs (replays_none g.D.Disk g.V.DraftService.standing node c.requires.opened)
+    replays_at g.D.Disk g.V.DraftService.standing node c.of-past.result.opened.value node []
+    (g.J.Keeper.items c.args.journal) [] c.of-past.result.outputs.value
+    c.of-past.ensures.opened c.requires.empty c.of-past.ensures.outputs
+    (replays_none g.D.Disk g.V.DraftService.standing node c.requires.opened)

@@ -29,8 +29,11 @@ returns-in-Ok-Ask-clause-turned g c =
     let after = seen is.recorded.node (g.J.Keeper.items is.recorded.journal) is.askers is.recorded.past.outputs.value in
     let P : Result Frame FrameFault → Type 0 =
     λ r. Turned g.D.Disk g.V.DraftService.standing (g.J.Keeper.limits was.recorded.journal)
-    (act_of_frame (own_member was.recorded.node) (asks_of items) c.args.peer r) now before after c.step_for-in-Ok-Ask.new.out c.step_for-in-Ok-Ask.result in
+    (act_of_frame (own_member was.recorded.node) (asks_of items) c.args.peer r) now before after c.step_for-in-Ok-Ask.new.out
+    c.step_for-in-Ok-Ask.result in
     let exact : frame_of c.args.frame.now ≡ Ok (frames.Ask c.in-Ok-Ask.number c.in-Ok-Ask.call) = search rules in
     subst P (sym exact)
-    (asked_next g.D.Disk g.V.DraftService.standing (g.J.Keeper.limits was.recorded.journal) c.in-Ok-Ask.call c.args.peer c.in-Ok-Ask.number now
-    c.next_id-id.result before after c.step_for-in-Ok-Ask.new.out c.step_for-in-Ok-Ask.result c.next_id-id.ensures c.step_for-in-Ok-Ask.ensures.turned)
+    (asked_next g.D.Disk g.V.DraftService.standing
+    (g.J.Keeper.limits was.recorded.journal) c.in-Ok-Ask.call c.args.peer c.in-Ok-Ask.number now
+    c.next_id-id.result before after c.step_for-in-Ok-Ask.new.out c.step_for-in-Ok-Ask.result c.next_id-id.ensures
+    c.step_for-in-Ok-Ask.ensures.turned)

@@ -17,8 +17,10 @@ returns-clause-told g c = λ goes given line t long at good.
     let after = string_bytes c.end.new.text in
     subst (λ (r : Result (Unit {0}) RunEnd). LineTold g.D.Disk dbs given line t r run before after) (sym ended.0)
     (end_told g.D.Disk dbs given run t c.requires.sound at line c.long_ending-ending.result before after
-    (c.long_ending-ending.ensures dbs t.stage (record { line = line; choices = sound_choices }) (omega (arith, at.stage.lines)) long) ended.1)
+    (c.long_ending-ending.ensures dbs t.stage (record { line = line; choices = sound_choices }) (omega (arith, at.stage.lines)) long)
+    ended.1)
 
 pub returns-clause-short : goal.returns-clause-short
 returns-clause-short g c = λ none given line t at.
-    end_short g.D.Disk (only (script_database g.V.DraftService.standing.database g.V.DraftWords.words)) given c.args.self.now t c.requires.sound at line
+    end_short g.D.Disk (only (script_database g.V.DraftService.standing.database g.V.DraftWords.words)) given c.args.self.now t
+    c.requires.sound at line

@@ -36,7 +36,8 @@ returns-in_err-opened-in-None-clause-done g c = λ kind.
     let none : run.cell ≡ None = sym c.replace.ensures.value ∙ c.in-None.is in
     handed_on (λ r. LineDone g.D.Disk db (line.Cell c.args.servers c.args.clock kind) r run after text later)
     c.from_residual-in_err-opened-in-None.result NoMemory c.from_residual-in_err-opened-in-None.ensures.1
-    (opened_short g.D.Disk db c.args.servers c.args.clock kind run c.open_servers-opened.new.cell after c.replace.ensures.after none refl refl
+    (opened_short g.D.Disk db c.args.servers c.args.clock kind run c.open_servers-opened.new.cell after c.replace.ensures.after none refl
+    refl
     text later c.open_servers-opened.ensures.unwritten
     (rest_empty g.D.Disk.files run.spare.items after.spare.items _ c.open_servers-opened.ensures.spare c.requires.sound.spare)
     c.open_servers-opened.ensures.spare)
@@ -51,12 +52,16 @@ returns-clause-done g c = λ kind.
     let none : run.cell ≡ None = sym c.replace.ensures.value ∙ c.in-None.is in
     let given = take c.args.servers run.spare.items in
     let no_sites : sites_in run.cell ≡ 0 = ap sites_in none in
-    let count : length given ≡ c.args.servers = taken_count run.spare.items c.args.servers (omega (arith, c.requires.few, c.requires.sound.disks, no_sites)) in
-    let hosts : c.open_servers-opened.new.cell.hosts.items ≡ hosts_of c.args.servers = c.open_servers-opened.ensures.hosts ∙ c.in_ok-cell.ensures.hosts in
-    let all : length given ≡ length c.open_servers-opened.new.cell.hosts.items = count ∙ sym (ap length hosts ∙ hosts_count c.args.servers) in
+    let count : length given ≡ c.args.servers = taken_count run.spare.items c.args.servers
+    (omega (arith, c.requires.few, c.requires.sound.disks, no_sites)) in
+    let hosts : c.open_servers-opened.new.cell.hosts.items ≡ hosts_of c.args.servers = c.open_servers-opened.ensures.hosts
+    ∙ c.in_ok-cell.ensures.hosts in
+    let all : length given ≡ length c.open_servers-opened.new.cell.hosts.items = count
+    ∙ sym (ap length hosts ∙ hosts_count c.args.servers) in
     opened_line g.D.Disk db c.args.servers c.args.clock kind run c.open_servers-opened.new.cell after c.replace.ensures.after none refl refl
     text later count
-    (c.law_cell_opened.ensures db c.args.clock kind given c.open_servers-opened.new.cell text later c.requires.moment c.open_servers-opened.ensures.room all
+    (c.law_cell_opened.ensures db c.args.clock kind given c.open_servers-opened.new.cell text later c.requires.moment
+    c.open_servers-opened.ensures.room all
     c.in_ok-opened-in-None.ensures.opened) hosts
     (rest_empty g.D.Disk.files run.spare.items after.spare.items _ c.open_servers-opened.ensures.spare c.requires.sound.spare)
     (c.open_servers-opened.ensures.spare ∙ ap (λ n. drop n run.spare.items) c.in_ok-opened-in-None.ensures.all)
@@ -71,13 +76,18 @@ returns-clause-kept g c =
     let none : run.cell ≡ None = sym c.replace.ensures.value ∙ c.in-None.is in
     let given = take c.args.servers run.spare.items in
     let no_sites : sites_in run.cell ≡ 0 = ap sites_in none in
-    let count : length given ≡ c.args.servers = taken_count run.spare.items c.args.servers (omega (arith, c.requires.few, c.requires.sound.disks, no_sites)) in
-    let hosts : c.open_servers-opened.new.cell.hosts.items ≡ hosts_of c.args.servers = c.open_servers-opened.ensures.hosts ∙ c.in_ok-cell.ensures.hosts in
-    let all : length given ≡ length c.open_servers-opened.new.cell.hosts.items = count ∙ sym (ap length hosts ∙ hosts_count c.args.servers) in
+    let count : length given ≡ c.args.servers = taken_count run.spare.items c.args.servers
+    (omega (arith, c.requires.few, c.requires.sound.disks, no_sites)) in
+    let hosts : c.open_servers-opened.new.cell.hosts.items ≡ hosts_of c.args.servers = c.open_servers-opened.ensures.hosts
+    ∙ c.in_ok-cell.ensures.hosts in
+    let all : length given ≡ length c.open_servers-opened.new.cell.hosts.items = count
+    ∙ sym (ap length hosts ∙ hosts_count c.args.servers) in
     let opened = c.law_cell_opened.ensures db c.args.clock Protection given c.open_servers-opened.new.cell text later c.requires.moment
     c.open_servers-opened.ensures.room all c.in_ok-opened-in-None.ensures.opened in
-    opened_keeps g.D.Disk db c.args.servers c.args.clock Protection run c.open_servers-opened.new.cell after c.replace.ensures.after none refl refl
-    (Ok tt) c.requires.sound c.requires.room (omega (arith, c.open_servers-opened.ensures.few, c.requires.few)) c.open_servers-opened.ensures.spare
+    opened_keeps g.D.Disk db c.args.servers c.args.clock Protection run c.open_servers-opened.new.cell after c.replace.ensures.after none
+    refl refl
+    (Ok tt) c.requires.sound c.requires.room
+    (omega (arith, c.open_servers-opened.ensures.few, c.requires.few)) c.open_servers-opened.ensures.spare
     (λ done. opened.sound) c.requires.early
 
 -- ---- nothing stays pending
@@ -90,10 +100,12 @@ returns-in_err-cell-clause-settled g c = run_settled g.D.Disk c.args.self.now c.
 
 pub returns-in_err-opened-in-None-clause-settled : goal.returns-in_err-opened-in-None-clause-settled
 returns-in_err-opened-in-None-clause-settled g c =
-    opened_settled g.D.Disk c.replace.new.self c.open_servers-opened.new.cell c.args.self.now.spare.items c.open_servers-opened.new.spare.items _
+    opened_settled g.D.Disk c.replace.new.self c.open_servers-opened.new.cell c.args.self.now.spare.items
+    c.open_servers-opened.new.spare.items _
     c.replace.ensures.after c.open_servers-opened.ensures.settled c.open_servers-opened.ensures.spare c.requires.sound.settled
 
 pub returns-clause-settled : goal.returns-clause-settled
 returns-clause-settled g c =
-    opened_settled g.D.Disk c.replace.new.self c.open_servers-opened.new.cell c.args.self.now.spare.items c.open_servers-opened.new.spare.items _
+    opened_settled g.D.Disk c.replace.new.self c.open_servers-opened.new.cell c.args.self.now.spare.items
+    c.open_servers-opened.new.spare.items _
     c.replace.ensures.after c.open_servers-opened.ensures.settled c.open_servers-opened.ensures.spare c.requires.sound.settled

@@ -17,7 +17,8 @@ returns-in-Nothing-clause-done g c =
 
 pub returns-in-Nothing-clause-kept : goal.returns-in-Nothing-clause-kept
 returns-in-Nothing-clause-kept g c =
-    nothing_keeps g.D.Disk (script_database g.V.DraftService.standing.database g.V.DraftWords.words) c.args.self.now c.requires.sound c.requires.room
+    nothing_keeps g.D.Disk
+    (script_database g.V.DraftService.standing.database g.V.DraftWords.words) c.args.self.now c.requires.sound c.requires.room
 
 pub returns-in-Some : goal.returns-in-Some
 returns-in-Some g c =
@@ -38,12 +39,15 @@ returns-in-Some g c =
       | inr (inr (inr (inr (inr (inr (inr (inr (inr (inr (inr a)))))))))) ↦ no _ a.1 tt
     ] in
     record {
-      done = lifted g.D.Disk (script_database g.V.DraftService.standing.database g.V.DraftWords.words) c.args.line.now run c.in-Some.cell c.run_in_cell.new.cell
+      done =
+          lifted g.D.Disk (script_database g.V.DraftService.standing.database g.V.DraftWords.words) c.args.line.now run c.in-Some.cell
+          c.run_in_cell.new.cell
           c.run_in_cell.result (string_bytes c.args.text.now) (string_bytes c.run_in_cell.new.text) no_ask c.in-Some.is c.requires.sound
           c.run_in_cell.ensures.done c.run_in_cell.ensures.kept;
       kept = kept_line g.D.Disk c.run_in_cell.result run c.in-Some.cell c.run_in_cell.new.cell c.in-Some.is c.requires.sound c.requires.room
           c.run_in_cell.ensures.kept;
-      settled = joined_settled g.D.Disk (Some c.run_in_cell.new.cell) run.spare.items c.run_in_cell.ensures.settled c.requires.sound.settled;
+      settled =
+          joined_settled g.D.Disk (Some c.run_in_cell.new.cell) run.spare.items c.run_in_cell.ensures.settled c.requires.sound.settled;
     }
 
 pub returns-in-Nothing-clause-settled : goal.returns-in-Nothing-clause-settled
