@@ -26,15 +26,24 @@ def protection_image(users, members=0):
     return head + b"".join([*(person(*it) for it in FIXED), *people, *group])
 
 
-def volume(number):
-    """The block of an entry with this read-write id, and one site at the first address."""
-    numbers = struct.pack(">9I", 1, 0x1000, number, 0, 0, 0, 0, 0, 1)
-    name = f"v{number}".encode().ljust(64, b"\0")
+def volume(number, by_name, by_id):
+    """The block of an entry with this read-write id, one site at the first address, and the next words of its two chains."""
+    numbers = struct.pack(">9I", 1, 0x1000, number, 0, 0, 0, 0, 0, 1) + struct.pack(">2I", by_name, by_id)
     sites = b"".join(bytes([first]).ljust(13, b"\0") for first in (1, 0, 4))
-    return (numbers.ljust(52, b"\0") + name + sites).ljust(192, b"\0")
+    return (numbers.ljust(52, b"\0") + volume_name(number).ljust(64, b"\0") + sites).ljust(192, b"\0")
+
+
+def volume_name(number):
+    return f"v{number}".encode()
 
 
 def location_image(entries):
-    """An image of the location database with so many entries, and one address."""
+    """An image of the location database with so many entries, made one after the other, and one address. Each stands in front of the chain
+    of its name (the sum of its bytes) and of its id."""
+    names, ids, blocks = [0] * 256, [0] * 256, []
+    for number in range(1, entries + 1):
+        name, key = sum(volume_name(number)) % 256, number % 256
+        blocks.append(volume(number, names[name], ids[key]))
+        names[name], ids[key] = number, 4 * number
     head = struct.pack(">IIII", 0x564C4442, 1, 0x20000000, entries).ljust(64, b"\0") + struct.pack(">I", 0x0A000001)
-    return head.ljust(3132, b"\0") + b"".join(volume(n) for n in range(1, entries + 1))
+    return head.ljust(1084, b"\0") + struct.pack(">512I", *names, *ids) + b"".join(blocks)
