@@ -4,12 +4,14 @@ pub mod Changed
 pub mod Clauses
 pub mod Counted
 pub mod Ended
+pub mod Entered
 pub mod First
 pub mod Framed
 pub mod Free
 pub mod FreeClauses
 pub mod Freed
 pub mod Kept
+pub mod Leaving
 pub mod Listed
 pub mod Others
 pub mod Paths

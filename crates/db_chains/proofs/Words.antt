@@ -131,3 +131,12 @@ is_link (Some image) l len count w place number mark block told size stands name
           (eq-eqb (word_at image (mark_place l w)) l.mark (sym here ∙ same));
       block = read ∙ ap (block_in l.head image) got.1;
     }
+
+-- a word that names a block with the mark may stand in a chain
+pub right_from : (l : Links) (image : List ℕ) (count w : ℕ) → block_count l.head image ≡ count → 0 < w / l.step → w / l.step ≤ count
+    → w % l.step < l.kinds → word_at image (mark_place l w) ≡ l.mark → is_right l image w ≡ true
+unfolding is_right
+right_from l image count w is some within kind mark =
+    and_from (names_block l (block_count l.head image) w) (word_at image (mark_place l w) == l.mark)
+    (names_from l (block_count l.head image) w record { some = some; block = omega arith; kind = kind })
+    (eq-eqb (word_at image (mark_place l w)) l.mark mark)

@@ -1,7 +1,10 @@
+pub mod Along
 pub mod Chains
 pub mod Changes
 pub mod Ends
 pub mod Free
 pub mod Links
 pub mod Others
+pub mod Sought
+pub mod Visits
 pub mod Walks

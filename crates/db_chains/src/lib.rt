@@ -15,5 +15,5 @@ pub use laws::{
     law_chains_stay_where_a_block_is_taken, law_other_chains_stay, law_other_sorts_stay,
 };
 pub use links::Links;
-pub use lists::words_of;
+pub use lists::read_along;
 pub use walks::{Link, Stop, StopAt, find};

@@ -13,11 +13,12 @@ use Rattle.db_chains.specs.Links.{AreLinks, block_of, next_place}
 use Rattle.db_chains.specs.Others.{NamesSame}
 use Rattle.db_chains.proofs.Framed.{named_stays}
 use Rattle.db_chains.proofs.Words.{right_names}
+use Rattle.db_chains.specs.Visits.{Visits}
 use Rattle.vldb_chains.specs.Places.{free_blocks, id_links, name_links}
 use Rattle.vldb_entries.specs.Forms.{block_at, blocks_in}
 use Rattle.vldb_entries.proofs.HeadRead.{length-zeros}
 use Rattle.vldb_records.proofs.Fields.{blanked_len}
-use Rattle.vldb_records.specs.Records.{HasFree, IsFree, Visits, blanked, unlinked_head}
+use Rattle.vldb_records.specs.Records.{HasFree, IsFree, blanked, unlinked_head}
 
 -- ---- bytes laid beside one another
 

@@ -8,6 +8,7 @@ use Rattle.db_blocks.proofs.BlockPlaces.{changed_laid, laid}
 use Rattle.db_blocks.proofs.Maps.{some_same, under_other, under_same}
 use Rattle.db_chains.specs.Free.{next_number, with_taken}
 use Rattle.db_chains.proofs.Words.{in_block}
+use Rattle.db_chains.proofs.Entered.{visits_as}
 use Rattle.vldb_chains.specs.Keys.{id_key, name_key}
 use Rattle.vldb_chains.specs.Places.{free_blocks, id_links, name_links}
 use Rattle.vldb_entries.specs.declared.entries.VlEntry.{VlEntry}
@@ -21,7 +22,7 @@ use Rattle.vldb_records.proofs.Fields.{block_len, free_kind, number_stays}
 use Rattle.vldb_records.proofs.HeadTold.{laid_addresses}
 use Rattle.vldb_records.proofs.Held.{holds_from}
 use Rattle.vldb_records.proofs.Lookups.{is_false}
-use Rattle.vldb_records.proofs.Stages.{AlsoIds, AlsoName, IsOwnBlock, IsStage, stage_entered, visits_as}
+use Rattle.vldb_records.proofs.Stages.{AlsoIds, AlsoName, IsOwnBlock, IsStage, stage_entered}
 use Rattle.vldb_records.proofs.Stays.{KeepsForms, count_same, keeps_none, whole_on}
 use Rattle.vldb_records.proofs.Taken.{IsBase, is_base}
 

@@ -16,7 +16,7 @@ use Rattle.vldb_entries.specs.Forms.{block_at, blocks_in, kind_of}
 use Rattle.vldb_records.specs.Records.{unlinked, unlinked_head}
 use Rattle.vldb_records.proofs.Fields.{block_len, number_stays}
 use Rattle.vldb_records.proofs.HeadSet.{ids_are, name_are}
-use Rattle.vldb_records.proofs.Leaving.{Stands, in_front, place_kind}
+use Rattle.db_chains.proofs.Leaving.{Stands, in_front, place_kind}
 use Rattle.vldb_records.proofs.Stays.{count_same, keeps_block, keeps_head, whole_on}
 
 -- The image is another one only in the words of chains: in its head, and in entries' blocks.

@@ -11,16 +11,18 @@ use Rattle.db_chains.specs.Links.{next_place}
 use Rattle.db_chains.proofs.Apart.{blocks_apart}
 use Rattle.db_chains.proofs.Bytes.{IsApart}
 use Rattle.db_chains.proofs.Words.{right_names}
+use Rattle.db_chains.specs.Visits.{Visits}
+use Rattle.db_chains.proofs.Entered.{visits_as}
 use Rattle.vldb_chains.specs.Keys.{id_chain, id_key, name_chain, name_key}
 use Rattle.vldb_chains.specs.Places.{free_blocks, id_links, name_links}
 use Rattle.vldb_entries.specs.Forms.{blocks_in, name_in}
-use Rattle.vldb_records.specs.Records.{Visits, id_place, name_place}
+use Rattle.vldb_records.specs.Records.{id_place, name_place}
 use Rattle.vldb_records.specs.Changes.{left, without_id}
 use Rattle.vldb_records.specs.Ends.{HasIdWord}
 use Rattle.vldb_records.proofs.HeadSet.{free_are, ids_are, name_are}
 use Rattle.vldb_records.proofs.Kept.{KeepsEntries, entries_then, ids_entries, keeps_out, names_entries, word_out}
-use Rattle.vldb_records.proofs.Leaving.{stands, take_keyed, take_other_sort}
-use Rattle.vldb_records.proofs.Stages.{ids_apart, ids_free, ids_names, names_apart, names_free, names_ids, visits_as}
+use Rattle.db_chains.proofs.Leaving.{stands, take_keyed, take_other_sort, take_other_visits}
+use Rattle.vldb_records.proofs.Stages.{ids_apart, ids_free, ids_names, names_apart, names_free, names_ids}
 use Rattle.vldb_records.proofs.Stays.{count_same, whole_on}
 
 -- words of ids that stand in no chain, of blocks of an old image
@@ -71,15 +73,10 @@ step_name U fs old N D image key n are step low belongs one =
       names = take_keyed name_links image name_place key n N name_are (λ j below. omega arith) names_apart long one low
           belongs s step.names;
       ids = λ j below.
-          let v = step.ids j below in record {
-            words = v.words;
-            chain = take_other_sort name_links id_links image at (id_place j) n (N key) v.words name_are ids_are
-                (names_ids key j low below) (omega arith) (omega arith) long s v.chain;
-            only = v.only;
-            each = v.each;
-          };
+          take_other_visits name_links id_links image at (id_place j) n (N key) (D j) name_are ids_are (names_ids key j low below) (inl (omega arith))
+          (omega (arith, long)) (omega (arith, long, below)) s (step.ids j below);
       free = take_other_sort name_links (free_links free_blocks) image at 16 n (N key) fs name_are free_are (names_free key low)
-          (omega arith) (omega arith) long s step.free;
+          (inl (omega arith)) (omega (arith, long)) (omega (arith, long)) s step.free;
       unused = λ w is.
           let some = are.some w is in
           let inside = are.within w is in
@@ -106,17 +103,12 @@ step_out U fs old N D image key n are step low belongs one never =
       kept = entries_then old image (without id_links at n image) are.whole step.kept
           (keeps_out id_links image at n (D key) ids_entries whole (omega arith) (omega arith) s);
       names = λ j below.
-          let v = step.names j below in record {
-            words = v.words;
-            chain = take_other_sort id_links name_links image at (name_place j) n (D key) v.words ids_are name_are
-                (ids_names key j low below) (omega arith) (omega arith) long s v.chain;
-            only = v.only;
-            each = v.each;
-          };
+          take_other_visits id_links name_links image at (name_place j) n (D key) (N j) ids_are name_are (ids_names key j low below) (inl (omega arith))
+          (omega (arith, long)) (omega (arith, long, below)) s (step.names j below);
       ids = take_keyed id_links image id_place key n D ids_are (λ j below. omega arith) ids_apart long one low
           belongs s step.ids;
       free = take_other_sort id_links (free_links free_blocks) image at 16 n (D key) fs ids_are free_are (ids_free key low)
-          (omega arith) (omega arith) long s step.free;
+          (inl (omega arith)) (omega (arith, long)) (omega (arith, long)) s step.free;
       unused = λ w is.
           let some = are.some w is in
           let inside = are.within w is in

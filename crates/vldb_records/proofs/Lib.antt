@@ -1,6 +1,5 @@
 pub mod Becoming
 pub mod Empty
-pub mod Entered
 pub mod Fields
 pub mod Grown
 pub mod HeadSet
@@ -9,7 +8,6 @@ pub mod Held
 pub mod InsertClauses
 pub mod Inserted
 pub mod Kept
-pub mod Leaving
 pub mod Left
 pub mod Listed
 pub mod Lookups

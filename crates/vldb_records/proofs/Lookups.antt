@@ -31,7 +31,8 @@ use Rattle.vldb_entries.specs.Forms.{addresses_in, block_at, blocks_in, entry_in
 use Rattle.vldb_entries.proofs.EntryAgain.{backup_again, entry_again, kind_again, name_again, ro_again, rw_again}
 use Rattle.vldb_records.specs.Records.{Holds, IsBlockOf, IsFree, IsLaidOut, id_of, unlinked}
 use Rattle.vldb_records.specs.Ends.{HoldsSome}
-use Rattle.vldb_records.specs.Sought.{EndsChain, IsInChain, IsRead}
+use Rattle.db_chains.specs.Sought.{EndsChain, IsInChain}
+use Rattle.vldb_records.specs.Sought.{IsRead}
 use Rattle.vldb_records.proofs.Fields.{block_len, entry_stays, free_kind, name_stays, number_stays}
 use Rattle.vldb_entries.proofs.HeadRead.{whole_empty, whole_same}
 use Rattle.vldb_records.proofs.Empty.{first_word}

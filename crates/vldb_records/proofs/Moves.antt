@@ -7,6 +7,7 @@ use Rattle.db_image.specs.declared.faults.RecordFault.{RecordFault}
 use Rattle.db_blocks.specs.Blocks.{word_at}
 use Rattle.db_blocks.specs.Ends.{HasCause}
 use Rattle.db_chains.specs.Ends.{HasWord}
+use Rattle.db_chains.proofs.Entered.{visits_as}
 use Rattle.vldb_chains.specs.Keys.{id_key, name_chain, name_key}
 use Rattle.vldb_chains.specs.Places.{id_links, name_links}
 use Rattle.vldb_entries.specs.declared.entries.VlEntry.{VlEntry}
@@ -22,7 +23,6 @@ use Rattle.vldb_records.proofs.Left.{IsStep, id_in, id_there}
 use Rattle.vldb_records.proofs.Moving.{IdWords, IsMoving, NameWords, NoWords, moved_id, moved_name, none_are, own_word}
 use Rattle.vldb_records.proofs.RemoveClauses.{cause_at, cause_so, has_name}
 use Rattle.vldb_records.proofs.Removed.{IsUnused, first_step, id_told, number_same, own_kind}
-use Rattle.vldb_records.proofs.Stages.{visits_as}
 
 pub moving : (n : ℕ) (block image : List ℕ) (h : HasEntry n block image) → IsMoving h.state image n
 moving n block image h = record {

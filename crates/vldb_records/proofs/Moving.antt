@@ -14,6 +14,8 @@ use Rattle.db_chains.proofs.Apart.{blocks_apart}
 use Rattle.db_chains.proofs.Bytes.{word_here, word_len}
 use Rattle.db_chains.proofs.Changed.{behind_free, head_free, next_within, stands_behind}
 use Rattle.db_chains.proofs.Framed.{block_mark}
+use Rattle.db_chains.proofs.Entered.{put_keyed, put_other_sort, put_other_visits, visits_as}
+use Rattle.db_chains.proofs.Words.{right_from}
 use Rattle.vldb_chains.specs.Keys.{id_key, name_key}
 use Rattle.vldb_chains.specs.Places.{free_blocks, id_links, name_links}
 use Rattle.vldb_entries.specs.Location.{IsLocation, Location}
@@ -21,13 +23,12 @@ use Rattle.vldb_entries.specs.declared.entries.VlEntry.{VlEntry}
 use Rattle.vldb_entries.specs.Forms.{block_at, blocks_in, kind_of}
 use Rattle.vldb_records.specs.Records.{IsIdWord, IsLaidOut, IsNameWord, id_of, id_place, name_place}
 use Rattle.vldb_records.specs.Changes.{first_by_id, id_moved, name_moved, without_id}
-use Rattle.vldb_records.proofs.Entered.{put_keyed, put_other_sort}
 use Rattle.vldb_records.proofs.HeadSet.{free_are, ids_are, name_are}
 use Rattle.vldb_records.proofs.Kept.{KeepsEntries, entries_then, kind_stays}
-use Rattle.vldb_records.proofs.Leaving.{stands}
+use Rattle.db_chains.proofs.Leaving.{stands}
 use Rattle.vldb_records.proofs.Left.{AreInOne, AreUnused, IsStep, Less, step_id, step_name, words_apart}
 use Rattle.vldb_records.proofs.Removed.{IsUnused, number_same}
-use Rattle.vldb_records.proofs.Stages.{ids_apart, ids_free, ids_names, names_apart, names_free, names_ids, right_from, visits_as}
+use Rattle.vldb_records.proofs.Stages.{ids_apart, ids_free, ids_names, names_apart, names_free, names_ids}
 use Rattle.vldb_records.proofs.Stays.{KeepsForms, count_same, keeps_put_in, whole_on, word_put_in}
 
 -- ---- which words stand in the chains
@@ -280,13 +281,8 @@ entered_id s old n fs N ids other image kind w m low block rest zero_id some sam
       kept = entries_then old image new m.lies.size step.kept (as_entries k image new kind_is
           (keeps_put_in id_links image at w k (40 + 4 * kind) whole below (omega arith) first place (omega arith) (omega arith)));
       names = λ j less.
-          let v = step.names j less in record {
-            words = v.words;
-            chain = put_other_sort id_links name_links image at (name_place j) w chain.words v.words ids_are name_are
-                (ids_names key j key_low less) first (omega arith) long right chain.chain v.chain;
-            only = v.only;
-            each = v.each;
-          };
+          put_other_visits id_links name_links image at (name_place j) w chain.words (N j) ids_are name_are (ids_names key j key_low less)
+          (inl first) (omega (arith, long)) (omega (arith, long, less)) right chain.chain (step.names j less);
       ids = λ j less.
           visits_as id_links new (id_place j) (λ v. D j v ⊎ ((j ≡ key) × (v ≡ w))) (IdWords s old n other j)
           (λ v in_chain. ⊎_elim
@@ -307,7 +303,7 @@ entered_id s old n fs N ids other image kind w m low block rest zero_id some sam
           (put_keyed id_links image id_place key w D ids_are (λ i l. omega arith) ids_apart long right
           (λ i has. no_word s old n ids i w kind zero_id has block rest) key_low step.ids j less);
       free = put_other_sort id_links (free_links free_blocks) image at 16 w chain.words fs ids_are free_are (ids_free key key_low)
-          first (omega arith) long right chain.chain step.free;
+          (inl first) (omega (arith, long)) (omega (arith, long)) right chain.chain step.free;
       unused = λ v is.
           let apart : v ≢ w = λ here. a_word s old n other v kind some is (omega (arith, here, block)) (omega (arith, here, rest)) in
           let was = none_as s old n other ids v
@@ -394,15 +390,10 @@ names_in s old n U fs a b D image m are step =
           (put_keyed name_links image name_place key n N name_are (λ i l. omega arith) names_apart long right
           (λ i has. has.1 refl) key_low step.names j less);
       ids = λ j less.
-          let v = step.ids j less in record {
-            words = v.words;
-            chain = put_other_sort name_links id_links image at (id_place j) n chain.words v.words name_are ids_are
-                (names_ids key j key_low less) first (omega arith) long right chain.chain v.chain;
-            only = v.only;
-            each = v.each;
-          };
+          put_other_visits name_links id_links image at (id_place j) n chain.words (D j) name_are ids_are (names_ids key j key_low less)
+          (inl first) (omega (arith, long)) (omega (arith, long, less)) right chain.chain (step.ids j less);
       free = put_other_sort name_links (free_links free_blocks) image at 16 n chain.words fs name_are free_are (names_free key key_low)
-          first (omega arith) long right chain.chain step.free;
+          (inl first) (omega (arith, long)) (omega (arith, long)) right chain.chain step.free;
       unused = λ w is.
           let some_w = are.some w is in
           let in_w = are.within w is in

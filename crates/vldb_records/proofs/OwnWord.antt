@@ -19,7 +19,7 @@ use Rattle.vldb_entries.specs.Location.{Location, has_id}
 use Rattle.vldb_entries.specs.Forms.{block_at, blocks_in, has_id_in, kind_of, whole}
 use Rattle.vldb_records.specs.Changes.{word_of_id}
 use Rattle.vldb_records.specs.Records.{Holds, IsBlockOf, IsNumberOf, id_of, unlinked}
-use Rattle.vldb_records.specs.Sought.{IsInChain}
+use Rattle.db_chains.specs.Sought.{IsInChain}
 use Rattle.vldb_records.proofs.Fields.{block_len}
 use Rattle.vldb_records.proofs.HeadSet.{ids_are}
 use Rattle.vldb_records.proofs.Inserted.{own_id}

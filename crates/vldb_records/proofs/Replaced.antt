@@ -5,6 +5,8 @@ use Rattle.db_blocks.specs.Blocks.{block_place, word_at}
 use Rattle.db_blocks.proofs.Maps.{some_same, under_other, under_same}
 use Rattle.db_chains.specs.Links.{next_place}
 use Rattle.db_chains.proofs.Words.{in_block}
+use Rattle.db_chains.specs.Visits.{Visits}
+use Rattle.db_chains.proofs.Entered.{visits_as}
 use Rattle.vldb_chains.specs.Keys.{id_key, name_key}
 use Rattle.vldb_chains.specs.Places.{id_links, name_links}
 use Rattle.vldb_entries.specs.declared.entries.VlEntry.{VlEntry}
@@ -12,7 +14,7 @@ use Rattle.vldb_entries.specs.Location.{IsLocation, IsRecord, Location, MayEnter
 use Rattle.vldb_entries.specs.Forms.{block_at, block_of, blocks_in, head_of, kind_of}
 use Rattle.vldb_entries.proofs.EntryAgain.{length-block}
 use Rattle.vldb_entries.proofs.Locations.{each_without, location_entered}
-use Rattle.vldb_records.specs.Records.{HasFree, IsBlockOf, IsFree, IsIdWord, IsLaidOut, IsNameWord, IsNumberOf, Visits, id_of, id_place, name_place, unlinked, unlinked_head}
+use Rattle.vldb_records.specs.Records.{HasFree, IsBlockOf, IsFree, IsIdWord, IsLaidOut, IsNameWord, IsNumberOf, id_of, id_place, name_place, unlinked, unlinked_head}
 use Rattle.vldb_records.specs.Changes.{moved, with_fields}
 use Rattle.vldb_records.specs.Ends.{HasEntry}
 use Rattle.vldb_records.proofs.Fields.{block_len, free_kind}
@@ -22,7 +24,6 @@ use Rattle.vldb_records.proofs.Lookups.{is_false}
 use Rattle.vldb_records.proofs.Moves.{ids_0, step_4}
 use Rattle.vldb_records.proofs.Moving.{IdWords, NameWords, NoWords}
 use Rattle.vldb_records.proofs.Removed.{IsUnused, own_kind}
-use Rattle.vldb_records.proofs.Stages.{visits_as}
 use Rattle.vldb_records.proofs.Stays.{count_same, whole_on}
 use Rattle.vldb_records.proofs.Written.{HasFields, apart_in, form_written, free_written, ids_written, names_written, written}
 

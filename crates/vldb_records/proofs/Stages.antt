@@ -1,23 +1,23 @@
 -- The chains of an image while a block comes in front of those of its entry, one after the other.
 use Rattle.std.proofs.Common.{◌≡◌, ◌≢◌, ℕ, ◌+◌, ◌*◌, ◌/◌, ◌%◌, ◌<◌, ◌≤◌, ◌⊎◌, inl, inr, ⊎_elim, true, Bool, cond, List, length, refl, sym, ap, subst, ◌∙◌, arith}
-use Rattle.std.specs.Prelude.{◌==◌}
-use Rattle.std.proofs.lemmas.Bool.{and_from, cases_eq, cases_order, eq-eqb, ne_eqb}
+use Rattle.std.proofs.lemmas.Bool.{cases_eq, cases_order, eq-eqb, ne_eqb}
 use Rattle.db_blocks.specs.Blocks.{IsWhole, block_count, block_place, word_at}
 use Rattle.db_chains.specs.declared.links.Links.{Links}
 use Rattle.db_chains.specs.Chains.{HasChain}
 use Rattle.db_chains.specs.Changes.{put_in}
 use Rattle.db_chains.specs.Free.{free_links}
-use Rattle.db_chains.specs.Links.{is_right, mark_place, names_block, next_place}
+use Rattle.db_chains.specs.Links.{is_right, mark_place, next_place}
 use Rattle.db_chains.specs.Others.{AreApart, AreOtherSorts}
+use Rattle.db_chains.proofs.Entered.{put_keyed, put_other_sort, put_other_visits, visits_as}
 use Rattle.db_chains.proofs.Framed.{block_mark}
-use Rattle.db_chains.proofs.Words.{names_from}
+use Rattle.db_chains.proofs.Words.{right_from}
+use Rattle.db_chains.specs.Visits.{Visits}
 use Rattle.vldb_chains.specs.Keys.{id_key, name_key}
 use Rattle.vldb_chains.specs.Places.{free_blocks, id_links, name_links}
 use Rattle.vldb_entries.specs.declared.entries.VlEntry.{VlEntry}
 use Rattle.vldb_entries.specs.Forms.{block_at, blocks_in, kind_of}
-use Rattle.vldb_records.specs.Records.{Visits, id_of, id_place, name_place, unlinked}
+use Rattle.vldb_records.specs.Records.{id_of, id_place, name_place, unlinked}
 use Rattle.vldb_records.specs.Changes.{entered, first_by_id}
-use Rattle.vldb_records.proofs.Entered.{put_keyed, put_other_sort}
 use Rattle.vldb_records.proofs.Fields.{block_len, number_stays}
 use Rattle.vldb_records.proofs.HeadSet.{free_are, ids_are, name_are}
 use Rattle.vldb_records.proofs.Stays.{KeepsForms, count_same, keeps_put_in, keeps_then, whole_on, word_put_in}
@@ -43,24 +43,7 @@ AlsoName key n N = λ j w. N j w ⊎ ((j ≡ key) × (w ≡ n))
 abbrev pub AlsoId : (id n : ℕ) → (D : ℕ → ℕ → Type 0) → ℕ → ℕ → Type 0
 AlsoId id n D = λ j w. D j w ⊎ ((id ≢ 0) × (j ≡ id_key id) × (w ≡ n))
 
-pub visits_as : (l : Links) (image : List ℕ) (at : ℕ) (P Q : ℕ → Type 0) → ((w : ℕ) → P w → Q w) → ((w : ℕ) → Q w → P w)
-    → Visits l image at P → Visits l image at Q
-visits_as l image at P Q there back v = record {
-  words = v.words;
-  chain = v.chain;
-  only = λ w has. there w (v.only w has);
-  each = λ w belongs. v.each w (back w belongs);
-}
-
 -- ---- a word of the block may stand in a chain
-
-pub right_from : (l : Links) (image : List ℕ) (count w : ℕ) → block_count l.head image ≡ count → 0 < w / l.step → w / l.step ≤ count
-    → w % l.step < l.kinds → word_at image (mark_place l w) ≡ l.mark → is_right l image w ≡ true
-unfolding is_right
-right_from l image count w is some within kind mark =
-    and_from (names_block l (block_count l.head image) w) (word_at image (mark_place l w) == l.mark)
-    (names_from l (block_count l.head image) w record { some = some; block = omega arith; kind = kind })
-    (eq-eqb (word_at image (mark_place l w)) l.mark mark)
 
 own_mark : (k : ℕ) (base image : List ℕ) → IsOwnBlock k base → KeepsForms k base image → word_at image (block_place 3132 k) ≡ 1
 own_mark k base image own kept =
@@ -148,15 +131,10 @@ stage_name e k fs base N D image key own stage low never =
       names = put_keyed name_links image name_place key n N name_are (λ j below. omega arith) names_apart long right
           never low stage.names;
       ids = λ j below.
-          let v = stage.ids j below in record {
-            words = v.words;
-            chain = put_other_sort name_links id_links image at (id_place j) n chain.words v.words name_are ids_are
-                (names_ids key j low below) (omega arith) (omega arith) long right chain.chain v.chain;
-            only = v.only;
-            each = v.each;
-          };
+          put_other_visits name_links id_links image at (id_place j) n chain.words (D j) name_are ids_are (names_ids key j low below)
+          (inl (omega arith)) (omega (arith, long)) (omega (arith, long, below)) right chain.chain (stage.ids j below);
       free = put_other_sort name_links (free_links free_blocks) image at 16 n chain.words fs name_are free_are (names_free key low)
-          (omega arith) (omega arith) long right chain.chain stage.free;
+          (inl (omega arith)) (omega (arith, long)) (omega (arith, long)) right chain.chain stage.free;
       unused = λ kind less none.
           word_put_in name_links image at n (block_place 3132 k + (40 + 4 * kind)) (omega arith) (omega (arith, whole, within, place))
           (omega (arith, whole, within)) (inr (omega arith)) (inr (omega (arith, place))) ∙ stage.unused kind less none;
@@ -182,13 +160,8 @@ stage_put e k fs base N D image id kind n own stage low is some block rest never
       kept = keeps_then k base image (put_in id_links at n image) stage.kept
           (keeps_put_in id_links image at n k (40 + 4 * kind) whole within (omega arith) first place (omega arith) (omega arith));
       names = λ j below.
-          let v = stage.names j below in record {
-            words = v.words;
-            chain = put_other_sort id_links name_links image at (name_place j) n chain.words v.words ids_are name_are
-                (ids_names key j key_low below) first (omega arith) long right chain.chain v.chain;
-            only = v.only;
-            each = v.each;
-          };
+          put_other_visits id_links name_links image at (name_place j) n chain.words (N j) ids_are name_are (ids_names key j key_low below)
+          (inl first) (omega (arith, long)) (omega (arith, long, below)) right chain.chain (stage.names j below);
       ids = λ j below.
           visits_as id_links (put_in id_links at n image) (id_place j) (λ w. D j w ⊎ ((j ≡ key) × (w ≡ n))) (AlsoId id n D j)
           (λ w in_chain. ⊎_elim (λ (old : D j w). inl old) (λ (new : (j ≡ key) × (w ≡ n)). inr (some, new.0, new.1)) in_chain)
@@ -197,7 +170,7 @@ stage_put e k fs base N D image id kind n own stage low is some block rest never
           (put_keyed id_links image id_place key n D ids_are (λ i less. omega arith) ids_apart long right never key_low
           stage.ids j below);
       free = put_other_sort id_links (free_links free_blocks) image at 16 n chain.words fs ids_are free_are (ids_free key key_low)
-          first (omega arith) long right chain.chain stage.free;
+          (inl first) (omega (arith, long)) (omega (arith, long)) right chain.chain stage.free;
       unused = λ other less none.
           let differ : other ≢ kind = λ same. some (sym is ∙ ap (λ (c : ℕ). id_of c e) (sym same) ∙ none) in
           word_put_in id_links image at n (block_place 3132 k + (40 + 4 * other)) (omega arith) (omega (arith, whole, within, place))

@@ -18,13 +18,14 @@ use Rattle.db_chains.proofs.Framed.{block_mark}
 use Rattle.db_chains.proofs.Free.{IsOut, is_out, next_room, taken_first, taken_new}
 use Rattle.db_chains.proofs.Kept.{chain_taken}
 use Rattle.db_chains.proofs.Words.{right, right_names}
+use Rattle.db_chains.specs.Visits.{Visits}
 use Rattle.vldb_chains.specs.Places.{free_blocks, id_links, name_links}
 use Rattle.vldb_entries.specs.declared.entries.VlEntry.{VlEntry}
 use Rattle.vldb_entries.specs.Location.{IsRecord, Location}
 use Rattle.vldb_entries.specs.Forms.{block_at, block_of, blocks_in, head_of, kind_of}
 use Rattle.vldb_entries.proofs.EntryAgain.{kind_again, length-block}
-use Rattle.vldb_records.specs.Records.{IsBlockOf, IsFree, IsIdWord, IsLaidOut, IsNameWord, Visits, id_place, name_place, unlinked_head}
-use Rattle.vldb_records.proofs.Entered.{first_or_rest}
+use Rattle.vldb_records.specs.Records.{IsBlockOf, IsFree, IsIdWord, IsLaidOut, IsNameWord, id_place, name_place, unlinked_head}
+use Rattle.db_chains.proofs.Entered.{first_or_rest}
 use Rattle.vldb_records.proofs.Fields.{block_len, number_stays}
 use Rattle.vldb_records.proofs.HeadSet.{free_are, ids_are, name_are, unlinked_laid}
 use Rattle.vldb_records.proofs.Stays.{front_stays, unlinked_first}

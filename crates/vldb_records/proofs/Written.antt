@@ -15,6 +15,7 @@ use Rattle.db_chains.specs.Links.{is_right, mark_place, next_place}
 use Rattle.db_chains.proofs.Bytes.{IsApart, StaysBut, put_len, put_stays, word_stays}
 use Rattle.db_chains.proofs.Framed.{block_mark, block_stays, byte_stays}
 use Rattle.db_chains.proofs.Words.{right, right_names}
+use Rattle.db_chains.proofs.Words.{right_from}
 use Rattle.vldb_chains.specs.Places.{free_blocks, id_links, name_links}
 use Rattle.vldb_entries.specs.declared.entries.VlEntry.{VlEntry}
 use Rattle.vldb_entries.specs.Location.{IsRecord}
@@ -25,7 +26,6 @@ use Rattle.vldb_records.specs.Changes.{with_fields}
 use Rattle.vldb_records.proofs.Fields.{blanked_stays, block_len}
 use Rattle.vldb_records.proofs.HeadSet.{laid_in}
 use Rattle.vldb_records.proofs.Inserted.{unlinked_form}
-use Rattle.vldb_records.proofs.Stages.{right_from}
 use Rattle.vldb_records.proofs.Stays.{count_same, unlinked_same, whole_on}
 
 -- The block of a number has the fields of this one. Its kind, its words of chains, and all other bytes are the old ones.

@@ -8,7 +8,7 @@ use Rattle.db_blocks.specs.Bytes.{zeros}
 use Rattle.db_blocks.specs.declared.blocks.TheConstants.{BLOCK_LEN}
 use Rattle.db_chains.specs.Chains.{HasChain}
 use Rattle.db_chains.specs.Free.{IsAscending, free_links}
-use Rattle.db_chains.specs.declared.links.Links.{Links}
+use Rattle.db_chains.specs.Visits.{Visits}
 use Rattle.vldb_chains.specs.Keys.{id_key, name_key}
 use Rattle.vldb_chains.specs.Places.{free_blocks, id_links, name_links}
 use Rattle.vldb_entries.specs.declared.entries.VlEntry.{VlEntry}
@@ -42,13 +42,6 @@ abbrev pub IsBlockOf : Location → VlEntry → List ℕ → Type 0
 IsBlockOf s e block = (s.entry e.rw ≡ Some e) × (unlinked block ≡ block_of s.addresses e)
 
 -- ---- chains
-
--- The chain from a place on has just the words of which this holds, each once, since no chain has a word twice, and in any order.
-pub record Visits (l : Links) (image : List ℕ) (at : ℕ) (belongs : ℕ → Type 0) : Type 0 where
-  pub words : List ℕ
-  pub chain : HasChain l image at words
-  pub only : (w : ℕ) → Contains words w → belongs w
-  pub each : (w : ℕ) → belongs w → Contains words w
 
 -- the block of a number, the first being 1, is an entry's
 pub record IsNumberOf (s : Location) (image : List ℕ) (n : ℕ) (e : VlEntry) : Type 0 where

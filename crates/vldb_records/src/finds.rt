@@ -15,7 +15,8 @@ ghost use Rattle.vldb_entries.specs.Location.{IsNamed, IsOfId, IsSmall, Location
 ghost use Rattle.vldb_entries.specs.Forms.{has_id_in, has_name, whole};
 ghost use Rattle.vldb_records.specs.Records.{Holds};
 ghost use Rattle.vldb_records.specs.Ends.{HasItsCause};
-ghost use Rattle.vldb_records.specs.Sought.{EndsChain, IsInChain, IsRead, is_sought};
+ghost use Rattle.db_chains.specs.Sought.{EndsChain, IsInChain};
+ghost use Rattle.vldb_records.specs.Sought.{IsRead, is_sought};
 ghost use Rattle.vldb_entries.specs.declared.layout.TheConstants.{ADDRESSES_LEN, HEAD_LEN};
 
 use crate::heads::places;

@@ -9,7 +9,7 @@ use Rattle.db_chains.proofs.Listed.{listed_all, listed_more, listed_none}
 use Rattle.db_image.specs.declared.faults.RecordFault.TheVariants.{BadRecord}
 use Rattle.db_chains.proofs.Results.{err_same, no_memory, of_image, ok_no_err}
 use Rattle.db_chains.proofs.Walked.{looks_within, walked_cost, walked_cost_here, walked_frame, walked_here}
-use Rattle.db_chains.proofs.lists.words_of.Goals as goal
+use Rattle.db_chains.proofs.lists.read_along.Goals as goal
 
 pub returns-in_err-count-clause-bad : goal.returns-in_err-count-clause-bad
 returns-in_err-count-clause-bad g c =
@@ -80,23 +80,23 @@ returns-clause-cost g c =
 pub loop-word-init : goal.loop-word-init
 loop-word-init g c =
     listed_none g.I.ImageRead c.args.d.now c.read_word.new.d c.args.links c.args.at c.in_ok-count.count _ c.in_ok-word.word
-    c.new-words.result.items _
+    c.args.offset c.new-found.result.items _
     c.read_word.ensures.frame (rw (← c.in_ok-count.ensures.count, c.len.ensures.size) c.len.ensures.told) (omega arith)
-    c.requires.at c.in_ok-word.ensures.word c.new-words.ensures.items
+    c.requires.at c.in_ok-word.ensures.word c.new-found.ensures.items
 
 pub loop-word-preserved : goal.loop-word-preserved
 loop-word-preserved g c =
     listed_more g.I.ImageRead c.args.d.now c.loop-word.d c.read_link.new.d c.args.links c.args.at c.in_ok-count.count c.loop-word.left
-    c.loop-word.place c.loop-word.word c.next_place-place.result c.word_at-word.result c.loop-word.words.items c.push.new.self.items
-    c.in_ok-link.link _ c.requires.links c.loop-word.invariant c.read_link.ensures.frame
+    c.loop-word.place c.loop-word.word c.next_place-place.result c.word_at-word.result c.args.offset c.word_at-value.result
+    c.loop-word.found.items c.push.new.self.items c.in_ok-link.link _ c.requires.links c.loop-word.invariant c.read_link.ensures.frame
     (λ h. ok_no_err c.read_link.result c.in_ok-link.link _ c.in_ok-link.was h) c.if-left-eq0.false
     (omega (arith, c.in_ok-count.ensures.count, c.len.ensures.size)) c.in_ok-link.ensures.link c.in_ok-link.ensures.names.word
     c.in_ok-link.ensures.names.names c.next_place-place.ensures
-    (c.word_at-word.ensures ∙ ap (word_at c.in_ok-link.link.block) c.next_in.ensures) c.in_ok-push.ensures.items
+    (c.word_at-word.ensures ∙ ap (word_at c.in_ok-link.link.block) c.next_in.ensures) c.word_at-value.ensures c.in_ok-push.ensures.items
 
-pub returns-clause-words : goal.returns-clause-words
-returns-clause-words g c =
-    listed_all c.args.d.now.bytes c.args.links c.args.at c.loop-word.place c.loop-word.word c.loop-word.words.items
+pub returns-clause-found : goal.returns-clause-found
+returns-clause-found g c =
+    listed_all c.args.d.now.bytes c.args.links c.args.at c.loop-word.place c.loop-word.word c.args.offset c.loop-word.found.items
     c.loop-word.invariant.read
     c.loop-word-test.false
 

@@ -4,15 +4,15 @@ use Rattle.std.specs.List.{AllByRecursion, Contains}
 use Rattle.std.proofs.lemmas.Bool.{cases_eq}
 use Rattle.db_chains.specs.declared.links.Links.{Links}
 use Rattle.db_chains.specs.Chains.{HasChain}
-use Rattle.db_chains.specs.Changes.{taken_out, without}
+use Rattle.db_chains.specs.Changes.{IsHeadPlace, taken_out, without}
 use Rattle.db_chains.specs.Links.{AreLinks, is_right, next_place}
 use Rattle.db_chains.specs.Others.{AreApart, AreOtherSorts, HaveNoneOf}
+use Rattle.db_chains.specs.Visits.{Visits}
 use Rattle.db_chains.specs.Walks.{place_behind}
 use Rattle.db_chains.proofs.Changed.{apart_front, apart_rest, chain_taken_out, others_of}
 use Rattle.db_chains.proofs.Others.{taken_chains, taken_sorts}
 use Rattle.db_chains.proofs.Stops.{word_behind}
-use Rattle.vldb_records.specs.Records.{Visits}
-use Rattle.vldb_records.proofs.Entered.{first_or_rest, not_among}
+use Rattle.db_chains.proofs.Entered.{first_or_rest, not_among}
 
 -- ---- lists
 
@@ -117,12 +117,12 @@ stands l image at n P links v belongs =
           (word_behind l image at n s.front s.back links.step chain (apart_front (λ v. v ≢ n) s.front s.back others));
     }
 
-take_own : (l : Links) (image : List ℕ) (at n : ℕ) (P : ℕ → Type 0) → AreLinks l → at + 4 ≤ l.head → l.head ≤ length image
+pub take_own : (l : Links) (image : List ℕ) (at n : ℕ) (P : ℕ → Type 0) → AreLinks l → IsHeadPlace l at → at + 4 ≤ length image
     → Stands l image at n P → Visits l (without l at n image) at (λ w. P w × (w ≢ n))
-take_own l image at n P links in_head long s = record {
+take_own l image at n P links place within s = record {
   words = s.front ++ s.back;
   chain = subst (λ (i : List ℕ). HasChain l i at (s.front ++ s.back)) (sym s.out)
-      (chain_taken_out l image at n s.front s.back links (inl in_head) (omega arith) s.chain);
+      (chain_taken_out l image at n s.front s.back links place within s.chain);
   only = λ w has. (
     s.only w (among_all n w s.front s.back has),
     all_at (λ v. v ≢ n) (s.front ++ s.back) w has.0 s.others has.1 has.2,
@@ -130,29 +130,39 @@ take_own l image at n P links in_head long s = record {
   each = λ w belongs. among_left n w s.front s.back belongs.1 (s.each w belongs.0);
 }
 
-take_same_sort : (l : Links) (image : List ℕ) (at bt n : ℕ) (P Q : ℕ → Type 0) → AreLinks l → AreApart at bt → at + 4 ≤ l.head
-    → bt + 4 ≤ l.head → l.head ≤ length image → P n → ((w : ℕ) → P w → Q w → ⊥) → Stands l image at n P → Visits l image bt Q
-    → Visits l (without l at n image) bt (λ w. Q w × (w ≢ n))
-take_same_sort l image at bt n P Q links apart in_a in_b long belongs never s v =
+pub take_same_sort : (l : Links) (image : List ℕ) (at bt n : ℕ) (P Q : ℕ → Type 0) → AreLinks l → AreApart at bt → IsHeadPlace l at
+    → IsHeadPlace l bt → at + 4 ≤ length image → bt + 4 ≤ length image → P n → ((w : ℕ) → P w → Q w → ⊥) → Stands l image at n P
+    → Visits l image bt Q → Visits l (without l at n image) bt (λ w. Q w × (w ≢ n))
+take_same_sort l image at bt n P Q links apart place_a place_b in_a in_b belongs never s v =
     let all = none_of P Q (s.front ++ n ∷ s.back) v.words s.only v.only never in
     let none = λ (w : ℕ). AllByRecursion (λ v. v ≢ w) v.words in
     record {
       words = v.words;
       chain = subst (λ (i : List ℕ). HasChain l i bt v.words) (sym s.out)
-          (taken_chains l image at bt n s.front s.back v.words links apart (inl in_a) (inl in_b) (omega arith) (omega arith) s.chain v.chain
+          (taken_chains l image at bt n s.front s.back v.words links apart place_a place_b in_a in_b s.chain v.chain
           ((apart_rest none s.front (n ∷ s.back) all).0, apart_front none s.front (n ∷ s.back) all));
       only = λ w has. (v.only w has, λ same. never n belongs (subst Q same (v.only w has)));
       each = λ w there. v.each w there.0;
     }
 
 pub take_other_sort : (l m : Links) (image : List ℕ) (at bt n : ℕ) (P : ℕ → Type 0) (vs : List ℕ) → AreLinks l → AreLinks m
-    → AreOtherSorts l m at bt → at + 4 ≤ l.head → bt + 4 ≤ l.head → l.head ≤ length image → Stands l image at n P → HasChain m image bt vs
-    → HasChain m (without l at n image) bt vs
-take_other_sort l m image at bt n P vs links_l links_m sorts in_a in_b long s chain =
+    → AreOtherSorts l m at bt → IsHeadPlace l at → at + 4 ≤ length image → bt + 4 ≤ length image → Stands l image at n P
+    → HasChain m image bt vs → HasChain m (without l at n image) bt vs
+take_other_sort l m image at bt n P vs links_l links_m sorts place in_a in_b s chain =
     subst (λ (i : List ℕ). HasChain m i bt vs) (sym s.out)
-    (taken_sorts l m image at bt n s.front s.back vs links_l links_m sorts (inl in_a) (omega arith) (omega arith) s.chain chain)
+    (taken_sorts l m image at bt n s.front s.back vs links_l links_m sorts place in_a in_b s.chain chain)
 
--- the chains of one sort after a word went out of that of a key
+pub take_other_visits : (l m : Links) (image : List ℕ) (at bt n : ℕ) (P Q : ℕ → Type 0) → AreLinks l → AreLinks m
+    → AreOtherSorts l m at bt → IsHeadPlace l at → at + 4 ≤ length image → bt + 4 ≤ length image → Stands l image at n P
+    → Visits m image bt Q → Visits m (without l at n image) bt Q
+take_other_visits l m image at bt n P Q links_l links_m sorts place in_a in_b s v = record {
+  words = v.words;
+  chain = take_other_sort l m image at bt n P v.words links_l links_m sorts place in_a in_b s v.chain;
+  only = v.only;
+  each = v.each;
+}
+
+-- the chains of one sort, whose first words stand in the head, after a word went out of that of a key
 pub take_keyed : (l : Links) (image : List ℕ) (place : ℕ → ℕ) (key n : ℕ) (M : ℕ → ℕ → Type 0) → AreLinks l
     → ((k : ℕ) → k < 256 → place k + 4 ≤ l.head) → ((a b : ℕ) → a ≢ b → AreApart (place a) (place b)) → l.head ≤ length image
     → ((a b w : ℕ) → M a w → M b w → a ≡ b) → key < 256 → M key n
@@ -162,8 +172,9 @@ take_keyed l image place key n M links in_head apart long one low belongs s all 
     ⊎_elim
     (λ (same : k ≡ key).
     subst (λ (j : ℕ). Visits l (without l (place key) n image) (place j) (λ w. M j w × (w ≢ n))) (sym same)
-    (take_own l image (place key) n (M key) links (in_head key low) long s))
+    (take_own l image (place key) n (M key) links (inl (in_head key low)) (omega (arith, in_head key low)) s))
     (λ (other : k ≢ key).
-    take_same_sort l image (place key) (place k) n (M key) (M k) links (apart key k (λ same. other (sym same))) (in_head key low)
-    (in_head k below) long belongs (λ w a b. other (sym (one key k w a b))) s (all k below))
+    take_same_sort l image (place key) (place k) n (M key) (M k) links (apart key k (λ same. other (sym same))) (inl (in_head key low))
+    (inl (in_head k below)) (omega (arith, in_head key low)) (omega (arith, in_head k below)) belongs
+    (λ w a b. other (sym (one key k w a b))) s (all k below))
     (cases_eq k key)
