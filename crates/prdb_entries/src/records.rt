@@ -193,7 +193,7 @@ fn field_numbers(e: &PrEntry) -> [u32; 6]
 
 /// A block with the fields of this entry in place of those that it had. Its pairs stay.
 #[tactic(auto, unfolding(crate::specs::Records::with_fields))]
-fn with_fields(alloc: Global, e: &PrEntry, block: &[u8]) -> Result<Vec<u8>, AllocError>
+pub fn with_fields(alloc: Global, e: &PrEntry, block: &[u8]) -> Result<Vec<u8>, AllocError>
     requires { length block.now ≡ BLOCK_LEN }
     ensures { IfOk result (λ after. after.items ≡ with_fields (seen e.now) block.now) }
 {

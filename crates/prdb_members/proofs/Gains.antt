@@ -133,7 +133,7 @@ gain_same image r lists x id k h at there other fresh enough =
       spare_was = λ less. absurd (omega arith);
     })
 
-one_of : (f j : ℕ) → Contains (f ∷ []) j → j ≡ f
+pub one_of : (f j : ℕ) → Contains (f ∷ []) j → j ≡ f
 one_of f j (zero, below, is) = sym is
 one_of f j (suc i, below, is) = absurd (omega arith)
 

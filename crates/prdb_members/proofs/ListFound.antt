@@ -81,11 +81,11 @@ none_at image r id holds some is =
 
 -- ---- over a draft
 
-is_first_or : (a b : Bool) → a ≡ true → (a || b) ≡ true
+pub is_first_or : (a b : Bool) → a ≡ true → (a || b) ≡ true
 is_first_or true b e = refl
 is_first_or false b e = absurd cc
 
-none_or : (a b : Bool) → a ≡ false → b ≡ false → (a || b) ≡ false
+pub none_or : (a b : Bool) → a ≡ false → b ≡ false → (a || b) ≡ false
 none_or true b p q = absurd cc
 none_or false b p q = q
 
@@ -202,7 +202,7 @@ found_empty (Some image) len id told none = λ r m h other.
 
 -- ---- what the list says
 
-no_list : (m : Members) (id : ℤ) → IsFound m id None → IsListOf (λ other. are_paired m id other ≡ true) []
+pub no_list : (m : Members) (id : ℤ) → IsFound m id None → IsListOf (λ other. are_paired m id other ≡ true) []
 no_list m id none = record {
   ascending = λ i j d less below. absurd (omega arith);
   each = λ x c. absurd (omega (arith, c.1));
@@ -240,7 +240,7 @@ or_first : (a b : Bool) → (a || b) ≡ true → b ≡ false → a ≡ true
 or_first true b e fails = refl
 or_first false b e fails = absurd cc
 
-has_of : (image : List ℕ) (r : Registry) (m : Members) (a b : ℤ) (ids : List ℤ) → HoldsPairs image r m → (a <ℤ pos 0 → ⊥)
+pub has_of : (image : List ℕ) (r : Registry) (m : Members) (a b : ℤ) (ids : List ℤ) → HoldsPairs image r m → (a <ℤ pos 0 → ⊥)
     → IsListOf (λ other. are_paired m a other ≡ true) ids
     → (Contains ids b → m.has a b ≡ true) × (m.has a b ≡ true → Contains ids b)
 has_of image r m a b ids h user list = (
@@ -251,7 +251,7 @@ has_of image r m a b ids h user list = (
   λ yes. list.all b (is_first_or (m.has a b) (m.has b a) yes),
 )
 
-same_truth : (a b : Bool) → (a ≡ true → b ≡ true) → (b ≡ true → a ≡ true) → a ≡ b
+pub same_truth : (a b : Bool) → (a ≡ true → b ≡ true) → (b ≡ true → a ≡ true) → a ≡ b
 same_truth true true p q = refl
 same_truth true false p q = sym (p refl)
 same_truth false true p q = q refl

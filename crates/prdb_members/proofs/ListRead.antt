@@ -3,13 +3,15 @@ use Rattle.std.proofs.Common.{◌≡◌, ℕ, ℤ, ◌+◌, ◌-◌, ◌*◌, �
 use Rattle.std.specs.Prelude.{FitsSigned, ◌<ℤ◌}
 use Rattle.std.specs.Int.{w32}
 use Rattle.std.specs.List.{All}
-use Rattle.std.proofs.lemmas.List.{take-append-drop, length-take, length-drop, append-nil, drop_at}
+use Rattle.std.proofs.lemmas.List.{take-append-drop, length-append, length-take, length-drop, append-nil, drop_at}
 use Rattle.std.proofs.lemmas.List.Elements.{All-append, All-cons, All-take, All-drop, All-same}
 use Rattle.std.proofs.lemmas.List.FromFn.{take-map-range_with_len}
+use Rattle.db_image.specs.Asked.{AsksAtMost}
 use Rattle.db_image.specs.Draft.{Drafted}
 use Rattle.db_image.specs.declared.images.ImageRead.{Ghosts}
 use Rattle.db_image.specs.declared.faults.RecordFault.{RecordFault}
 use Rattle.db_image.specs.declared.faults.RecordFault.TheVariants.{DiskFault, BadRecord, NoMemory}
+use Rattle.db_image.proofs.ReadSteps.{asks_none, asks_then}
 use Rattle.db_blocks.specs.Blocks.{IsWhole, block_place, block_in as block_of}
 use Rattle.db_blocks.specs.Ends.{HasCause, OnlyLooks}
 use Rattle.db_blocks.proofs.Scanned.{looks_none, looks_then, looks_so}
@@ -184,6 +186,7 @@ pub record ReadSoFar {I : Type 0} (g : Ghosts I) (first now : Drafted I) (entry 
   pub size : block_place 2112 count < 2 ^ 31
   pub len : first.len ≡ block_place 2112 count
   pub within : AreWithin first.len more
+  pub cost : AsksAtMost (192 * length more) (g.asked first.image) (g.asked now.image)
   pub rest : IfSome first.bytes (λ image. (l : PairList) → IsListed image entry block l → IsRest image entry l ids more left link)
 
 first_so : (bytes : Option (List ℕ)) (block : List ℕ) (entry : ℤ) (ids : List ℤ) (more : List ℕ) (first left link : ℕ)
@@ -206,6 +209,7 @@ read_first g d entry block ids more first count left link told short len here id
   size = short;
   len = len;
   within = subst (λ (l : List ℕ). AreWithin d.len l) (sym none) (λ i e below. absurd (omega arith));
+  cost = asks_none (192 * length more) (g.asked d.image);
   rest = first_so d.bytes block entry ids more first left link here ids_is none left_is link_is;
 }
 
@@ -224,11 +228,11 @@ more_so (Some image) block read entry ids new_ids more new_more left link here n
 pub read_more : {I : Type 0} (g : Ghosts I) (first now next : Drafted I) (entry : ℤ) (block read : List ℕ) (ids new_ids : List ℤ)
     (more new_more : List ℕ)
     (count left link here new_left new_link : ℕ) (failed : Type 0) → ReadSoFar g first now entry block ids more count left link
-    → OnlyLooks g now next failed
+    → OnlyLooks g now next failed → AsksAtMost 192 (g.asked now.image) (g.asked next.image)
     → IfSome now.bytes (λ image. read ≡ block_of 2112 image (link - 1)) → 0 < left → 0 < link → link ≤ count → here ≡ min left 44
     → new_ids ≡ ids ++ ids_in read 12 here → new_more ≡ more ++ (link - 1) ∷ [] → new_left ≡ left - here → new_link ≡ word_at read 8
     → ReadSoFar g first next entry block new_ids new_more count new_left new_link
-read_more g first now next entry block read ids new_ids more new_more count left link here new_left new_link failed s looks at some linked
+read_more g first now next entry block read ids new_ids more new_more count left link here new_left new_link failed s looks asks at some linked
     within len i m n k = record {
       frame = looks_then g first now next ⊥ ⊥ s.frame (looks_so g now next failed ⊥ looks (λ h. absurd h));
       told = s.told;
@@ -236,6 +240,8 @@ read_more g first now next entry block read ids new_ids more new_more count left
       len = s.len;
       within = subst (λ (l : List ℕ). AreWithin first.len l) (sym m)
           (within_more first.len more (link - 1) s.within (omega (arith, s.len)));
+      cost = asks_then (192 * length more) 192 (192 * length new_more) (g.asked first.image) (g.asked now.image) (g.asked next.image) s.cost
+          asks (omega (arith, ap length m, length-append more ((link - 1) ∷ [])));
       rest = more_so first.bytes block read entry ids new_ids more new_more left link here new_left new_link s.rest
           (subst (λ (b : Option (List ℕ)). IfSome b (λ image. read ≡ block_of 2112 image (link - 1))) s.frame.same.bytes at) some len i m n
           k;
@@ -335,3 +341,52 @@ pub read_whole : {I : Type 0} (g : Ghosts I) (first now : Drafted I) (entry : �
     → ReadSoFar g first now entry block ids more count left link → left ≡ 0
     → IfSome first.bytes (λ image. (l : PairList) → IsListed image entry block l → (ids ≡ l.ids) × (more ≡ l.more))
 read_whole g first now entry block ids more count left link s none = whole_so first.bytes entry block ids more left link none s.rest
+
+-- ---- what a list costs
+
+-- how many bytes are asked for at most where a list is read: its continuation blocks
+abbrev pub ListCosts : Option (List ℕ) → ℤ → List ℕ → (before after : Option ℕ) → Type 0
+ListCosts bytes entry block before after =
+    IfSome bytes (λ image. (l : PairList) → IsListed image entry block l → AsksAtMost (192 * length l.more) before after)
+
+pub none_costs : (bytes : Option (List ℕ)) (entry : ℤ) (block : List ℕ) (asked : Option ℕ) → ListCosts bytes entry block asked asked
+none_costs None entry block asked = tt
+none_costs (Some image) entry block asked = λ l is. asks_none (192 * length l.more) asked
+
+rest_costs : (bytes : Option (List ℕ)) (entry : ℤ) (block : List ℕ) (ids : List ℤ) (more : List ℕ) (left link : ℕ) (a b : Option ℕ)
+    → AsksAtMost (192 * length more) a b
+    → IfSome bytes (λ image. (l : PairList) → IsListed image entry block l → IsRest image entry l ids more left link)
+    → ListCosts bytes entry block a b
+rest_costs None entry block ids more left link a b cost rest = tt
+rest_costs (Some image) entry block ids more left link a b cost rest = λ l is.
+    let r = rest l is in
+    asks_then (192 * length more) 0 (192 * length l.more) a b b cost (asks_none 0 b)
+    (omega (arith, ap length r.more_are, length-append more r.rest.more))
+
+next_costs : (bytes : Option (List ℕ)) (entry : ℤ) (block : List ℕ) (ids : List ℤ) (more : List ℕ) (left link : ℕ) (a b c : Option ℕ)
+    → AsksAtMost (192 * length more) a b → AsksAtMost 192 b c → 0 < left
+    → IfSome bytes (λ image. (l : PairList) → IsListed image entry block l → IsRest image entry l ids more left link)
+    → ListCosts bytes entry block a c
+next_costs None entry block ids more left link a b c cost asks some rest = tt
+next_costs (Some image) entry block ids more left link a b c cost asks some rest = λ l is.
+    let r = rest l is in
+    let n = chain_next image entry r.rest.more r.rest.ids r.chain (omega (arith, r.left_is)) in
+    asks_then (192 * length more) 192 (192 * length l.more) a b c cost asks
+    (omega (arith, ap length r.more_are, length-append more r.rest.more, ap length n.is))
+
+-- no more was read than the list has
+pub read_costs : {I : Type 0} (g : Ghosts I) (first now : Drafted I) (entry : ℤ) (block : List ℕ) (ids : List ℤ) (more : List ℕ)
+    (count left link : ℕ)
+    → ReadSoFar g first now entry block ids more count left link
+    → ListCosts first.bytes entry block (g.asked first.image) (g.asked now.image)
+read_costs g first now entry block ids more count left link s =
+    rest_costs first.bytes entry block ids more left link (g.asked first.image) (g.asked now.image) s.cost s.rest
+
+-- nor where one block more was read, while ids are left
+pub one_costs : {I : Type 0} (g : Ghosts I) (first now next : Drafted I) (entry : ℤ) (block : List ℕ) (ids : List ℤ) (more : List ℕ)
+    (count left link : ℕ)
+    → ReadSoFar g first now entry block ids more count left link → 0 < left → AsksAtMost 192 (g.asked now.image) (g.asked next.image)
+    → ListCosts first.bytes entry block (g.asked first.image) (g.asked next.image)
+one_costs g first now next entry block ids more count left link s some asks =
+    next_costs first.bytes entry block ids more left link (g.asked first.image) (g.asked now.image) (g.asked next.image) s.cost asks some
+    s.rest

@@ -115,7 +115,7 @@ front_told block l len =
 
 -- ---- what stays
 
-front_kept : (block : List ℕ) (l : PairList) → length block ≡ 192 → take 24 (with_list block l) ≡ take 24 block
+pub front_kept : (block : List ℕ) (l : PairList) → length block ≡ 192 → take 24 (with_list block l) ≡ take 24 block
 unfolding with_list
 front_kept block l len =
     let a = take 24 block in
@@ -125,7 +125,7 @@ front_kept block l len =
     ap (take 24) (append_assoc (a ++ w) c d ∙ append_assoc a w (c ++ d))
     ∙ take_at a (w ++ (c ++ d)) 24 (length-take-le 24 block (omega arith))
 
-middle_kept : (block : List ℕ) (l : PairList) → length block ≡ 192 → take 80 (drop 32 (with_list block l)) ≡ take 80 (drop 32 block)
+pub middle_kept : (block : List ℕ) (l : PairList) → length block ≡ 192 → take 80 (drop 32 (with_list block l)) ≡ take 80 (drop 32 block)
 unfolding with_list
 middle_kept block l len =
     let f = take 24 block ++ list_words l in
@@ -149,7 +149,7 @@ pub kind_kept : (block : List ℕ) (l : PairList) → length block ≡ 192 → k
 kind_kept block l len = word_kept block l 0 len (omega arith)
 
 -- a part of the middle
-mid_part : (block : List ℕ) (l : PairList) (at m : ℕ) → length block ≡ 192 → at + m ≤ 80
+pub mid_part : (block : List ℕ) (l : PairList) (at m : ℕ) → length block ≡ 192 → at + m ≤ 80
     → take m (drop (32 + at) (with_list block l)) ≡ take m (drop (32 + at) block)
 mid_part block l at m len within =
     ap (take m) (sym (drop-drop at 32 (with_list block l)))

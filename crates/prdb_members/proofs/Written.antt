@@ -1,17 +1,21 @@
 -- Lists of pairs that are written into a draft.
-use Rattle.std.proofs.Common.{◌≡◌, ℕ, ℤ, zero, suc, ◌+◌, ◌-◌, ◌^◌, ◌<◌, ◌≤◌, min, max, Bool, cond, List, [], ◌∷◌, ◌++◌, length, get_or, take, drop, map, Option, Some, None, IfSome, Result, Ok, Err, OnOk, OnErr, IfOk, IfErr, refl, sym, ap, subst, ◌∙◌, ⊎_elim, arith}
+use Rattle.std.proofs.Common.{◌≡◌, ℕ, ℤ, zero, suc, ◌+◌, ◌-◌, ◌*◌, ◌^◌, ◌<◌, ◌≤◌, min, max, Bool, cond, List, [], ◌∷◌, ◌++◌, length, get_or, take, drop, map, Option, Some, None, IfSome, Result, Ok, Err, OnOk, OnErr, IfOk, IfErr, refl, sym, ap, subst, ◌∙◌, ⊎_elim, arith}
 use Rattle.std.specs.List.{All, Contains}
 use Rattle.std.specs.Option.{option_map}
+use Rattle.std.proofs.Math.Nat.{mul-le-mul_left}
 use Rattle.std.proofs.lemmas.Bool.{cases_lt, lt-ltb, le-ltb}
 use Rattle.std.proofs.lemmas.List.{drop_all, take_all}
 use Rattle.std.proofs.lemmas.List.Elements.{All-tail}
 use Rattle.ubik_types.specs.Image.{changed}
 use Rattle.ubik_types.specs.declared.images.Change.TheVariants.{Put}
-use Rattle.db_image.specs.Draft.{Drafted, StaysAsItWas}
+use Rattle.db_image.specs.Asked.{AsksAtMost}
+use Rattle.db_image.specs.Draft.{Drafted, StaysAsItWas, put_cost}
 use Rattle.db_image.specs.Images.{IsOfImage}
 use Rattle.db_image.specs.declared.faults.RecordFault.{RecordFault}
 use Rattle.db_image.specs.declared.faults.RecordFault.TheVariants.{DiskFault, BadRecord, NoMemory}
 use Rattle.db_image.specs.declared.images.ImageRead.{Ghosts}
+use Rattle.db_image.specs.declared.services.Layout.{Layout}
+use Rattle.db_image.proofs.ReadSteps.{asks_none, asks_then}
 use Rattle.db_blocks.specs.Blocks.{IsFirst, block_place, first_from as db_first_from, block_in as db_block_in}
 use Rattle.db_blocks.specs.Bytes.{words as db_words, zeros as db_zeros}
 use Rattle.db_blocks.specs.Ends.{HasCause, OnlyDrafts, OnlyLooks}
@@ -77,17 +81,40 @@ within_small len more within short i d below = let here = within i d below in om
 pub within_more_len : (a b : ℕ) (more : List ℕ) → AreWithin a more → a ≤ b → AreWithin b more
 within_more_len a b more within longer i d below = let here = within i d below in omega arith
 
+-- ---- costs
+
+-- so many puts of a block, and one more
+one_cost : (p q n : ℕ) → q ≡ p → p * n + q ≤ p * (n + 1)
+one_cost p q n same = omega arith
+
+cost_step : (p q most b c : ℕ) → q ≡ p → b ≡ c + 1 → b ≤ most → p * (most - b) + q ≤ p * (most - c)
+cost_step p q most b c same one few =
+    let next : most - b + 1 ≡ most - c = omega arith in
+    subst (λ (n : ℕ). p * (most - b) + q ≤ p * n) next (one_cost p q (most - b) same)
+
+pub puts_most : (p n most : ℕ) (a b : Option ℕ) → n ≤ most → AsksAtMost (p * n) a b → AsksAtMost (p * most) a b
+puts_most p n most a b few cost = asks_then (p * n) 0 (p * most) a b b cost (asks_none 0 b) (omega (arith, mul-le-mul_left p few))
+
 -- ---- continuation blocks, one after the other
 
 pub record Writing {I : Type 0} (g : Ghosts I) (first now : Drafted I) (entry : ℤ) (more blocks : List ℕ) (ids left : List ℤ) : Type 0 where
   pub frame : OnlyDrafts g first now ⊥
   pub len : now.len ≡ first.len
   pub within : AreWithin first.len blocks
+  pub few : length blocks ≤ length more
+  pub cost : AsksAtMost (put_cost first.layout 192 * (length more - length blocks)) (g.asked first.image) (g.asked now.image)
   pub bytes : option_map (with_more entry blocks left) now.bytes ≡ option_map (with_more entry more ids) first.bytes
 
 pub writing_none : {I : Type 0} (g : Ghosts I) (d : Drafted I) (entry : ℤ) (more : List ℕ) (ids : List ℤ) → AreWithin d.len more
     → Writing g d d entry more more ids ids
-writing_none g d entry more ids within = record { frame = drafts_none g d; len = refl; within = within; bytes = refl }
+writing_none g d entry more ids within = record {
+  frame = drafts_none g d;
+  len = refl;
+  within = within;
+  few = omega arith;
+  cost = asks_none (put_cost d.layout 192 * (length more - length more)) (g.asked d.image);
+  bytes = refl;
+}
 
 -- no more than there is
 pub take_most : {X : Type 0} (n : ℕ) (xs : List X) → take (min (length xs) n) xs ≡ take n xs
@@ -123,12 +150,17 @@ pub writing_more : {I : Type 0} (g : Ghosts I) (first now next : Drafted I) (ent
     (behind : List ℕ) (here rest : List ℤ) (failed : Type 0)
     → Writing g first now entry more blocks ids left → blocks ≡ k ∷ behind → here ≡ take 44 left → rest ≡ drop 44 left
     → next.bytes ≡ option_map (λ image. with_block k (more_block entry (link_to behind) here) image) now.bytes → next.len ≡ now.len
-    → OnlyDrafts g now next failed
+    → OnlyDrafts g now next failed → AsksAtMost (put_cost now.layout 192) (g.asked now.image) (g.asked next.image)
     → Writing g first next entry more behind ids rest
-writing_more g first now next entry more blocks ids left k behind here rest failed w parts is_here is_rest is len drafts = record {
+writing_more g first now next entry more blocks ids left k behind here rest failed w parts is_here is_rest is len drafts asks = record {
   frame = drafts_then g first now next ⊥ ⊥ w.frame (drafts_so g now next failed ⊥ drafts (λ h. absurd h));
   len = len ∙ w.len;
   within = All-tail (λ j. block_place 2112 j + 192 ≤ first.len) k behind (subst (AreWithin first.len) parts w.within);
+  few = omega (arith, w.few, ap length parts);
+  cost = asks_then (put_cost first.layout 192 * (length more - length blocks)) (put_cost now.layout 192)
+      (put_cost first.layout 192 * (length more - length behind)) (g.asked first.image) (g.asked now.image) (g.asked next.image) w.cost asks
+      (cost_step (put_cost first.layout 192) (put_cost now.layout 192) (length more) (length blocks) (length behind)
+      (ap (λ (l : Layout). put_cost l 192) w.frame.layout) (omega (arith, ap length parts)) w.few);
   bytes = written_one now.bytes next.bytes entry k behind left here rest is_here is_rest is
       ∙ ap (λ (b : List ℕ). option_map (with_more entry b left) now.bytes) (sym parts) ∙ w.bytes;
 }
@@ -148,6 +180,46 @@ pub writing_all : {I : Type 0} (g : Ghosts I) (first now : Drafted I) (entry : �
 writing_all g first now entry more blocks ids left w none =
     sym (none_more now.bytes entry left) ∙ ap (λ (b : List ℕ). option_map (with_more entry b left) now.bytes) (sym (no_blocks blocks none))
     ∙ w.bytes
+
+-- no more is written than all of them
+pub writing_costs : {I : Type 0} (g : Ghosts I) (first now : Drafted I) (entry : ℤ) (more blocks : List ℕ) (ids left : List ℤ)
+    → Writing g first now entry more blocks ids left
+    → AsksAtMost (put_cost first.layout 192 * length more) (g.asked first.image) (g.asked now.image)
+writing_costs g first now entry more blocks ids left w =
+    puts_most (put_cost first.layout 192) (length more - length blocks) (length more) (g.asked first.image) (g.asked now.image)
+    (omega arith) w.cost
+
+-- nor where one of them was
+pub one_costs : {I : Type 0} (g : Ghosts I) (first now next : Drafted I) (entry : ℤ) (more blocks : List ℕ) (ids left : List ℤ)
+    → Writing g first now entry more blocks ids left → 1 ≤ length blocks
+    → AsksAtMost (put_cost now.layout 192) (g.asked now.image) (g.asked next.image)
+    → AsksAtMost (put_cost first.layout 192 * length more) (g.asked first.image) (g.asked next.image)
+one_costs g first now next entry more blocks ids left w some asks =
+    let few = w.few in
+    let one : AsksAtMost (put_cost first.layout 192 * (length more - length blocks + 1)) (g.asked first.image) (g.asked next.image) =
+    asks_then (put_cost first.layout 192 * (length more - length blocks)) (put_cost now.layout 192)
+    (put_cost first.layout 192 * (length more - length blocks + 1)) (g.asked first.image) (g.asked now.image) (g.asked next.image) w.cost
+    asks
+    (one_cost (put_cost first.layout 192) (put_cost now.layout 192) (length more - length blocks)
+    (ap (λ (l : Layout). put_cost l 192) w.frame.layout)) in
+    puts_most (put_cost first.layout 192) (length more - length blocks + 1) (length more) (g.asked first.image) (g.asked next.image)
+    (omega arith) one
+
+-- a block that is put
+pub put_costs : (layout : Layout) (n : ℕ) (a b : Option ℕ) → n ≡ 192 → AsksAtMost (put_cost layout n) a b
+    → AsksAtMost (put_cost layout 192) a b
+put_costs layout n a b same cost = subst (λ (m : ℕ). AsksAtMost (put_cost layout m) a b) same cost
+
+-- so many blocks, and one more
+pub then_costs : {I : Type 0} (g : Ghosts I) (first now next : Drafted I) (n count : ℕ) → now.layout ≡ first.layout → n ≡ 192
+    → AsksAtMost (put_cost first.layout 192 * count) (g.asked first.image) (g.asked now.image)
+    → AsksAtMost (put_cost now.layout n) (g.asked now.image) (g.asked next.image)
+    → AsksAtMost (put_cost first.layout 192 * (count + 1)) (g.asked first.image) (g.asked next.image)
+then_costs g first now next n count layout same cost asks =
+    asks_then (put_cost first.layout 192 * count) (put_cost now.layout n) (put_cost first.layout 192 * (count + 1)) (g.asked first.image)
+    (g.asked now.image) (g.asked next.image) cost asks
+    (one_cost (put_cost first.layout 192) (put_cost now.layout n) count
+    (ap (put_cost now.layout) same ∙ ap (λ (l : Layout). put_cost l 192) layout))
 
 -- ---- a free block
 

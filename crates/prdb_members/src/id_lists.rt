@@ -97,7 +97,7 @@ impl IdList {
     }
 
     /// The same list with an id in its place, which may be there already.
-    pub(crate) fn with(&self, alloc: Global, id: i32) -> Result<IdList, AllocError>
+    pub fn with(&self, alloc: Global, id: i32) -> Result<IdList, AllocError>
         ensures members { IfOk result (λ after. (x : ℤ) → Contains after x ↔ ((x ≡ id) ⊎ Contains self.now x)) }
         ensures ascending { IfOk result (λ after. IsAscending after) }
         ensures placed { IfOk result (λ after. ¬ Contains self.now id → after ≡ ids_with id self.now) }
@@ -112,8 +112,9 @@ impl IdList {
         ids.extend_from_slice(behind)?;
         Ok(IdList { ids })
     }
+
     /// The same list without an id.
-    pub(crate) fn without(&self, alloc: Global, id: i32) -> Result<IdList, AllocError>
+    pub fn without(&self, alloc: Global, id: i32) -> Result<IdList, AllocError>
         ensures { IfOk result (λ after. after ≡ ids_without id self.now) }
     {
         let ids = others(alloc, self.ids.as_slice(), id)?;

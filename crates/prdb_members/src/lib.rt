@@ -20,4 +20,6 @@ pub use laws::{
     law_part_takes_the_pair, law_remove_keeps_pairs, law_replace_keeps_pairs,
     law_set_maxima_keeps_pairs,
 };
+pub use listed::{Listed, read_list};
 pub use moves::move_id;
+pub use sides::{Place, blocks_for, write_list};

@@ -1,5 +1,6 @@
 //! The list of an entry's pairs, and the blocks in which it lies.
-ghost use Rattle.std.specs.Prelude.{◌≡◌, ◌+◌, ◌-◌, ◌<◌, ◌≤◌, ◌^◌, ℕ, List, IfOk, IfErr, IfSome, IsErrOf, length};
+ghost use Rattle.std.specs.Prelude.{◌≡◌, ◌+◌, ◌-◌, ◌*◌, ◌<◌, ◌≤◌, ◌^◌, ℕ, List, IfOk, IfErr, IfSome, IsErrOf, length};
+ghost use Rattle.db_image.specs.Asked.{AsksAtMost};
 ghost use Rattle.db_blocks.specs.Blocks.{IsWhole, block_in, block_place};
 ghost use Rattle.db_blocks.specs.Ends.{HasCause, OnlyLooks};
 ghost use Rattle.prdb_entries.specs.Registry.{Registry};
@@ -21,7 +22,7 @@ use std::alloc::Global;
 
 /// The pairs of an entry.
 #[derive(Drop)]
-pub(crate) struct Listed {
+pub struct Listed {
     /// The ids with which it is paired.
     pub ids: IdList,
     /// The numbers of the continuation blocks in which those behind the first ones lie.
@@ -43,6 +44,7 @@ fn read_more<I: ImageRead>(
     ensures block { IfOk result (λ block. IfSome d.old.bytes (λ image. block ≡ block_in HEAD_LEN image (link - 1))) }
     ensures fault { IfErr result (HasCause d.old.bytes (λ image. IsMore image entry link count)) }
     ensures frame { OnlyLooks I.ImageRead d.old d.new (IsErrOf result RecordFault.DiskFault) }
+    ensures cost { AsksAtMost BLOCK_LEN (I.asked d.old.image) (I.asked d.new.image) }
 {
     if link == 0 || link > count {
         return Err(RecordFault::BadRecord { at });
@@ -54,8 +56,8 @@ fn read_more<I: ImageRead>(
     Ok(block)
 }
 
-/// The pairs of an entry, by its block.
-pub(crate) fn read_list<I: ImageRead>(
+/// The pairs of an entry, by its block. It asks for its continuation blocks alone.
+pub fn read_list<I: ImageRead>(
     alloc: Global,
     d: &mut Draft<I>,
     entry: i32,
@@ -68,6 +70,8 @@ pub(crate) fn read_list<I: ImageRead>(
     ensures within { IfOk result (λ read. AreWithin d.old.len read.more.items) }
     ensures fault { IfErr result (HasCause d.old.bytes (λ image. IsWhole HEAD_LEN image × ((l : PairList) × IsListed image entry found.now.block l))) }
     ensures frame { OnlyLooks I.ImageRead d.old d.new (IsErrOf result RecordFault.DiskFault) }
+    ensures cost { IfSome d.old.bytes (λ image. (l : PairList) → IsListed image entry found.now.block l
+        → AsksAtMost (BLOCK_LEN * length l.more) (I.asked d.old.image) (I.asked d.new.image)) }
 {
     let at = block_place(HEAD_LEN as u32, found.number);
     let count = block_count(HEAD_LEN as u32, d.len())?;

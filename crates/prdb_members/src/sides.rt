@@ -1,6 +1,8 @@
 //! One side of a pair: an id that comes into the list of an entry, or goes out of it.
-ghost use Rattle.std.specs.Prelude.{◌≡◌, ◌+◌, ◌<◌, ◌≤◌, ◌^◌, ℕ, ℤ, List, IfOk, OnOk, IfErr, IfSome, IsSome, IsSomeAnd, IsErrOf, length, take, drop};
+ghost use Rattle.std.specs.Prelude.{◌≡◌, ◌+◌, ◌*◌, ◌<◌, ◌≤◌, ◌^◌, ℕ, ℤ, List, IfOk, OnOk, IfErr, IfSome, IsSome, IsSomeAnd, IsErrOf, length, take, drop};
 ghost use Rattle.std.specs.List.{Contains};
+ghost use Rattle.db_image.specs.Asked.{AsksAtMost};
+ghost use Rattle.db_image.specs.Draft.{put_cost};
 ghost use Rattle.db_blocks.specs.Blocks.{IsWhole, block_place};
 ghost use Rattle.db_blocks.specs.Ends.{Becomes, HasCause, OnlyDrafts, OnlyLooks};
 ghost use Rattle.prdb_entries.specs.Blocks.{block_count};
@@ -23,7 +25,7 @@ use std::alloc::Global;
 
 /// An entry, its block, and its list of pairs.
 #[derive(Drop)]
-pub(crate) struct Place {
+pub struct Place {
     pub entry: i32,
     pub found: Found,
     pub listed: Listed,
@@ -92,7 +94,7 @@ fn take_block<I: ImageRead>(d: &mut Draft<I>) -> Result<u32, RecordFault>
 }
 
 /// How many continuation blocks so many ids need.
-fn blocks_for(count: usize) -> usize
+pub fn blocks_for(count: usize) -> usize
     ensures { result ≡ blocks_for count }
 {
     count.saturating_sub(FIRST_IDS).div_ceil(MORE_IDS)
@@ -125,7 +127,7 @@ fn more_for<I: ImageRead>(
 }
 
 /// Writes a list of pairs in place of that of an entry. A bad record where there are too many ids to count.
-pub(crate) fn write_list<I: ImageRead>(
+pub fn write_list<I: ImageRead>(
     alloc: Global,
     d: &mut Draft<I>,
     place: &Place,
@@ -140,6 +142,7 @@ pub(crate) fn write_list<I: ImageRead>(
     ensures len { d.new.len ≡ d.old.len }
     ensures fault { IfErr result (HasCause d.old.bytes (λ image. length ids.now < 2 ^ 32)) }
     ensures frame { OnlyDrafts I.ImageRead d.old d.new (IsErrOf result RecordFault.DiskFault) }
+    ensures cost { AsksAtMost (put_cost d.old.layout BLOCK_LEN * (length more.now + 1)) (I.asked d.old.image) (I.asked d.new.image) }
 {
     let at = block_place(HEAD_LEN as u32, place.found.number);
     if ids.len() > MAX_IDS {

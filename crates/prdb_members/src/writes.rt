@@ -1,6 +1,8 @@
 //! Lists of pairs, as they are written into blocks.
-ghost use Rattle.std.specs.Prelude.{◌≡◌, ◌+◌, ◌<◌, ◌≤◌, ◌^◌, ◌++◌, ℕ, ℤ, List, IfOk, OnOk, IfErr, IsErrOf, length, map, take};
+ghost use Rattle.std.specs.Prelude.{◌≡◌, ◌+◌, ◌*◌, ◌<◌, ◌≤◌, ◌^◌, ◌++◌, ℕ, ℤ, List, IfOk, OnOk, IfErr, IsErrOf, length, map, take};
 ghost use Rattle.std.specs.List.{All};
+ghost use Rattle.db_image.specs.Asked.{AsksAtMost};
+ghost use Rattle.db_image.specs.Draft.{put_cost};
 ghost use Rattle.db_image.specs.Images.{IsOfImage};
 ghost use Rattle.db_blocks.specs.Blocks.{block_place};
 ghost use Rattle.db_blocks.specs.Ends.{Becomes, OnlyDrafts};
@@ -94,6 +96,7 @@ fn write_one<I: ImageRead>(
     ensures len { d.new.len ≡ d.old.len }
     ensures fault { IfErr result IsOfImage }
     ensures frame { OnlyDrafts I.ImageRead d.old d.new (IsErrOf result RecordFault.DiskFault) }
+    ensures cost { AsksAtMost (put_cost d.old.layout BLOCK_LEN) (I.asked d.old.image) (I.asked d.new.image) }
 {
     let block = more_block(alloc, entry, link_to(behind), ids)?;
     d.put(block_place(HEAD_LEN as u32, number), &block)
@@ -113,6 +116,7 @@ pub(crate) fn write_more<I: ImageRead>(
     ensures len { d.new.len ≡ d.old.len }
     ensures fault { IfErr result IsOfImage }
     ensures frame { OnlyDrafts I.ImageRead d.old d.new (IsErrOf result RecordFault.DiskFault) }
+    ensures cost { AsksAtMost (put_cost d.old.layout BLOCK_LEN * length more.now) (I.asked d.old.image) (I.asked d.new.image) }
 {
     let mut left = ids;
     let mut blocks = more;

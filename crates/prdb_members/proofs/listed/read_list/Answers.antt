@@ -5,7 +5,7 @@ use Rattle.db_blocks.specs.Blocks.{IsWhole}
 use Rattle.db_blocks.proofs.Scanned.{bad_size, looks_then, looks_so}
 use Rattle.prdb_members.specs.Blocks.{ids_in}
 use Rattle.prdb_members.specs.Lists.{IsAscending}
-use Rattle.prdb_members.proofs.ListRead.{Lists, cause_so, first_falls, lists_whole, more_falls, no_more, read_first, read_more, read_whole}
+use Rattle.prdb_members.proofs.ListRead.{Lists, cause_so, first_falls, lists_whole, more_falls, no_more, none_costs, one_costs, read_costs, read_first, read_more, read_whole}
 use Rattle.prdb_members.proofs.listed.read_list.Goals as goal
 
 pub returns-in_err-count-clause-fault : goal.returns-in_err-count-clause-fault
@@ -85,7 +85,7 @@ loop-left-preserved g c =
     (read_more g.I.ImageRead c.args.d.now c.loop-left.d c.read_more.new.d c.args.entry c.args.found.now.block c.in_ok-block.block
     c.loop-left.ids c.read_ids-in-loop-left.new.ids c.loop-left.more.items c.push.new.self.items c.in_ok-count.count
     c.loop-left.left c.loop-left.link c.min-here.result (c.loop-left.left - c.min-here.result) c.word_at-next.result _
-    so_far c.read_more.ensures.frame c.in_ok-block.ensures.block c.loop-left-test.true c.in_ok-block.ensures.some
+    so_far c.read_more.ensures.frame c.read_more.ensures.cost c.in_ok-block.ensures.block c.loop-left-test.true c.in_ok-block.ensures.some
     c.in_ok-block.ensures.within c.min-here.ensures
     (c.in_ok-read_ids-2.ensures.read c.if-not-branch-2.false) c.in_ok-push.ensures.items refl c.word_at-next.ensures)
 
@@ -100,3 +100,55 @@ returns-clause-found g c =
 
 pub returns-clause-within : goal.returns-clause-within
 returns-clause-within g c = c.loop-left.invariant.within
+
+pub returns-in_err-count-clause-cost : goal.returns-in_err-count-clause-cost
+returns-in_err-count-clause-cost g c =
+    none_costs c.args.d.now.bytes c.args.entry c.args.found.now.block (g.I.ImageRead.asked c.args.d.now.image)
+
+pub returns-in_err-read_ids-clause-cost : goal.returns-in_err-read_ids-clause-cost
+returns-in_err-read_ids-clause-cost g c =
+    none_costs c.args.d.now.bytes c.args.entry c.args.found.now.block (g.I.ImageRead.asked c.args.d.now.image)
+
+pub returns-then-not-branch-clause-cost : goal.returns-then-not-branch-clause-cost
+returns-then-not-branch-clause-cost g c =
+    none_costs c.args.d.now.bytes c.args.entry c.args.found.now.block (g.I.ImageRead.asked c.args.d.now.image)
+
+pub returns-in_err-block-clause-cost : goal.returns-in_err-block-clause-cost
+returns-in_err-block-clause-cost g c =
+    let fits = c.ranges.entry in
+    let raw = c.loop-left.invariant in
+    let so_far = simp to_z-of_z at raw in
+    one_costs g.I.ImageRead c.args.d.now c.loop-left.d c.read_more.new.d c.args.entry c.args.found.now.block c.loop-left.ids
+    c.loop-left.more.items c.in_ok-count.count c.loop-left.left c.loop-left.link so_far c.loop-left-test.true c.read_more.ensures.cost
+
+pub returns-in_err-push-clause-cost : goal.returns-in_err-push-clause-cost
+returns-in_err-push-clause-cost g c =
+    let fits = c.ranges.entry in
+    let raw = c.loop-left.invariant in
+    let so_far = simp to_z-of_z at raw in
+    one_costs g.I.ImageRead c.args.d.now c.loop-left.d c.read_more.new.d c.args.entry c.args.found.now.block c.loop-left.ids
+    c.loop-left.more.items c.in_ok-count.count c.loop-left.left c.loop-left.link so_far c.loop-left-test.true c.read_more.ensures.cost
+
+pub returns-in_err-read_ids-2-clause-cost : goal.returns-in_err-read_ids-2-clause-cost
+returns-in_err-read_ids-2-clause-cost g c =
+    let fits = c.ranges.entry in
+    let raw = c.loop-left.invariant in
+    let so_far = simp to_z-of_z at raw in
+    one_costs g.I.ImageRead c.args.d.now c.loop-left.d c.read_more.new.d c.args.entry c.args.found.now.block c.loop-left.ids
+    c.loop-left.more.items c.in_ok-count.count c.loop-left.left c.loop-left.link so_far c.loop-left-test.true c.read_more.ensures.cost
+
+pub returns-then-not-branch-2-clause-cost : goal.returns-then-not-branch-2-clause-cost
+returns-then-not-branch-2-clause-cost g c =
+    let fits = c.ranges.entry in
+    let raw = c.loop-left.invariant in
+    let so_far = simp to_z-of_z at raw in
+    one_costs g.I.ImageRead c.args.d.now c.loop-left.d c.read_more.new.d c.args.entry c.args.found.now.block c.loop-left.ids
+    c.loop-left.more.items c.in_ok-count.count c.loop-left.left c.loop-left.link so_far c.loop-left-test.true c.read_more.ensures.cost
+
+pub returns-clause-cost : goal.returns-clause-cost
+returns-clause-cost g c =
+    let fits = c.ranges.entry in
+    let raw = c.loop-left.invariant in
+    let so_far = simp to_z-of_z at raw in
+    read_costs g.I.ImageRead c.args.d.now c.loop-left.d c.args.entry c.args.found.now.block c.loop-left.ids c.loop-left.more.items
+    c.in_ok-count.count c.loop-left.left c.loop-left.link so_far

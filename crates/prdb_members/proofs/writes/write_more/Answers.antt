@@ -2,7 +2,7 @@ use Rattle.std.proofs.Common.{◌≡◌, ℕ, ◌+◌, ◌-◌, ◌≤◌, get_o
 use Rattle.std.proofs.lemmas.Int.{to_z-of_z}
 use Rattle.std.proofs.lemmas.List.Elements.{All-drop, All-take}
 use Rattle.db_blocks.specs.Blocks.{block_place}
-use Rattle.prdb_members.proofs.Written.{drop_most, parts_of, take_most, within_small, writing_all, writing_more, writing_none}
+use Rattle.prdb_members.proofs.Written.{drop_most, one_costs, parts_of, take_most, within_small, writing_all, writing_costs, writing_more, writing_none}
 use Rattle.prdb_members.proofs.writes.write_more.Goals as goal
 
 pub loop-blocks-init : goal.loop-blocks-init
@@ -35,7 +35,7 @@ loop-blocks-preserved g c =
     (parts_of c.loop-blocks.blocks.now c.in-len1-up.len_at_least)
     (c.split_at.ensures.front ∙ ap (λ (n : ℕ). take n c.loop-blocks.left.now) c.min.ensures ∙ take_most 44 c.loop-blocks.left.now)
     (c.split_at.ensures.back ∙ ap (λ (n : ℕ). drop n c.loop-blocks.left.now) c.min.ensures ∙ drop_most 44 c.loop-blocks.left.now)
-    bytes c.write_one.ensures.len c.write_one.ensures.frame)
+    bytes c.write_one.ensures.len c.write_one.ensures.frame c.write_one.ensures.cost)
 
 pub returns-clause-bytes : goal.returns-clause-bytes
 returns-clause-bytes g c =
@@ -45,3 +45,19 @@ returns-clause-bytes g c =
     let none : length c.loop-blocks.blocks.now ≡ 0 = omega arith in
     writing_all g.I.ImageRead c.args.d.now c.loop-blocks.d c.args.entry c.args.more.now c.loop-blocks.blocks.now c.args.ids.now
     c.loop-blocks.left.now w none
+
+pub returns-in_err-write_one-clause-cost : goal.returns-in_err-write_one-clause-cost
+returns-in_err-write_one-clause-cost g c =
+    let fits = c.ranges.entry in
+    let raw = c.loop-blocks.invariant in
+    let w = simp to_z-of_z at raw in
+    one_costs g.I.ImageRead c.args.d.now c.loop-blocks.d c.write_one.new.d c.args.entry c.args.more.now c.loop-blocks.blocks.now
+    c.args.ids.now c.loop-blocks.left.now w c.in-len1-up.len_at_least c.write_one.ensures.cost
+
+pub returns-clause-cost : goal.returns-clause-cost
+returns-clause-cost g c =
+    let fits = c.ranges.entry in
+    let raw = c.loop-blocks.invariant in
+    let w = simp to_z-of_z at raw in
+    writing_costs g.I.ImageRead c.args.d.now c.loop-blocks.d c.args.entry c.args.more.now c.loop-blocks.blocks.now c.args.ids.now
+    c.loop-blocks.left.now w
