@@ -53,7 +53,7 @@ unfolding laid
 laid_in image bytes at i within inside = grind (arith, places)
 
 -- and they are the same in both
-inside_same : (at len i : ℕ) (a b : List ℕ) → at + len ≤ length a → at + len ≤ length b → at ≤ i → i < at + len
+pub inside_same : (at len i : ℕ) (a b : List ℕ) → at + len ≤ length a → at + len ≤ length b → at ≤ i → i < at + len
     → slice_index (blanked at len a) i ≡ slice_index (blanked at len b) i
 inside_same at len i a b in_a in_b from below =
     let z = zeros len in
@@ -296,7 +296,7 @@ two_beside image at to m n whole is there =
     ∙ place_beside image at m whole is
 
 -- where a word's next one stands
-next_is : (next : ℕ) (image : List ℕ) (w : ℕ) → 96 ≤ next → next + 4 ≤ 112 → is_right (entry_links next) image w ≡ true
+pub next_is : (next : ℕ) (image : List ℕ) (w : ℕ) → 96 ≤ next → next + 4 ≤ 112 → is_right (entry_links next) image w ≡ true
     → IsEntryPlace image (next_place (entry_links next) w)
 next_is next image w from fits is =
     let n = right_names (entry_links next) image w is in

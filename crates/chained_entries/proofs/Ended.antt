@@ -1,5 +1,6 @@
 -- What the steps of a look-up give together.
-use Rattle.std.proofs.Common.{◌≡◌, ℕ, ℤ, ◌+◌, ◌*◌, Bool, List, [], Option, Some, None, IfSome, Result, Ok, Err, IfOk, IfErr, length, sym, ap, subst, ◌∙◌}
+use Rattle.std.proofs.Common.{◌≡◌, ℕ, ℤ, zero, suc, ◌+◌, ◌-◌, ◌*◌, ◌/◌, Bool, List, [], Option, Some, None, IfSome, Result, Ok, Err, IfOk, IfErr, length, take, drop, refl, sym, ap, subst, ◌∙◌, arith}
+use Rattle.std.specs.Int.{w32, from_be_bytes}
 use Rattle.std.specs.Option.{option_map}
 use Rattle.db_image.specs.Asked.{AsksAtMost}
 use Rattle.db_image.specs.Draft.{Drafted}
@@ -8,12 +9,16 @@ use Rattle.db_image.specs.declared.images.ImageRead.{Ghosts}
 use Rattle.db_image.specs.declared.faults.RecordFault.{RecordFault}
 use Rattle.db_image.specs.declared.faults.RecordFault.TheVariants.{DiskFault, BadRecord, NoMemory}
 use Rattle.db_image.proofs.ReadSteps.{asks_none}
+use Rattle.db_blocks.specs.Blocks.{word_at}
 use Rattle.db_blocks.specs.Ends.{OnlyLooks}
 use Rattle.db_chains.specs.declared.links.Links.{Links}
 use Rattle.db_chains.specs.declared.walks.Link.{Link}
+use Rattle.db_chains.specs.Changes.{IsPlaced}
 use Rattle.db_chains.specs.Chains.{HasChain}
+use Rattle.db_chains.specs.Free.{IsNumber}
 use Rattle.db_chains.specs.Ends.{CostsAtMost}
-use Rattle.db_chains.specs.Walks.{IsFound, first_met, meets, stop_place}
+use Rattle.db_chains.specs.Sought.{EndsChain}
+use Rattle.db_chains.specs.Walks.{IsFound, first_met, meets, most_words, passed, place_behind, stop_place}
 use Rattle.prdb_entries.specs.RecordEnds.{HasCause as HasEntryCause, HoldNone, seen}
 use Rattle.prdb_entries.specs.Records.{Holds as HoldsEntries, IsLaidOut, entry_in}
 use Rattle.prdb_entries.specs.Registry.{IsNamed, Registry, first_registry}
@@ -22,6 +27,7 @@ use Rattle.prdb_entries.specs.declared.records.PrEntry.{PrEntry as CodeEntry}
 use Rattle.prdb_entries.proofs.FirstImage.{empty_holds}
 use Rattle.prdb_members.specs.Members.{Members}
 use Rattle.prdb_members.proofs.ListFound.{whole_none}
+use Rattle.chained_entries.specs.Places.{free_blocks, id_links}
 use Rattle.chained_entries.specs.Records.{Holds}
 use Rattle.chained_entries.specs.Sought.{IsRead}
 use Rattle.chained_entries.proofs.FirstChains.{first_unchained}
@@ -44,7 +50,33 @@ read_some None l test at link f e some found is = tt
 read_some (Some image) l test at link f e some found is =
     let here : IsFound l test image (stop_place l test image at) (Some f) =
     subst (IsFound l test image (stop_place l test image at)) some found in
-    (f.word, here.0.right, ap (test f.word) (sym here.0.block) ∙ here.1, is ∙ ap entry_in here.0.block)
+    (f, (here.0.right, here.0.block, here.1), is)
+
+-- a walk that found nothing ended at a word that is 0
+pub ended : (bytes : Option (List ℕ)) (l : Links) (test : ℕ → List ℕ → Bool) (at : ℕ) (link : Option Link) → link ≡ None
+    → IfSome bytes (λ image. IsFound l test image (stop_place l test image at) link) → IfSome bytes (EndsChain l test at)
+ended None l test at link none found = tt
+ended (Some image) l test at link none found = subst (IsFound l test image (stop_place l test image at)) none found
+
+no_bytes : (n : ℕ) → ◌≡◌ {A = List ℕ} (drop n []) []
+no_bytes zero = refl
+no_bytes (suc n) = refl
+
+-- the empty image has no word but 0
+pub empty_ended : (bytes : Option (List ℕ)) (len : ℕ) (l : Links) (test : ℕ → List ℕ → Bool) (at : ℕ)
+    → IfSome bytes (λ image. length image ≡ len) → len ≡ 0 → IfSome bytes (EndsChain l test at)
+unfolding stop_place passed
+empty_ended None len l test at told none = tt
+empty_ended (Some image) len l test at told none =
+    let count : (0 - l.head) / 192 ≡ 0 = omega arith in
+    let most : most_words l [] ≡ 0 = ap (λ (n : ℕ). n * l.kinds) count ∙ omega arith in
+    let first : word_at [] at ≡ 0 = ap (λ (b : List ℕ). from_be_bytes w32 (take 4 b)) (no_bytes at) in
+    subst (EndsChain l test at) (sym (empty_is image (told ∙ none)))
+    (subst (λ (m : ℕ). word_at [] (place_behind l at (passed l test [] m at)) ≡ 0) (sym most) first)
+
+pub ok_ended : {T : Type 0} (r : Result (Option T) RecordFault) (A : Type 0) → A → IfOk r (λ found. found ≡ None → A)
+ok_ended (Err fault) A is = tt
+ok_ended (Ok found) A is = λ none. is
 
 -- what only looked, and did not fail
 pub looks_well : {I : Type 0} (g : Ghosts I) (a b : Drafted I) (first failed : Type 0) → OnlyLooks g a b first → (failed → ⊥)
@@ -70,7 +102,7 @@ costs_free g (Some image) l at a b same = λ ws chain.
 
 -- ---- the empty image
 
-first_held : (image : List ℕ) (r : Registry) (m : Members) → length image ≡ 0 → Holds image r m → HoldsEntries [] r
+pub first_held : (image : List ℕ) (r : Registry) (m : Members) → length image ≡ 0 → Holds image r m → HoldsEntries [] r
 first_held image r m none holds =
     let first : Holds [] r m = subst (λ (i : List ℕ). Holds i r m) (empty_is image none) holds in record {
       valid = first.pairs.holds.valid;
@@ -98,7 +130,7 @@ empty_of_id (Ok found) (Some image) first len id told none here is = λ r m hold
     r (first_held image r m (told ∙ none) holds)
 
 -- it holds a registry, so that there is no bad record
-of_first : (first : Option (List ℕ)) (fault : RecordFault) → first ≡ Some [] → HasEntryCause first HoldsEntries fault → IsOfImage fault
+pub of_first : (first : Option (List ℕ)) (fault : RecordFault) → first ≡ Some [] → HasEntryCause first HoldsEntries fault → IsOfImage fault
 of_first first DiskFault here cause = tt
 of_first first NoMemory here cause = tt
 of_first first (BadRecord at) here cause =
@@ -108,3 +140,19 @@ pub err_first : {T : Type 0} (res : Result T RecordFault) (first : Option (List 
     → IfErr res (HasEntryCause first HoldsEntries) → IfErr res IsOfImage
 err_first (Ok x) first here cause = tt
 err_first (Err fault) first here cause = of_first first fault here cause
+
+-- ---- the word of an entry
+
+word_within : (len count w : ℕ) → len ≡ 2112 + 192 * count → IsPlaced id_links len w → IsNumber free_blocks len w
+word_within len count w whole is =
+    record { some = omega (arith, is.some); within = omega (arith, is.some, is.within) }
+
+some_within : (link : Option Link) (len count : ℕ) → len ≡ 2112 + 192 * count → IfSome link (λ f. IsPlaced id_links len f.word)
+    → IfSome link (λ f. IsNumber free_blocks len f.word)
+some_within None len count whole is = tt
+some_within (Some f) len count whole is = word_within len count f.word whole is
+
+pub link_within : (res : Result (Option Link) RecordFault) (len count : ℕ) → len ≡ 2112 + 192 * count
+    → IfOk res (λ link. IfSome link (λ f. IsPlaced id_links len f.word)) → IfOk res (λ link. IfSome link (λ f. IsNumber free_blocks len f.word))
+link_within (Err fault) len count whole is = tt
+link_within (Ok link) len count whole is = some_within link len count whole is

@@ -21,7 +21,7 @@ pub blanked_len : (at len : ℕ) (bytes : List ℕ) → at + len ≤ length byte
 blanked_len at len bytes within = put_len bytes (zeros len) at (omega (arith, length-zeros len))
 
 -- what stands before them
-blanked_front : (at len n : ℕ) (bytes : List ℕ) → n ≤ at → at + len ≤ length bytes → take n (blanked at len bytes) ≡ take n bytes
+pub blanked_front : (at len n : ℕ) (bytes : List ℕ) → n ≤ at → at + len ≤ length bytes → take n (blanked at len bytes) ≡ take n bytes
 unfolding laid
 blanked_front at len n bytes before within =
     let z = zeros len in
@@ -61,7 +61,7 @@ unlinked_kind block size =
 -- ---- an entry
 
 -- a part of what is the same in both
-part_same : (a b : List ℕ) (p n more : ℕ) → p + more ≡ 96 → n ≤ more → take 96 a ≡ take 96 b → take n (drop p a) ≡ take n (drop p b)
+pub part_same : (a b : List ℕ) (p n more : ℕ) → p + more ≡ 96 → n ≤ more → take 96 a ≡ take 96 b → take n (drop p a) ≡ take n (drop p b)
 part_same a b p n more size less same =
     let one : (x : List ℕ) → take n (drop p x) ≡ take n (drop p (take 96 x)) =
     λ x. sym (take-take n more (drop p x) less) ∙ ap (take n) (sym (drop-take p more x))

@@ -11,6 +11,7 @@ use Rattle.db_chains.specs.declared.links.Links.{Links}
 use Rattle.db_chains.specs.Chains.{HasChain}
 use Rattle.db_chains.specs.Changes.{put_in, put_word}
 use Rattle.db_chains.specs.Links.{is_right, next_place}
+use Rattle.db_chains.specs.Visits.{Visits}
 use Rattle.prdb_entries.specs.Blocks.{block_count, block_name}
 use Rattle.prdb_entries.specs.Bytes.{word_at, words, zeros}
 use Rattle.prdb_entries.specs.Layout.{block_of, head_of, layout, numbers_of}
@@ -26,7 +27,7 @@ use Rattle.prdb_members.proofs.ListFound.{whole_none}
 use Rattle.chained_entries.specs.First.{first_image}
 use Rattle.chained_entries.specs.Keys.{id_key, name_key}
 use Rattle.chained_entries.specs.Places.{id_links, id_place, name_links, name_place, owned_links, owned_place}
-use Rattle.chained_entries.specs.Records.{AreChains, HasIdKey, HasNameKey, Holds, IsEntryAt, IsGroupOf, IsOwned, Visits, whole}
+use Rattle.chained_entries.specs.Records.{AreChains, HasIdKey, HasNameKey, Holds, IsEntryAt, IsGroupOf, IsOwned, whole}
 use Rattle.chained_entries.proofs.FirstChains.{first_len, first_unchained}
 use Rattle.chained_entries.proofs.Without.{unchained_entry, unchained_kind}
 

@@ -41,7 +41,7 @@ unlinked_word head p size within =
     word_stays 64 2048 p mid (blanked 64 2048 mid) (blanked_stays 64 2048 mid (omega arith)) (omega arith) (inl (omega arith))
     ∙ word_stays 20 4 p head mid (blanked_stays 20 4 head (omega arith)) (omega arith) (inl (omega arith))
 
-word_told : (image : List ℕ) (p more : ℕ) → IsWhole 2112 image → p + more ≡ 2112 → 4 ≤ more → p + 4 ≤ 20
+pub word_told : (image : List ℕ) (p more : ℕ) → IsWhole 2112 image → p + more ≡ 2112 → 4 ≤ more → p + 4 ≤ 20
     → word_at (unchained image) p ≡ word_at image p
 word_told image p more whole_is size long within =
     let head : length (take 2112 image) ≡ 2112 = length-take-le 2112 image (omega (arith, whole_is)) in
@@ -50,7 +50,7 @@ word_told image p more whole_is size long within =
     ∙ unlinked_word (take 2112 image) p head within
     ∙ in_front image p more size long
 
-told_maxima : (image : List ℕ) (r : Registry) (m : Members) → Holds image r m → maxima_in (whole image) ≡ (r.max_user, r.max_group)
+pub told_maxima : (image : List ℕ) (r : Registry) (m : Members) → Holds image r m → maxima_in (whole image) ≡ (r.max_user, r.max_group)
 told_maxima image r m holds =
     let old = whole image in
     let user : word_at (unchained old) 8 ≡ word_at old 8 = word_told old 8 2104 holds.size refl (omega arith) (omega arith) in

@@ -4,6 +4,11 @@ pub mod Fields
 pub mod FirstChains
 pub mod FirstHolds
 pub mod HeadTold
+pub mod Laid
+pub mod Lists
 pub mod Lookups
+pub mod MaximaSet
+pub mod OwnedLists
+pub mod Taken
 pub mod Told
 pub mod Without

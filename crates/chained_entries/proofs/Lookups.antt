@@ -38,17 +38,17 @@ cond_none : (b : Bool) (v : ℕ) (rest : Option ℕ) → cond b (Some v) rest �
 cond_none true v rest none = absurd cc
 cond_none false v rest none = (refl, none)
 
-none_met : (test : ℕ → Bool) (ws : List ℕ) (w i : ℕ) → first_met test ws ≡ None → i < length ws → get_or ws i w ≡ w → test w ≡ false
+pub none_met : (test : ℕ → Bool) (ws : List ℕ) (w i : ℕ) → first_met test ws ≡ None → i < length ws → get_or ws i w ≡ w → test w ≡ false
 none_met test [] w i none below at = absurd (omega arith)
 none_met test (v ∷ ws) w zero none below at = ap test (sym at) ∙ (cond_none (test v) v (first_met test ws) none).0
 none_met test (v ∷ ws) w (suc i) none below at =
     none_met test ws w i (cond_none (test v) v (first_met test ws) none).1 (omega arith) at
 
-is_false : (b : Bool) → b ≡ true → b ≡ false → ⊥
+pub is_false : (b : Bool) → b ≡ true → b ≡ false → ⊥
 is_false b t f = cc
 
 -- a word of a chain without what is looked for does not meet the test
-not_met : (l : Links) (test : ℕ → List ℕ → Bool) (image : List ℕ) (at w k : ℕ) (ws : List ℕ) → IsRead l test at image None
+pub not_met : (l : Links) (test : ℕ → List ℕ → Bool) (image : List ℕ) (at w k : ℕ) (ws : List ℕ) → IsRead l test at image None
     → HasChain l image at ws → Contains ws w → block_of l w ≡ k → test w (any_block l.head image k) ≡ false
 not_met l test image at w k ws none chain has is =
     ap (λ (j : ℕ). test w (any_block l.head image j)) (sym is) ∙ none_met (meets l test image) ws w has.0 (none ws chain) has.1 has.2
@@ -73,12 +73,13 @@ name_some : (image : List ℕ) (r : Registry) (m : Members) (name : List ℕ) (e
     → IsRead name_links (λ w block. has_name name block) (name_chain name) (whole image) (Some e) → IsNamed r name (Some e)
 name_some image r m name e holds is =
     let old = whole image in
-    let n = right_names name_links old is.0 is.1 in
-    let k = block_of name_links is.0 in
-    let here = same_block old k in
+    let f = is.0 in
+    let n = right_names name_links old f.word is.1.0 in
+    let k = block_of name_links f.word in
+    let here : f.block ≡ block_in old k = is.1.1 ∙ same_block old k in
     let below : k < block_count old = omega (arith, n.some, n.block) in
-    let p = name_parts name (block_in old k) (ap (has_name name) (sym here) ∙ is.2) in
-    let same : e ≡ entry_in (block_in old k) = is.3 ∙ ap entry_in here in (
+    let p = name_parts name (block_in old k) (ap (has_name name) (sym here) ∙ is.1.2) in
+    let same : e ≡ entry_in (block_in old k) = is.2 ∙ ap entry_in here in (
       subst (λ (x : PrEntry). r.entry x.id ≡ Some x) (sym same) (told_there image r m k holds below p.0),
       ap (λ (x : PrEntry). x.name) same ∙ p.1,
     )
@@ -129,7 +130,7 @@ ok_named (Ok found) bytes len name told some is = named bytes len name (option_m
 
 -- ---- by id
 
-id_has : (id : ℤ) (block : List ℕ) → kind_of block ≡ 1 → (entry_in block).id ≡ id → has_id id block ≡ true
+pub id_has : (id : ℤ) (block : List ℕ) → kind_of block ≡ 1 → (entry_in block).id ≡ id → has_id id block ≡ true
 id_has id block kind same =
     and_from (eqb (kind_of block) 1) (int_eq (entry_in block).id id) (eq-eqb (kind_of block) 1 kind)
     ((Decides-int_eq (entry_in block).id id).1 same)
@@ -138,12 +139,13 @@ id_some : (image : List ℕ) (r : Registry) (m : Members) (id : ℤ) (e : PrEntr
     → IsRead id_links (λ w block. has_id id block) (id_chain id) (whole image) (Some e) → Some e ≡ r.entry id
 id_some image r m id e holds is =
     let old = whole image in
-    let n = right_names id_links old is.0 is.1 in
-    let k = block_of id_links is.0 in
-    let here = same_block old k in
+    let f = is.0 in
+    let n = right_names id_links old f.word is.1.0 in
+    let k = block_of id_links f.word in
+    let here : f.block ≡ block_in old k = is.1.1 ∙ same_block old k in
     let below : k < block_count old = omega (arith, n.some, n.block) in
-    let p = id_parts id (block_in old k) (ap (has_id id) (sym here) ∙ is.2) in
-    let same : e ≡ entry_in (block_in old k) = is.3 ∙ ap entry_in here in
+    let p = id_parts id (block_in old k) (ap (has_id id) (sym here) ∙ is.1.2) in
+    let same : e ≡ entry_in (block_in old k) = is.2 ∙ ap entry_in here in
     ap Some same ∙ sym (told_there image r m k holds below p.0) ∙ ap r.entry p.1
 
 none_if : (o : Option PrEntry) → ((e : PrEntry) → o ≡ Some e → ⊥) → None ≡ o
@@ -168,7 +170,7 @@ id_none image r m id holds none = none_if (r.entry id) (λ e at.
     is_false (has_id id (block_in old o.0)) (id_has id (block_in old o.0) o.2 (ap (λ (x : PrEntry). x.id) o.3 ∙ own))
     (ap (has_id id) (sym (same_block old o.0)) ∙ fails))
 
-of_id : (bytes : Option (List ℕ)) (len : ℕ) (id : ℤ) (found : Option PrEntry) → IfSome bytes (λ image. length image ≡ len) → 0 < len
+pub of_id : (bytes : Option (List ℕ)) (len : ℕ) (id : ℤ) (found : Option PrEntry) → IfSome bytes (λ image. length image ≡ len) → 0 < len
     → IfSome bytes (λ image. IsRead id_links (λ w block. has_id id block) (id_chain id) image found)
     → IfSome bytes (λ image. (r : Registry) (m : Members) → Holds image r m → found ≡ r.entry id)
 of_id None len id found told some is = tt
@@ -186,7 +188,7 @@ ok_of_id (Ok found) bytes len id told some is = of_id bytes len id (option_map s
 
 -- ---- a fault
 
-whole_now : (image : List ℕ) (r : Registry) (m : Members) → Holds image r m → 0 < length image → IsWhole 2112 image
+pub whole_now : (image : List ℕ) (r : Registry) (m : Members) → Holds image r m → 0 < length image → IsWhole 2112 image
 whole_now image r m holds some = subst (λ (i : List ℕ). IsWhole 2112 i) (whole_same image some) holds.size
 
 pub name_fault : (bytes : Option (List ℕ)) (len : ℕ) (name : List ℕ) (fault : RecordFault) → IfSome bytes (λ image. length image ≡ len)

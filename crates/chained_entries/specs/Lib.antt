@@ -1,6 +1,9 @@
+pub mod Changes
 pub mod Ends
 pub mod First
+pub mod FirstWords
 pub mod Keys
+pub mod Owned
 pub mod Places
 pub mod Records
 pub mod Sought

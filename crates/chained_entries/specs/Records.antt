@@ -4,7 +4,7 @@ use Rattle.std.specs.List.{Contains}
 use Rattle.db_blocks.specs.Blocks.{IsWhole}
 use Rattle.db_chains.specs.Chains.{HasChain}
 use Rattle.db_chains.specs.Free.{IsAscending, free_links}
-use Rattle.db_chains.specs.declared.links.Links.{Links}
+use Rattle.db_chains.specs.Visits.{Visits}
 use Rattle.prdb_entries.specs.Blocks.{block_count}
 use Rattle.prdb_entries.specs.Bytes.{word_at}
 use Rattle.prdb_entries.specs.Records.{block_in, entry_in, kind_of}
@@ -24,13 +24,6 @@ whole [] = first_image
 whole (b ∷ bytes) = b ∷ bytes
 
 -- ---- chains
-
--- The chain from a place on has just the words of which this holds, each once, since no chain has a word twice, and in any order.
-pub record Visits (l : Links) (image : List ℕ) (at : ℕ) (belongs : ℕ → Type 0) : Type 0 where
-  pub words : List ℕ
-  pub chain : HasChain l image at words
-  pub only : (w : ℕ) → Contains words w → belongs w
-  pub each : (w : ℕ) → belongs w → Contains words w
 
 -- the block of a number, the first being 1, is that of an entry of which this holds
 pub record IsEntryAt (image : List ℕ) (holds : PrEntry → Type 0) (n : ℕ) : Type 0 where

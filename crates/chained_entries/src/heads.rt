@@ -13,7 +13,7 @@ use db_image::{Draft, ImageRead, RecordFault};
 use ubik_types::WORD_LEN;
 
 /// Where the greatest user id that was given stands in the head, and behind it the least group id.
-const MAX_USER_AT: u32 = 8;
+pub(crate) const MAX_USER_AT: u32 = 8;
 
 /// The least group id of the first entries.
 const MAX_GROUP: i32 = -205;

@@ -3,7 +3,7 @@ use Rattle.std.proofs.lemmas.Result.{err_from_is_err_and}
 use Rattle.db_chains.proofs.Ended.{bad_cause, bad_count}
 use Rattle.prdb_entries.specs.RecordEnds.{seen}
 use Rattle.chained_entries.specs.Sought.{is_sought}
-use Rattle.chained_entries.proofs.Ended.{looks_well, read_some}
+use Rattle.chained_entries.proofs.Ended.{ended, looks_well, read_some}
 use Rattle.chained_entries.proofs.finds.find_entry.Goals as goal
 
 pub returns-in_err-block_count-clause-bad : goal.returns-in_err-block_count-clause-bad
@@ -28,3 +28,7 @@ returns-clause-found g c =
 
 pub returns-clause-frame : goal.returns-clause-frame
 returns-clause-frame g c = looks_well g.I.ImageRead c.args.d.now c.find.new.d _ _ c.find.ensures.frame.looks (λ e. cc)
+
+pub returns-in_default-clause-ended : goal.returns-in_default-clause-ended
+returns-in_default-clause-ended g c = λ none.
+    ended c.args.d.now.bytes c.args.links (is_sought c.args.sought) c.args.at c.in_ok-link.field-0 c.in_default.is c.in_ok-link.ensures.exact

@@ -2,7 +2,7 @@ use Rattle.std.proofs.Common.{refl, arith}
 use Rattle.std.specs.Int.{w32}
 use Rattle.std.proofs.lemmas.Int.{to_z-of_z}
 use Rattle.db_chains.proofs.Results.{err_so, image_cause, of_image}
-use Rattle.chained_entries.proofs.Ended.{costs_free, empty_of_id, err_first}
+use Rattle.chained_entries.proofs.Ended.{costs_free, empty_ended, empty_of_id, err_first, ok_ended}
 use Rattle.chained_entries.proofs.Lookups.{id_fault, ok_of_id}
 use Rattle.chained_entries.proofs.finds.find_id.Goals as goal
 
@@ -43,3 +43,11 @@ returns-clause-fault g c =
 pub returns-clause-cost : goal.returns-clause-cost
 returns-clause-cost g c =
     rw (c.id_links.ensures.is, c.id_chain.ensures.place, to_z-of_z w32 c.args.id c.ranges.id) at c.find_entry.ensures.cost
+
+pub returns-then-len-eq0-clause-ended : goal.returns-then-len-eq0-clause-ended
+returns-then-len-eq0-clause-ended g c =
+    ok_ended c.find_id.result _
+    (empty_ended c.args.d.now.bytes c.len.result _ _ _ (rw c.len.ensures.size c.len.ensures.told) c.if-len-eq0.true)
+
+pub returns-clause-ended : goal.returns-clause-ended
+returns-clause-ended g c = rw (c.id_links.ensures.is, c.id_chain.ensures.place, to_z-of_z w32 c.args.id c.ranges.id) at c.find_entry.ensures.ended

@@ -1,6 +1,6 @@
 use Rattle.std.proofs.Common.{refl, arith}
 use Rattle.db_chains.proofs.Results.{err_so, image_cause, of_image}
-use Rattle.chained_entries.proofs.Ended.{costs_free, empty_named, err_first}
+use Rattle.chained_entries.proofs.Ended.{costs_free, empty_ended, empty_named, err_first, ok_ended}
 use Rattle.chained_entries.proofs.Lookups.{name_fault, ok_named}
 use Rattle.chained_entries.proofs.finds.find_name.Goals as goal
 
@@ -37,3 +37,11 @@ returns-clause-fault g c =
 
 pub returns-clause-cost : goal.returns-clause-cost
 returns-clause-cost g c = rw (c.name_links.ensures.is, c.name_chain.ensures.place) at c.find_entry.ensures.cost
+
+pub returns-then-len-eq0-clause-ended : goal.returns-then-len-eq0-clause-ended
+returns-then-len-eq0-clause-ended g c =
+    ok_ended c.find_name.result _
+    (empty_ended c.args.d.now.bytes c.len.result _ _ _ (rw c.len.ensures.size c.len.ensures.told) c.if-len-eq0.true)
+
+pub returns-clause-ended : goal.returns-clause-ended
+returns-clause-ended g c = rw (c.name_links.ensures.is, c.name_chain.ensures.place) at c.find_entry.ensures.ended
