@@ -1,0 +1,11 @@
+pub mod Base
+pub mod Entries
+pub mod Freed
+pub mod InsertClauses
+pub mod Inserted
+pub mod Leaving
+pub mod Linked
+pub mod Numbers
+pub mod RemoveClauses
+pub mod Removed
+pub mod Unlinked

@@ -1,0 +1,41 @@
+-- When a change answers a bad record.
+use Rattle.std.specs.Prelude.{ℕ, ℤ, ◌≡◌, ◌-◌, true, false, List}
+use Rattle.std.specs.List.{Contains}
+use Rattle.db_blocks.specs.Blocks.{IsWhole}
+use Rattle.db_chains.specs.Chains.{HasChain}
+use Rattle.db_chains.specs.Changes.{without}
+use Rattle.db_chains.specs.Ends.{HasWord}
+use Rattle.db_chains.specs.Walks.{meets}
+use Rattle.prdb_entries.specs.Records.{has_id}
+use Rattle.prdb_entries.specs.Registry.{MayBeRemoved, Registry}
+use Rattle.prdb_entries.specs.State.{PrEntry}
+use Rattle.prdb_members.specs.Members.{Members, are_paired}
+use Rattle.chained_entries.specs.First.{named}
+use Rattle.chained_entries.specs.Keys.{id_chain, name_chain}
+use Rattle.chained_entries.specs.Places.{id_links, name_links, owned_links, owned_place}
+use Rattle.chained_changes.specs.Changes.{is_owned, number_of, unnamed}
+
+-- an image of a head and whole blocks has the entry of an id in the chain of the id
+abbrev pub HasLink : (id : ℤ) → List ℕ → Type 0
+HasLink id image =
+    IsWhole 2112 image
+    × ((ws : List ℕ) × (w : ℕ) × HasChain id_links image (id_chain id) ws × Contains ws w
+    × (meets id_links (λ v block. has_id id block) image w ≡ true))
+
+-- once a block came in front of the chains of its name and its id, the owner of its entry, if there is one, is there
+abbrev pub HasOwner : (n : ℕ) → PrEntry → List ℕ → Type 0
+HasOwner n e image = is_owned e ≡ true → HasLink e.owner (named n e image)
+
+-- the block of a number stands in the chain of the groups that the entry of an id owns
+abbrev pub IsOwnedBy : (owner : ℤ) → (n : ℕ) → List ℕ → Type 0
+IsOwnedBy owner n image = HasLink owner image × HasWord owned_links (owned_place (number_of owner image - 1)) n image
+
+-- the block of a number stands in the chains of its entry, and goes out of one after the other
+pub record StandsInChains (n : ℕ) (e : PrEntry) (image : List ℕ) : Type 0 where
+  pub name : HasWord name_links (name_chain e.name) n image
+  pub id : HasWord id_links (id_chain e.id) n (without name_links (name_chain e.name) n image)
+  pub owner : is_owned e ≡ true → IsOwnedBy e.owner n (unnamed n e image)
+
+-- an entry may be removed that is not fixed, owns nothing and is in no pair
+abbrev pub MayGo : (id : ℤ) → Registry → Members → Type 0
+MayGo id r m = MayBeRemoved id r × ((other : ℤ) → are_paired m id other ≡ false)
