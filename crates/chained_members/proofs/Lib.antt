@@ -1,0 +1,15 @@
+pub mod Walked
+pub mod Kept
+pub mod Listed
+pub mod Rewritten
+pub mod Taken
+pub mod Free
+pub mod Freed
+pub mod Gains
+pub mod Joined
+pub mod Losses
+pub mod Parted
+pub mod Found
+pub mod Costs
+pub mod Places
+pub mod Ends

@@ -1,0 +1,63 @@
+-- What becomes of an image with chains when the list of an entry is another one (layout of format 1).
+use Rattle.std.specs.Prelude.{ℕ, ℤ, ◌+◌, ◌-◌, List, [], ◌∷◌, ◌++◌, length, take, drop, nat_lt, if◌then◌else◌}
+use Rattle.db_chains.specs.Free.{next_number, with_freed as with_free_block, with_taken}
+use Rattle.prdb_entries.specs.Bytes.{zeros}
+use Rattle.prdb_entries.specs.Records.{block_in}
+use Rattle.prdb_members.specs.Changes.{blocks_for, list_in, place_in, relisted}
+use Rattle.prdb_members.specs.Layout.{PairList}
+use Rattle.prdb_members.specs.Lists.{ids_with, ids_without}
+use Rattle.chained_entries.specs.Places.{free_blocks}
+use Rattle.chained_entries.specs.Records.{whole}
+use Rattle.prdb_entries.specs.declared.blocks.TheConstants.{BLOCK_LEN}
+
+-- ---- another list
+
+-- the blocks of a list of so many ids; the first free block, or one more at the end, is one more behind them where one is needed
+abbrev pub more_for : (count : ℕ) → List ℕ → List ℕ → List ℕ
+more_for count more image =
+    if nat_lt (length more) (blocks_for count) then more ++ (next_number free_blocks image - 1) ∷ [] else more
+
+-- the image in which it is out of the chain of the free ones
+abbrev pub taken_for : (count : ℕ) → List ℕ → List ℕ → List ℕ
+taken_for count more image =
+    if nat_lt (length more) (blocks_for count) then with_taken free_blocks (zeros BLOCK_LEN) image else image
+
+-- the first of these blocks is free, and at its ascending place in the chain
+abbrev pub with_freed : List ℕ → List ℕ → List ℕ
+with_freed [] image = image
+with_freed (k ∷ more) image = with_free_block free_blocks (k + 1) image
+
+-- with an id more in the list of an entry in a block
+abbrev pub gained : (k : ℕ) → (entry : ℤ) → (block : List ℕ) → PairList → (id : ℤ) → List ℕ → List ℕ
+gained k entry block l id image =
+    let ids = ids_with id l.ids in
+    relisted k entry block (record { ids = ids; more = more_for (length ids) l.more image }) (taken_for (length ids) l.more image)
+
+-- with an id less
+abbrev pub lost : (k : ℕ) → (entry : ℤ) → (block : List ℕ) → PairList → (id : ℤ) → List ℕ → List ℕ
+lost k entry block l id image =
+    let ids = ids_without id l.ids in
+    let count = blocks_for (length ids) in
+    relisted k entry block (record { ids = ids; more = take count l.more }) (with_freed (drop count l.more) image)
+
+-- ---- one side of a pair
+
+abbrev pub with_id : (entry id : ℤ) → List ℕ → List ℕ
+with_id entry id image =
+    let block = block_in image (place_in image entry) in
+    gained (place_in image entry) entry block (list_in image block) id image
+
+abbrev pub without_id : (entry id : ℤ) → List ℕ → List ℕ
+without_id entry id image =
+    let block = block_in image (place_in image entry) in
+    lost (place_in image entry) entry block (list_in image block) id image
+
+-- ---- the image after a change
+
+-- a pair more: the member's list is the first to take a block
+unfoldable pub after_join : (member group : ℤ) → List ℕ → List ℕ
+after_join member group image = with_id group member (with_id member group (whole image))
+
+-- a pair less
+unfoldable pub after_part : (member group : ℤ) → List ℕ → List ℕ
+after_part member group image = without_id group member (without_id member group (whole image))

@@ -1,0 +1,5 @@
+pub mod Changes
+pub mod Costs
+pub mod Ends
+pub mod Found
+pub mod Sides

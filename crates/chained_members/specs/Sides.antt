@@ -1,0 +1,37 @@
+-- One list of pairs among those of all entries: what holds of an image with chains between the two sides of a change of a pair.
+use Rattle.std.specs.Prelude.{ℕ, ℤ, List, IsSome}
+use Rattle.std.specs.List.{Contains}
+use Rattle.db_blocks.specs.Blocks.{IsWhole}
+use Rattle.db_chains.specs.Ends.{HasSome}
+use Rattle.db_chains.specs.Free.{free_links}
+use Rattle.prdb_entries.specs.Registry.{Registry}
+use Rattle.prdb_entries.specs.declared.blocks.TheConstants.{HEAD_LEN}
+use Rattle.prdb_members.specs.Layout.{PairList}
+use Rattle.prdb_members.specs.Sides.{HasLists as HasPlainLists, IsPlace}
+use Rattle.prdb_members.specs.declared.sides.Place.{Place}
+use Rattle.chained_entries.specs.Places.{free_blocks}
+use Rattle.chained_entries.specs.Records.{AreChains}
+use Rattle.chained_entries.specs.Unchained.{unchained}
+
+-- An image that is not empty holds a registry with its chains, and a list for each entry. Nothing is said of whose ids stand in a list.
+pub record HasLists (image : List ℕ) (r : Registry) (lists : ℤ → PairList) : Type 0 where
+  pub size : IsWhole HEAD_LEN image
+  pub without : HasPlainLists (unchained image) r lists
+  pub chains : AreChains image
+
+-- The ids of its lists are those of entries. The other side of a pair may be missing.
+pub record HoldsLists (image : List ℕ) (r : Registry) (lists : ℤ → PairList) : Type 0 where
+  pub has : HasLists image r lists
+  pub members : (id : ℤ) → IsSome (r.entry id) → (other : ℤ) → Contains (lists id).ids other → IsSome (r.entry other)
+
+-- an image has lists, and the entry is there
+abbrev pub HasEntry : ℤ → List ℕ → Type 0
+HasEntry entry image = (r : Registry) × (lists : ℤ → PairList) × HasLists image r lists × IsSome (r.entry entry)
+
+-- an image holds lists, and a place is one of it, and the other entry is there
+abbrev pub HoldsPlace : Place → ℤ → List ℕ → Type 0
+HoldsPlace p id image = (r : Registry) × (lists : ℤ → PairList) × HoldsLists image r lists × IsPlace image r lists p × IsSome (r.entry id)
+
+-- an image of a head and whole blocks has a chain of its free blocks
+abbrev pub HasFreeChain : List ℕ → Type 0
+HasFreeChain image = HasSome (free_links free_blocks) 20 image

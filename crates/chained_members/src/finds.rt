@@ -1,0 +1,81 @@
+//! What is found of pairs.
+ghost use Rattle.std.specs.Prelude.{◌≡◌, ◌<◌, ◌^◌, true, IfOk, IfErr, IfSome, IsErrOf};
+ghost use Rattle.db_blocks.specs.Ends.{OnlyLooks};
+ghost use Rattle.prdb_entries.specs.Registry.{Registry};
+ghost use Rattle.prdb_members.specs.Found.{IsFound};
+ghost use Rattle.prdb_members.specs.Lists.{IsListOf};
+ghost use Rattle.prdb_members.specs.Members.{Members, are_paired};
+ghost use Rattle.chained_entries.specs.Ends.{HasItsCause};
+ghost use Rattle.chained_entries.specs.Records.{Holds};
+ghost use Rattle.chained_members.specs.Costs.{ListCosts};
+
+use crate::blocks::find_block;
+use db_image::{Draft, ImageRead, RecordFault};
+use prdb_members::{IdList, Listed, read_list};
+use std::alloc::Global;
+
+/// The pairs of an id; none where the draft is empty or no entry has the id.
+fn find_list<I: ImageRead>(
+    alloc: Global,
+    d: &mut Draft<I>,
+    id: i32,
+) -> Result<Option<Listed>, RecordFault>
+    requires { d.old.len < 2 ^ 31 }
+    ensures found { IfOk result (λ found. IfSome d.old.bytes (λ image. (r : Registry) (m : Members) → Holds image r m → IsFound m id found)) }
+    ensures fault { IfErr result (HasItsCause d.old.bytes) }
+    ensures frame { OnlyLooks I.ImageRead d.old d.new (IsErrOf result RecordFault.DiskFault) }
+    ensures cost { ListCosts I.ImageRead id d.old d.new }
+{
+    if d.len() == 0 {
+        return Ok(None);
+    }
+    let Some(found) = find_block(d, id)? else {
+        return Ok(None);
+    };
+    let listed = read_list(alloc, d, id, &found)?;
+    Ok(Some(listed))
+}
+
+/// The groups of a user or the members of a group; none of an id that is no entry's. It asks for a word, the blocks of the one chain of the
+/// id, and the continuation blocks of the entry at most.
+pub fn elements<I: ImageRead>(
+    alloc: Global,
+    d: &mut Draft<I>,
+    id: i32,
+) -> Result<IdList, RecordFault>
+    requires { d.old.len < 2 ^ 31 }
+    ensures found { IfOk result (λ ids. IfSome d.old.bytes (λ image. (r : Registry) (m : Members) → Holds image r m
+        → IsListOf (λ other. are_paired m id other ≡ true) ids)) }
+    ensures fault { IfErr result (HasItsCause d.old.bytes) }
+    ensures frame { OnlyLooks I.ImageRead d.old d.new (IsErrOf result RecordFault.DiskFault) }
+    ensures cost { ListCosts I.ImageRead id d.old d.new }
+{
+    let Some(listed) = find_list(alloc, d, id)? else {
+        return Ok(IdList::new(alloc));
+    };
+    Ok(listed.ids)
+}
+
+/// Whether a pair is there. It asks for what the list of the member does at most.
+pub fn has_pair<I: ImageRead>(
+    alloc: Global,
+    d: &mut Draft<I>,
+    member: i32,
+    group: i32,
+) -> Result<bool, RecordFault>
+    requires { d.old.len < 2 ^ 31 }
+    ensures found { IfOk result (λ there. IfSome d.old.bytes (λ image. (r : Registry) (m : Members) → Holds image r m
+        → there ≡ m.has member group)) }
+    ensures fault { IfErr result (HasItsCause d.old.bytes) }
+    ensures frame { OnlyLooks I.ImageRead d.old d.new (IsErrOf result RecordFault.DiskFault) }
+    ensures cost { ListCosts I.ImageRead member d.old d.new }
+{
+    if member < 0 {
+        return Ok(false);
+    }
+    let Some(listed) = find_list(alloc, d, member)? else {
+        return Ok(false);
+    };
+    let there = listed.ids.contains(group);
+    Ok(there)
+}
