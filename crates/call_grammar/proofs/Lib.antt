@@ -1,6 +1,9 @@
 pub mod Again
+pub mod Both
+pub mod CallKinds
 pub mod Fitting
 pub mod ItemsTaken
+pub mod Lengths
 pub mod Loop
 pub mod Skipped
 pub mod Taken

@@ -2,7 +2,7 @@
 use Rattle.std.proofs.Common.{◌≡◌, ℕ, suc, ◌-◌, ◌+◌, ◌≤◌, ◌<◌, List, [], ◌∷◌, length, get_or, drop, Option, Some, None, refl, sym, ap, ◌∙◌, arith, add-one, drop-cons, length-drop}
 use Rattle.std.proofs.lemmas.List.{nil_from_length}
 use Rattle.call_grammar.specs.Items.{Count}
-use Rattle.call_grammar.specs.Reading.{◌>>=◌, ItemsOf, items_at, list_at, values, values_at, rest_of}
+use Rattle.call_grammar.specs.Reading.{◌>>=◌, ItemsOf, items_at, list_at, values_at, rest_of}
 use Rattle.call_grammar.proofs.Loop.{uncounted as no_list}
 
 -- what a later step does to the value is not seen in what is left

@@ -1,9 +1,13 @@
--- What was read from words is bounded.
-use Rattle.std.proofs.Common.{◌≡◌, ℕ, zero, suc, ◌≤◌, Bool, true, false, cond, eqb, leb, ◌&&◌, List, [], ◌∷◌, length, Option, Some, None, refl, ap, subst, arith}
+-- What was read from words is bounded, and has its bits.
+use Rattle.std.proofs.Common.{◌≡◌, ℕ, ℤ, zero, suc, ◌^◌, ◌<◌, ◌≤◌, Bool, true, false, cond, eqb, leb, ◌&&◌, List, [], ◌∷◌, length, Option, Some, None, refl, ap, subst, arith}
+use Rattle.std.specs.Int.{w32}
 use Rattle.std.specs.List.{AllByRecursion}
+use Rattle.std.specs.Option.{option_map}
+use Rattle.std.specs.Prelude.{pos, neg_ℤ, FitsSigned}
 use Rattle.std.proofs.lemmas.Bool.{leb-true}
-use Rattle.script_words.specs.Numbers.{number_of, number_within}
-use Rattle.call_grammar.specs.Items.{Number, Signed, Truth, Text, Count, Item, value, IsText, IsBounded}
+use Rattle.std.proofs.lemmas.Int.{ints}
+use Rattle.script_words.specs.Numbers.{number_of, number_within, negated, signed_of}
+use Rattle.call_grammar.specs.Items.{Number, Signed, Truth, Text, Count, Item, value, IsText, IsBounded, HasItsBits}
 use Rattle.call_grammar.specs.Reading.{◌>>=◌, items_at, list_at, values, values_at, AllValues}
 use Rattle.call_grammar.specs.Words.{unquoted, text_of_word, first_word, one_at, word_item, last_of}
 use Rattle.call_grammar.proofs.Taken.{bind_some, given, given_is}
@@ -16,11 +20,11 @@ both_true : (a b : Bool) → (a && b) ≡ true → (a ≡ true) × (b ≡ true)
 both_true true b e = (refl, e)
 both_true false b e = absurd cc
 
-within : (most : ℕ) (word : List ℕ) (n : ℕ) → number_within 0 most word ≡ Some n → n ≤ most
-within most word n e =
-    let m = bind_some (number_of word) (λ k. cond (leb 0 k && leb k most) (Some k) None) n e in
-    let test = option_is (leb 0 m.0 && leb m.0 most) m.0 n m.2 in
-    let le : m.0 ≤ most = leb-true _ _ (both_true (leb 0 m.0) (leb m.0 most) test.0).1 in
+within : (least most : ℕ) (word : List ℕ) (n : ℕ) → number_within least most word ≡ Some n → n ≤ most
+within least most word n e =
+    let m = bind_some (number_of word) (λ k. cond (leb least k && leb k most) (Some k) None) n e in
+    let test = option_is (leb least m.0 && leb m.0 most) m.0 n m.2 in
+    let le : m.0 ≤ most = leb-true _ _ (both_true (leb least m.0) (leb m.0 most) test.0).1 in
     subst (λ (k : ℕ). k ≤ most) test.1 le
 
 text_is_short : (word text : List ℕ) → text_of_word word ≡ Some text → IsText text
@@ -44,7 +48,42 @@ item_is_bounded Number words x e = tt
 item_is_bounded Signed words x e = tt
 item_is_bounded Truth words x e = tt
 item_is_bounded Text words x e = one_is text_of_word IsText text_is_short words x e
-item_is_bounded (Count most) words x e = one_is (number_within 0 most) (λ n. n ≤ most) (within most) words x e
+item_is_bounded (Count most) words x e = one_is (number_within 0 most) (λ n. n ≤ most) (within 0 most) words x e
+
+-- ---- the bits of a number with a sign
+
+map_is : {A B : Type 0} (f : A → B) (o : Option A) (y : B) → option_map f o ≡ Some y → (x : A) × (o ≡ Some x) × (f x ≡ y)
+map_is f None y e = absurd cc
+map_is f (Some x) y e = (x, refl, given_is (f x) y e)
+
+neg_fits : (n : ℕ) → n ≤ 2147483648 → FitsSigned w32 (neg_ℤ (pos n))
+neg_fits zero le = record { sfits = omega (arith, ints) }
+neg_fits (suc n) le = record { sfits = omega (arith, ints) }
+
+signed_by : (b : Bool) (digits word : List ℕ) (z : ℤ)
+    → cond b (negated digits) (option_map pos (number_within 0 2147483647 word)) ≡ Some z → FitsSigned w32 z
+signed_by true digits word z e =
+    let n = map_is (λ (n : ℕ). neg_ℤ (pos n)) (number_within 1 2147483648 digits) z e in
+    subst (λ (y : ℤ). FitsSigned w32 y) n.2 (neg_fits n.0 (within 1 2147483648 digits n.0 n.1))
+signed_by false digits word z e =
+    let n = map_is pos (number_within 0 2147483647 word) z e in
+    let le = within 0 2147483647 word n.0 n.1 in
+    subst (λ (y : ℤ). FitsSigned w32 y) n.2 (record { sfits = omega (arith, ints, le) })
+
+signed_fits : (word : List ℕ) (z : ℤ) → signed_of word ≡ Some z → FitsSigned w32 z
+signed_fits [] z e = absurd cc
+signed_fits (first ∷ digits) z e = signed_by (eqb first 45) digits (first ∷ digits) z e
+
+-- each item of words has its bits
+pub item_has_bits : (i : Item) (words : List (List ℕ)) (x : value i × List (List ℕ)) → word_item i words ≡ Some x → HasItsBits i x.0
+item_has_bits Number words x e =
+    one_is (number_within 0 4294967295) (λ n. n < 2 ^ 32) (λ word n e. let le = within 0 4294967295 word n e in omega (arith, le)) words x e
+item_has_bits Signed words x e = one_is signed_of (FitsSigned w32) signed_fits words x e
+item_has_bits Truth words x e = tt
+item_has_bits Text words x e = tt
+item_has_bits (Count most) words x e = tt
+
+-- ---- lists and values
 
 -- so many items, and each of them so
 items_are : {A S : Type 0} (at : S → Option (A × S)) (P : A → Type 0) → ((s : S) (x : A × S) → at s ≡ Some x → P x.0)

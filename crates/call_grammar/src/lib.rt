@@ -3,6 +3,7 @@
 
 mod faults;
 mod forms;
+mod items;
 mod limits;
 mod lists;
 mod shown;
@@ -13,6 +14,7 @@ mod xdr_items;
 
 pub use faults::{NoValue, NotRead};
 pub use forms::{Form, SkipForm, read_list, skip_list};
+pub use items::{NumberItem, SignedItem, TextItem};
 pub use limits::MAX_TEXT;
 pub use lists::Items;
 pub use shown::{bytes_fit, push_words};

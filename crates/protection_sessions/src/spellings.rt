@@ -2,8 +2,10 @@
 use crate::damage::call_of;
 use crate::tokens::words_of;
 use db_image::DraftService;
-use pt_calls::{call_words, kind_of, read_answer, read_call, spell_answer, spell_call};
-use pt_protection::{PtService, reply_words};
+use pt_calls::{
+    call_words, kind_of, read_answer, read_call, reply_words, spell_answer, spell_call,
+};
+use pt_protection::PtService;
 use session_rows::{Fault, bytes_in, first_of};
 use std::alloc::Global;
 use std::str;

@@ -1,10 +1,6 @@
 pub mod AnswerLaws
 pub mod Again
-pub mod ItemsTaken
-pub mod Loop
+pub mod NewUsers
+pub mod Steps
 pub mod Taken
 pub mod WordCalls
-pub mod WordLoop
-pub mod Skipped
-pub mod Steps
-pub mod NewUsers

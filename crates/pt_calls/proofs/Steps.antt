@@ -10,7 +10,8 @@ use Rattle.prdb_entries.specs.RecordEnds.{OnlyLooks}
 use Rattle.prdb_entries.specs.Records.{Holds}
 use Rattle.prdb_entries.specs.Registry.{Registry}
 use Rattle.prdb_entries.proofs.Scanned.{looks_none, looks_then, looks_so}
-use Rattle.pt_calls.specs.Shapes.{listed}
+use Rattle.call_grammar.specs.Items.{xdr_text}
+use Rattle.call_grammar.specs.Lists.{listed}
 use Rattle.pt_calls.specs.Meaning.{id_or_anonymous}
 
 -- what is said of the registry that bytes hold
@@ -78,5 +79,5 @@ ids_len_from : (ids : List ℤ) → length (flat_map signed ids) ≡ 4 * length 
 ids_len_from [] = refl
 ids_len_from (z ∷ ids) = omega (arith, length-append (signed z) (flat_map signed ids), ids_len_from ids)
 
-pub ids_len : (ids : List ℤ) → length (listed signed ids) ≡ 4 + 4 * length ids
+pub ids_len : (ids : List ℤ) → length (listed xdr_text signed ids) ≡ 4 + 4 * length ids
 ids_len ids = omega (arith, length-append (word (length ids)) (flat_map signed ids), ids_len_from ids)

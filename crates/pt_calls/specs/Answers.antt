@@ -1,10 +1,12 @@
--- The answers of the protection database (ptserver), and the spelling of each. The layout is own.
+-- The answers of the protection database (ptserver), and the text of each. The layout is own.
 use Rattle.std.specs.Prelude.{ℕ, ◌≤◌, List, [], ◌∷◌, ◌++◌, length, FitsSigned, Option, Some}
 use Rattle.std.specs.Int.{w32}
 use Rattle.std.specs.List.{AllByRecursion}
-use Rattle.std.specs.Result.{result_ok}
-use Rattle.xdr_base.specs.Reading.{Reading, at_start, truth_at}
-use Rattle.xdr_base.specs.Spelling.{signed, truth, opaque}
+use Rattle.xdr_base.specs.Reading.{Reading, at_start}
+use Rattle.call_grammar.specs.Items as item
+use Rattle.call_grammar.specs.Items.{xdr_text}
+use Rattle.call_grammar.specs.Lists.{TextsOf, listed, spelled}
+use Rattle.call_grammar.specs.Reading.{◌>>=◌, list_at, values, values_at, AllValues, whole, xdr_item}
 use Rattle.pt_calls.specs.declared.answers.AnswerKind.{AnswerKind}
 use Rattle.pt_calls.specs.declared.answers.AnswerKind.TheVariants as tells
 use Rattle.pt_calls.specs.declared.answers.PtAnswer.{PtAnswer}
@@ -13,10 +15,9 @@ use Rattle.pt_calls.specs.declared.answers.PtEntry.{PtEntry}
 use Rattle.pt_calls.specs.declared.kinds.CallKind.{CallKind}
 use Rattle.pt_calls.specs.declared.kinds.CallKind.TheVariants as kinds
 use Rattle.pt_calls.specs.declared.limits.TheConstants.{MAX_LIST, MAX_ANSWER_IDS, MAX_PAGE}
-use Rattle.pt_calls.specs.Reading.{◌>>=◌, values_at, name_at, id_at, list_at, xdr_at, whole}
 use Rattle.pt_calls.specs.declared.shapes.Shape.{Shape}
 use Rattle.pt_calls.specs.declared.shapes.Shape.TheVariants.{Number, Id, Name}
-use Rattle.pt_calls.specs.Shapes.{values, listed, spelled, IsName, IsBounded, IsOfItsBits, AllValues}
+use Rattle.pt_calls.specs.Shapes.{value, shape_at, shape_text, IsName, IsBounded, IsOfItsBits}
 
 -- what the answer to a call of each kind tells
 abbrev pub asked_for : CallKind → AnswerKind
@@ -42,10 +43,10 @@ asked_for kinds.ListOwned = tells.Ids
 abbrev pub entry_shapes : List Shape
 entry_shapes = Number ∷ Id ∷ Id ∷ Id ∷ Id ∷ Number ∷ Name ∷ []
 
-abbrev pub entry_values : PtEntry → values entry_shapes
+abbrev pub entry_values : PtEntry → values value entry_shapes
 entry_values e = (e.flags, (e.id, (e.owner, (e.creator, (e.quota, (e.count, (e.name, tt)))))))
 
-abbrev pub entry_from : values entry_shapes → PtEntry
+abbrev pub entry_from : values value entry_shapes → PtEntry
 entry_from v = record {
   flags = v.0;
   id = v.1.0;
@@ -56,14 +57,18 @@ entry_from v = record {
   name = v.1.1.1.1.1.1.0;
 }
 
-unfoldable pub entry_spelling : PtEntry → List ℕ
-entry_spelling e = spelled entry_shapes (entry_values e)
+unfoldable pub entry_text : TextsOf → PtEntry → List ℕ
+entry_text text e = spelled value (shape_text text) entry_shapes (entry_values e)
+
+-- its bytes
+abbrev pub entry_spelling : PtEntry → List ℕ
+entry_spelling e = entry_text xdr_text e
 
 unfoldable pub IsEntryText : PtEntry → Type 0
-IsEntryText e = AllValues IsBounded entry_shapes (entry_values e)
+IsEntryText e = AllValues value IsBounded entry_shapes (entry_values e)
 
 unfoldable pub HasEntryBits : PtEntry → Type 0
-HasEntryBits e = AllValues IsOfItsBits entry_shapes (entry_values e)
+HasEntryBits e = AllValues value IsOfItsBits entry_shapes (entry_values e)
 
 abbrev pub answer_kind : PtAnswer → AnswerKind
 answer_kind answer.Done = tells.Done
@@ -76,15 +81,19 @@ answer_kind (answer.Entry e) = tells.Entry
 answer_kind (answer.Entries es) = tells.Entries
 
 -- an answer has no number; its kind is that of the call
+abbrev pub answer_text : TextsOf → PtAnswer → List ℕ
+answer_text text answer.Done = []
+answer_text text (answer.Id id) = text item.Signed id
+answer_text text (answer.Ids ids) = listed text (text item.Signed) ids
+answer_text text (answer.Names names) = listed text (text item.Text) names
+answer_text text (answer.Maxima user group) = text item.Signed user ++ text item.Signed group
+answer_text text (answer.Truth b) = text item.Truth b
+answer_text text (answer.Entry e) = entry_text text e
+answer_text text (answer.Entries es) = listed text (entry_text text) es
+
+-- its bytes
 abbrev pub answer_spelling : PtAnswer → List ℕ
-answer_spelling answer.Done = []
-answer_spelling (answer.Id id) = signed id
-answer_spelling (answer.Ids ids) = listed signed ids
-answer_spelling (answer.Names names) = listed opaque names
-answer_spelling (answer.Maxima user group) = signed user ++ signed group
-answer_spelling (answer.Truth b) = truth b
-answer_spelling (answer.Entry e) = entry_spelling e
-answer_spelling (answer.Entries es) = listed entry_spelling es
+answer_spelling a = answer_text xdr_text a
 
 -- the answer has a spelling: its names and lists are bounded
 abbrev pub AnswerHasSpelling : PtAnswer → Type 0
@@ -113,32 +122,32 @@ IsAnswer a = AnswerHasSpelling a × AnswerHasItsBits a
 -- reading: an entry, and an answer of each kind
 unfoldable pub entry_at : Reading → Option (PtEntry × Reading)
 entry_at from = do
-  v ← values_at xdr_at entry_shapes from
+  v ← values_at value (shape_at xdr_item) entry_shapes from
   Some (entry_from v.0, v.1)
 
 unfoldable pub answer_at : AnswerKind → Reading → Option (PtAnswer × Reading)
 answer_at tells.Done from = Some (answer.Done, from)
 answer_at tells.Id from = do
-  id ← id_at from
+  id ← xdr_item item.Signed from
   Some (answer.Id id.0, id.1)
 answer_at tells.Ids from = do
-  ids ← list_at MAX_ANSWER_IDS id_at from
+  ids ← list_at xdr_item MAX_ANSWER_IDS (xdr_item item.Signed) from
   Some (answer.Ids ids.0, ids.1)
 answer_at tells.Names from = do
-  names ← list_at MAX_LIST name_at from
+  names ← list_at xdr_item MAX_LIST (xdr_item item.Text) from
   Some (answer.Names names.0, names.1)
 answer_at tells.Maxima from = do
-  user ← id_at from
-  group ← id_at user.1
+  user ← xdr_item item.Signed from
+  group ← xdr_item item.Signed user.1
   Some (answer.Maxima user.0 group.0, group.1)
 answer_at tells.Truth from = do
-  b ← result_ok (truth_at from)
+  b ← xdr_item item.Truth from
   Some (answer.Truth b.0, b.1)
 answer_at tells.Entry from = do
   e ← entry_at from
   Some (answer.Entry e.0, e.1)
 answer_at tells.Entries from = do
-  es ← list_at MAX_PAGE entry_at from
+  es ← list_at xdr_item MAX_PAGE entry_at from
   Some (answer.Entries es.0, es.1)
 
 -- the answer of a kind that bytes spell, all of them

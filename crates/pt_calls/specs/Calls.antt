@@ -1,13 +1,16 @@
 -- The calls of the protection database (ptserver): their numbers, fields and spelling. The numbers and the layout are own.
 use Rattle.std.specs.Prelude.{ℕ, List, [], ◌∷◌, ◌++◌, Option, Some, None, ◌==◌, if◌then◌else◌}
 use Rattle.xdr_base.specs.Spelling.{word}
+use Rattle.call_grammar.specs.Items.{xdr_text}
+use Rattle.call_grammar.specs.Lists.{spelled}
+use Rattle.call_grammar.specs.Reading.{values, AllValues}
 use Rattle.pt_calls.specs.declared.calls.PtCall.{PtCall}
 use Rattle.pt_calls.specs.declared.calls.PtCall.TheVariants as call
 use Rattle.pt_calls.specs.declared.kinds.CallKind.{CallKind}
 use Rattle.pt_calls.specs.declared.kinds.CallKind.TheVariants as kinds
 use Rattle.pt_calls.specs.declared.shapes.Shape.{Shape}
 use Rattle.pt_calls.specs.declared.shapes.Shape.TheVariants.{Number, Id, Truth, Name, Names, Ids}
-use Rattle.pt_calls.specs.Shapes.{values, spelled, AllValues, IsBounded, IsOfItsBits}
+use Rattle.pt_calls.specs.Shapes.{value, shape_text, IsBounded, IsOfItsBits}
 
 -- the number of a kind, and the kind of a number
 abbrev pub kind_number : CallKind → ℕ
@@ -59,7 +62,7 @@ shapes_of kinds.IsMemberOf = Id ∷ Id ∷ []
 shapes_of kinds.ListOwned = Id ∷ []
 
 -- the call of a kind with these values, its kind, and its values
-abbrev pub call_from : (k : CallKind) → values (shapes_of k) → PtCall
+abbrev pub call_from : (k : CallKind) → values value (shapes_of k) → PtCall
 call_from kinds.NewEntry v = call.NewEntry v.0 v.1.0 v.1.1.0
 call_from kinds.INewEntry v = call.INewEntry v.0 v.1.0 v.1.1.0
 call_from kinds.NameToId v = call.NameToId v.0
@@ -97,7 +100,7 @@ call_kind (call.ListElements id) = kinds.ListElements
 call_kind (call.IsMemberOf member group) = kinds.IsMemberOf
 call_kind (call.ListOwned id) = kinds.ListOwned
 
-abbrev pub call_values : (c : PtCall) → values (shapes_of (call_kind c))
+abbrev pub call_values : (c : PtCall) → values value (shapes_of (call_kind c))
 call_values (call.NewEntry name kind owner) = (name, (kind, (owner, tt)))
 call_values (call.INewEntry name id owner) = (name, (id, (owner, tt)))
 call_values (call.NameToId names) = (names, tt)
@@ -118,14 +121,14 @@ call_values (call.ListOwned id) = (id, tt)
 
 -- a call: its number, then its fields, and nothing behind them
 abbrev pub spelling : PtCall → List ℕ
-spelling c = word (kind_number (call_kind c)) ++ spelled (shapes_of (call_kind c)) (call_values c)
+spelling c = word (kind_number (call_kind c)) ++ spelled value (shape_text xdr_text) (shapes_of (call_kind c)) (call_values c)
 
 -- the call has a spelling: its names and lists are bounded
 abbrev pub HasSpelling : PtCall → Type 0
-HasSpelling c = AllValues IsBounded (shapes_of (call_kind c)) (call_values c)
+HasSpelling c = AllValues value IsBounded (shapes_of (call_kind c)) (call_values c)
 
 abbrev pub HasItsBits : PtCall → Type 0
-HasItsBits c = AllValues IsOfItsBits (shapes_of (call_kind c)) (call_values c)
+HasItsBits c = AllValues value IsOfItsBits (shapes_of (call_kind c)) (call_values c)
 
 abbrev pub IsCall : PtCall → Type 0
 IsCall c = HasSpelling c × HasItsBits c

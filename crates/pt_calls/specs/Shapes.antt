@@ -1,11 +1,13 @@
--- The shapes of a call's fields, the values that each takes, and how these are spelled (items as RFC 4506 has them; limits own).
-use Rattle.std.specs.Prelude.{ℕ, ℤ, ◌<◌, ◌≤◌, ◌^◌, Bool, List, [], ◌∷◌, ◌++◌, length, FitsSigned}
+-- The shapes of a call's fields, the values that each takes, and how these are read and written.
+use Rattle.std.specs.Prelude.{ℕ, ℤ, ◌<◌, ◌≤◌, ◌^◌, Bool, List, length, Option, FitsSigned}
 use Rattle.std.specs.Int.{w32}
-use Rattle.std.specs.List.{flat_map, AllByRecursion}
+use Rattle.std.specs.List.{AllByRecursion}
+use Rattle.call_grammar.specs.Items as item
+use Rattle.call_grammar.specs.Lists.{TextsOf, listed}
+use Rattle.call_grammar.specs.Reading.{ItemsOf, list_at}
 use Rattle.pt_calls.specs.declared.limits.TheConstants.{MAX_NAME, MAX_LIST}
 use Rattle.pt_calls.specs.declared.shapes.Shape.{Shape}
 use Rattle.pt_calls.specs.declared.shapes.Shape.TheVariants.{Number, Id, Truth, Name, Names, Ids}
-use Rattle.xdr_base.specs.Spelling.{word, signed, truth, opaque}
 
 -- the values of a shape
 abbrev pub value : Shape → Type 0
@@ -16,27 +18,21 @@ value Name = List ℕ
 value Names = List (List ℕ)
 value Ids = List ℤ
 
--- a value for each of these shapes
-abbrev pub values : List Shape → Type 0
-values [] = Unit {0}
-values (shape ∷ shapes) = value shape × values shapes
+abbrev pub shape_at : {S : Type 0} → ItemsOf S → (shape : Shape) → S → Option (value shape × S)
+shape_at item_at Number s = item_at item.Number s
+shape_at item_at Id s = item_at item.Signed s
+shape_at item_at Truth s = item_at item.Truth s
+shape_at item_at Name s = item_at item.Text s
+shape_at item_at Names s = list_at item_at MAX_LIST (item_at item.Text) s
+shape_at item_at Ids s = list_at item_at MAX_LIST (item_at item.Signed) s
 
--- a list: its length and its items
-abbrev pub listed : {A : Type 0} → (A → List ℕ) → List A → List ℕ
-listed spelling items = word (length items) ++ flat_map spelling items
-
-abbrev pub value_spelling : (shape : Shape) → value shape → List ℕ
-value_spelling Number n = word n
-value_spelling Id z = signed z
-value_spelling Truth b = truth b
-value_spelling Name text = opaque text
-value_spelling Names texts = listed opaque texts
-value_spelling Ids ids = listed signed ids
-
--- values stand one after the other, with nothing between them
-abbrev pub spelled : (shapes : List Shape) → values shapes → List ℕ
-spelled [] v = []
-spelled (shape ∷ shapes) v = value_spelling shape v.0 ++ spelled shapes v.1
+abbrev pub shape_text : TextsOf → (shape : Shape) → value shape → List ℕ
+shape_text text Number n = text item.Number n
+shape_text text Id z = text item.Signed z
+shape_text text Truth b = text item.Truth b
+shape_text text Name name = text item.Text name
+shape_text text Names names = listed text (text item.Text) names
+shape_text text Ids ids = listed text (text item.Signed) ids
 
 -- a name has at most MAX_NAME bytes, a list at most MAX_LIST items
 abbrev pub IsName : List ℕ → Type 0
@@ -58,8 +54,3 @@ IsOfItsBits Truth b = Unit {0}
 IsOfItsBits Name text = Unit {0}
 IsOfItsBits Names texts = Unit {0}
 IsOfItsBits Ids ids = AllByRecursion (FitsSigned w32) ids
-
--- so is each of these values
-abbrev pub AllValues : ((shape : Shape) → value shape → Type 0) → (shapes : List Shape) → values shapes → Type 0
-AllValues P [] v = Unit {0}
-AllValues P (shape ∷ shapes) v = P shape v.0 × AllValues P shapes v.1

@@ -1,19 +1,20 @@
 -- Values as they are written, one after the other.
 use Rattle.std.specs.Prelude.{ℕ, ◌≤◌, List, length}
 use Rattle.std.specs.List.{AllByRecursion}
-use Rattle.xdr_base.specs.Spelling.{word, signed, truth, opaque}
+use Rattle.call_grammar.specs.Items as item
+use Rattle.call_grammar.specs.Lists.{TextsOf, listed}
 use Rattle.pt_calls.specs.declared.limits.TheConstants.{MAX_LIST}
-use Rattle.pt_calls.specs.declared.writing.Value.{Value}
-use Rattle.pt_calls.specs.declared.writing.Value.TheVariants as lent
-use Rattle.pt_calls.specs.Shapes.{listed, IsName}
+use Rattle.pt_calls.specs.declared.texts.Value.{Value}
+use Rattle.pt_calls.specs.declared.texts.Value.TheVariants as lent
+use Rattle.pt_calls.specs.Shapes.{IsName}
 
-abbrev pub value_text : Value → List ℕ
-value_text (lent.Number n) = word n.now
-value_text (lent.Id z) = signed z.now
-value_text (lent.Truth b) = truth b.now
-value_text (lent.Name text) = opaque text.now
-value_text (lent.Names texts) = listed opaque texts.now
-value_text (lent.Ids ids) = listed signed ids.now
+abbrev pub value_text : TextsOf → Value → List ℕ
+value_text text (lent.Number n) = text item.Number n.now
+value_text text (lent.Id z) = text item.Signed z.now
+value_text text (lent.Truth b) = text item.Truth b.now
+value_text text (lent.Name name) = text item.Text name.now
+value_text text (lent.Names names) = listed text (text item.Text) names.now
+value_text text (lent.Ids ids) = listed text (text item.Signed) ids.now
 
 -- the names and lists are bounded
 abbrev pub IsShort : Value → Type 0

@@ -2,19 +2,17 @@
 #![tactic(auto, unfolding(crate::specs::Answers::answer_at))]
 
 ghost use Rattle.std.specs.Prelude.{◌≡◌, IfOk, IfSome, Some};
+ghost use Rattle.call_grammar.specs.Reading.{Gives, Shows};
 ghost use Rattle.pt_calls.specs.declared.answers.AnswerKind.TheVariants as tells;
 ghost use Rattle.pt_calls.specs.declared.answers.PtAnswer.{PtAnswer};
-ghost use Rattle.pt_calls.specs.Answers.{IsAnswer, answer_at, answer_kind, answer_of, answer_spelling, asked_for, entry_at};
-ghost use Rattle.pt_calls.specs.Reading.{Gives, Shows, list_at, whole};
+ghost use Rattle.pt_calls.specs.Answers.{IsAnswer, answer_at, answer_kind, answer_of, answer_spelling, asked_for};
 
-use crate::answers::{AnswerKind, Entries, PtAnswer, PtEntry};
+use crate::answers::{AnswerKind, PtAnswer, PtEntry};
 use crate::kinds::CallKind;
 use crate::limits::{MAX_ANSWER_IDS, MAX_LIST, MAX_PAGE};
-use crate::lists::Items;
-use crate::sources::{NotRead, Source};
-use crate::xdr_source::XdrSource;
+use call_grammar::{Form, NotRead, SignedItem, Source, TextItem, at_end, read_list};
 use std::alloc::Global;
-use ubik_types::NoMemory;
+use ubik_types::{Bytes, NoMemory};
 use xdr_base::XdrReader;
 
 /// The answer to a call of this kind that these bytes spell, all of them; none where they spell none.
@@ -42,104 +40,102 @@ pub fn read_answer(
 fn whole_answer(alloc: Global, kind: AnswerKind, bytes: &[u8]) -> Result<PtAnswer, NotRead>
     ensures { Shows result (answer_of kind bytes.now) }
 {
-    let reader = XdrReader::new(bytes);
-    let mut from = XdrSource { alloc, reader };
+    let mut from = XdrReader::new(bytes);
     let answer = answer(alloc, kind, &mut from)?;
-    from.end()?;
+    at_end(&from)?;
     Ok(answer)
 }
 
 /// The answer of this kind.
 #[tactic(auto)]
-fn answer(alloc: Global, kind: AnswerKind, from: &mut XdrSource<'_>) -> Result<PtAnswer, NotRead>
+fn answer(alloc: Global, kind: AnswerKind, from: &mut XdrReader<'_>) -> Result<PtAnswer, NotRead>
     ensures { Gives (λ a. a) from.new result (answer_at kind from.old) }
 {
     match kind {
         AnswerKind::Done => nothing(from),
         AnswerKind::Id => id(from),
-        AnswerKind::Ids => ids(from),
-        AnswerKind::Names => names(from),
+        AnswerKind::Ids => ids(alloc, from),
+        AnswerKind::Names => names(alloc, from),
         AnswerKind::Maxima => maxima(from),
         AnswerKind::Truth => truth(from),
-        AnswerKind::Entry => one_entry(from),
+        AnswerKind::Entry => one_entry(alloc, from),
         AnswerKind::Entries => some_entries(alloc, from),
     }
 }
 
-fn nothing(_from: &mut XdrSource<'_>) -> Result<PtAnswer, NotRead>
+fn nothing(_from: &mut XdrReader<'_>) -> Result<PtAnswer, NotRead>
     ensures { Gives (λ a. a) _from.new result (answer_at tells.Done _from.old) }
 {
     Ok(PtAnswer::Done)
 }
 
-fn id(from: &mut XdrSource<'_>) -> Result<PtAnswer, NotRead>
+fn id(from: &mut XdrReader<'_>) -> Result<PtAnswer, NotRead>
     ensures { Gives (λ a. a) from.new result (answer_at tells.Id from.old) }
 {
-    Ok(PtAnswer::Id(from.id()?))
+    Ok(PtAnswer::Id(from.signed()?))
 }
 
-fn ids(from: &mut XdrSource<'_>) -> Result<PtAnswer, NotRead>
+fn ids(alloc: Global, from: &mut XdrReader<'_>) -> Result<PtAnswer, NotRead>
     ensures { Gives (λ a. a) from.new result (answer_at tells.Ids from.old) }
 {
-    Ok(PtAnswer::Ids(from.next_ids(MAX_ANSWER_IDS)?))
+    let ids = read_list::<XdrReader<'_>, i32, SignedItem>(alloc, from, MAX_ANSWER_IDS)?;
+    Ok(PtAnswer::Ids(ids))
 }
 
-fn names(from: &mut XdrSource<'_>) -> Result<PtAnswer, NotRead>
+fn names(alloc: Global, from: &mut XdrReader<'_>) -> Result<PtAnswer, NotRead>
     ensures { Gives (λ a. a) from.new result (answer_at tells.Names from.old) }
 {
-    Ok(PtAnswer::Names(from.next_names(MAX_LIST)?))
+    let names = read_list::<XdrReader<'_>, Bytes, TextItem>(alloc, from, MAX_LIST)?;
+    Ok(PtAnswer::Names(names))
 }
 
-fn maxima(from: &mut XdrSource<'_>) -> Result<PtAnswer, NotRead>
+fn maxima(from: &mut XdrReader<'_>) -> Result<PtAnswer, NotRead>
     ensures { Gives (λ a. a) from.new result (answer_at tells.Maxima from.old) }
 {
     Ok(PtAnswer::Maxima {
-        user: from.id()?,
-        group: from.id()?,
+        user: from.signed()?,
+        group: from.signed()?,
     })
 }
 
-fn truth(from: &mut XdrSource<'_>) -> Result<PtAnswer, NotRead>
+fn truth(from: &mut XdrReader<'_>) -> Result<PtAnswer, NotRead>
     ensures { Gives (λ a. a) from.new result (answer_at tells.Truth from.old) }
 {
     Ok(PtAnswer::Truth(from.truth()?))
 }
 
-fn one_entry(from: &mut XdrSource<'_>) -> Result<PtAnswer, NotRead>
+fn one_entry(alloc: Global, from: &mut XdrReader<'_>) -> Result<PtAnswer, NotRead>
     ensures { Gives (λ a. a) from.new result (answer_at tells.Entry from.old) }
 {
-    Ok(PtAnswer::Entry(entry(from)?))
+    let entry = <EntryForm as Form<'_, XdrReader<'_>, PtEntry>>::read(alloc, from)?;
+    Ok(PtAnswer::Entry(entry))
 }
 
-fn some_entries(alloc: Global, from: &mut XdrSource<'_>) -> Result<PtAnswer, NotRead>
+fn some_entries(alloc: Global, from: &mut XdrReader<'_>) -> Result<PtAnswer, NotRead>
     ensures { Gives (λ a. a) from.new result (answer_at tells.Entries from.old) }
 {
-    Ok(PtAnswer::Entries(entries(alloc, from)?))
+    let entries = read_list::<XdrReader<'_>, PtEntry, EntryForm>(alloc, from, MAX_PAGE)?;
+    Ok(PtAnswer::Entries(entries))
 }
+
+/// How an entry is read.
+struct EntryForm;
 
 #[tactic(auto, unfolding(crate::specs::Answers::entry_at))]
-fn entry(from: &mut XdrSource<'_>) -> Result<PtEntry, NotRead>
-    ensures { Gives (λ e. e) from.new result (entry_at from.old) }
-{
-    Ok(PtEntry {
-        flags: from.number()?,
-        id: from.id()?,
-        owner: from.id()?,
-        creator: from.id()?,
-        quota: from.id()?,
-        count: from.number()?,
-        name: from.name()?,
-    })
-}
+impl<'a> Form<'a, XdrReader<'a>, PtEntry> for EntryForm {
+    ghost use Rattle.pt_calls.specs.Answers.{entry_at};
 
-fn entries(alloc: Global, from: &mut XdrSource<'_>) -> Result<Entries, NotRead>
-    ensures { Gives (λ es. es) from.new result (list_at MAX_PAGE entry_at from.old) }
-{
-    let count = from.count(MAX_PAGE)?;
-    let mut entries = Vec::new(alloc);
-    for _ in 0..count {
-        let entry = entry(from)?;
-        entries.push(entry)?;
+    ghost value_at = { entry_at };
+
+    fn read(alloc: Global, from: &mut XdrReader<'a>) -> Result<PtEntry, NotRead> {
+        Ok(PtEntry {
+            flags: from.number()?,
+            id: from.signed()?,
+            owner: from.signed()?,
+            creator: from.signed()?,
+            quota: from.signed()?,
+            count: from.number()?,
+            name: <TextItem as Form<'a, XdrReader<'a>, Bytes>>::read(alloc, from)?,
+        })
     }
-    Ok(Items::new(entries))
 }

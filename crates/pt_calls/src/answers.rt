@@ -3,7 +3,8 @@ ghost use Rattle.std.specs.Prelude.{◌≡◌};
 ghost use Rattle.pt_calls.specs.Answers.{answer_kind, asked_for};
 
 use crate::kinds::CallKind;
-use crate::lists::{Ids, Items, Names};
+use crate::lists::{Ids, Names};
+use call_grammar::Items;
 use ubik_types::Bytes;
 
 /// An entry, as an answer tells it. `count` is how many groups it is in, or how many members it has.

@@ -1,140 +1,153 @@
 //! The calls of each kind, value by value.
 #![tactic(auto, unfolding(crate::specs::Reading::call_at))]
 
-ghost use Rattle.std.specs.Prelude.{◌≡◌};
-ghost use Rattle.pt_calls.specs.Reading.{Gives, call_at};
+ghost use Rattle.call_grammar.specs.Reading.{Gives};
+ghost use Rattle.pt_calls.specs.Reading.{call_at};
 ghost use Rattle.pt_calls.specs.declared.kinds.CallKind.TheVariants as kinds;
 
 use crate::calls::PtCall;
-use crate::sources::{NotRead, Source};
+use crate::limits::MAX_LIST;
+use call_grammar::{Form, NotRead, SignedItem, Source, TextItem, read_list};
+use std::alloc::Global;
+use ubik_types::{Bytes, bytes_of};
 
-pub(crate) fn new_entry<S: Source>(from: &mut S) -> Result<PtCall, NotRead>
-    ensures { Gives (λ c. c) from.new result (call_at S.value_at kinds.NewEntry from.old) }
+pub(crate) fn new_entry<'a, S: Source<'a>>(alloc: Global, from: &mut S) -> Result<PtCall, NotRead>
+    ensures { Gives (λ c. c) from.new result (call_at S.item_at kinds.NewEntry from.old) }
 {
+    let name = from.text()?;
     Ok(PtCall::NewEntry {
-        name: from.name()?,
+        name: bytes_of(alloc, name)?,
         kind: from.number()?,
-        owner: from.id()?,
+        owner: from.signed()?,
     })
 }
 
-pub(crate) fn new_entry_with_id<S: Source>(from: &mut S) -> Result<PtCall, NotRead>
-    ensures { Gives (λ c. c) from.new result (call_at S.value_at kinds.INewEntry from.old) }
+pub(crate) fn new_entry_with_id<'a, S: Source<'a>>(
+    alloc: Global,
+    from: &mut S,
+) -> Result<PtCall, NotRead>
+    ensures { Gives (λ c. c) from.new result (call_at S.item_at kinds.INewEntry from.old) }
 {
+    let name = from.text()?;
     Ok(PtCall::INewEntry {
-        name: from.name()?,
-        id: from.id()?,
-        owner: from.id()?,
+        name: bytes_of(alloc, name)?,
+        id: from.signed()?,
+        owner: from.signed()?,
     })
 }
 
-pub(crate) fn name_to_id<S: Source>(from: &mut S) -> Result<PtCall, NotRead>
-    ensures { Gives (λ c. c) from.new result (call_at S.value_at kinds.NameToId from.old) }
+pub(crate) fn name_to_id<'a, S: Source<'a>>(alloc: Global, from: &mut S) -> Result<PtCall, NotRead>
+    ensures { Gives (λ c. c) from.new result (call_at S.item_at kinds.NameToId from.old) }
 {
     Ok(PtCall::NameToId {
-        names: from.names()?,
+        names: read_list::<S, Bytes, TextItem>(alloc, from, MAX_LIST)?,
     })
 }
 
-pub(crate) fn id_to_name<S: Source>(from: &mut S) -> Result<PtCall, NotRead>
-    ensures { Gives (λ c. c) from.new result (call_at S.value_at kinds.IdToName from.old) }
+pub(crate) fn id_to_name<'a, S: Source<'a>>(alloc: Global, from: &mut S) -> Result<PtCall, NotRead>
+    ensures { Gives (λ c. c) from.new result (call_at S.item_at kinds.IdToName from.old) }
 {
-    Ok(PtCall::IdToName { ids: from.ids()? })
+    Ok(PtCall::IdToName {
+        ids: read_list::<S, i32, SignedItem>(alloc, from, MAX_LIST)?,
+    })
 }
 
-pub(crate) fn delete<S: Source>(from: &mut S) -> Result<PtCall, NotRead>
-    ensures { Gives (λ c. c) from.new result (call_at S.value_at kinds.Delete from.old) }
+pub(crate) fn delete<'a, S: Source<'a>>(from: &mut S) -> Result<PtCall, NotRead>
+    ensures { Gives (λ c. c) from.new result (call_at S.item_at kinds.Delete from.old) }
 {
-    Ok(PtCall::Delete { id: from.id()? })
+    Ok(PtCall::Delete { id: from.signed()? })
 }
 
-pub(crate) fn add_to_group<S: Source>(from: &mut S) -> Result<PtCall, NotRead>
-    ensures { Gives (λ c. c) from.new result (call_at S.value_at kinds.AddToGroup from.old) }
+pub(crate) fn add_to_group<'a, S: Source<'a>>(from: &mut S) -> Result<PtCall, NotRead>
+    ensures { Gives (λ c. c) from.new result (call_at S.item_at kinds.AddToGroup from.old) }
 {
     Ok(PtCall::AddToGroup {
-        member: from.id()?,
-        group: from.id()?,
+        member: from.signed()?,
+        group: from.signed()?,
     })
 }
 
-pub(crate) fn remove_from_group<S: Source>(from: &mut S) -> Result<PtCall, NotRead>
-    ensures { Gives (λ c. c) from.new result (call_at S.value_at kinds.RemoveFromGroup from.old) }
+pub(crate) fn remove_from_group<'a, S: Source<'a>>(from: &mut S) -> Result<PtCall, NotRead>
+    ensures { Gives (λ c. c) from.new result (call_at S.item_at kinds.RemoveFromGroup from.old) }
 {
     Ok(PtCall::RemoveFromGroup {
-        member: from.id()?,
-        group: from.id()?,
+        member: from.signed()?,
+        group: from.signed()?,
     })
 }
 
-pub(crate) fn get_cps<S: Source>(from: &mut S) -> Result<PtCall, NotRead>
-    ensures { Gives (λ c. c) from.new result (call_at S.value_at kinds.GetCps from.old) }
+pub(crate) fn get_cps<'a, S: Source<'a>>(from: &mut S) -> Result<PtCall, NotRead>
+    ensures { Gives (λ c. c) from.new result (call_at S.item_at kinds.GetCps from.old) }
 {
-    Ok(PtCall::GetCps { id: from.id()? })
+    Ok(PtCall::GetCps { id: from.signed()? })
 }
 
-pub(crate) fn set_max<S: Source>(from: &mut S) -> Result<PtCall, NotRead>
-    ensures { Gives (λ c. c) from.new result (call_at S.value_at kinds.SetMax from.old) }
+pub(crate) fn set_max<'a, S: Source<'a>>(from: &mut S) -> Result<PtCall, NotRead>
+    ensures { Gives (λ c. c) from.new result (call_at S.item_at kinds.SetMax from.old) }
 {
     Ok(PtCall::SetMax {
-        id: from.id()?,
+        id: from.signed()?,
         is_group: from.truth()?,
     })
 }
 
-pub(crate) fn list_entry<S: Source>(from: &mut S) -> Result<PtCall, NotRead>
-    ensures { Gives (λ c. c) from.new result (call_at S.value_at kinds.ListEntry from.old) }
+pub(crate) fn list_entry<'a, S: Source<'a>>(from: &mut S) -> Result<PtCall, NotRead>
+    ensures { Gives (λ c. c) from.new result (call_at S.item_at kinds.ListEntry from.old) }
 {
-    Ok(PtCall::ListEntry { id: from.id()? })
+    Ok(PtCall::ListEntry { id: from.signed()? })
 }
 
-pub(crate) fn list_entries<S: Source>(from: &mut S) -> Result<PtCall, NotRead>
-    ensures { Gives (λ c. c) from.new result (call_at S.value_at kinds.ListEntries from.old) }
+pub(crate) fn list_entries<'a, S: Source<'a>>(from: &mut S) -> Result<PtCall, NotRead>
+    ensures { Gives (λ c. c) from.new result (call_at S.item_at kinds.ListEntries from.old) }
 {
     Ok(PtCall::ListEntries {
         kinds: from.number()?,
-        after: from.id()?,
+        after: from.signed()?,
     })
 }
 
-pub(crate) fn change_entry<S: Source>(from: &mut S) -> Result<PtCall, NotRead>
-    ensures { Gives (λ c. c) from.new result (call_at S.value_at kinds.ChangeEntry from.old) }
+pub(crate) fn change_entry<'a, S: Source<'a>>(
+    alloc: Global,
+    from: &mut S,
+) -> Result<PtCall, NotRead>
+    ensures { Gives (λ c. c) from.new result (call_at S.item_at kinds.ChangeEntry from.old) }
 {
     Ok(PtCall::ChangeEntry {
-        id: from.id()?,
-        name: from.name()?,
-        owner: from.id()?,
-        new_id: from.id()?,
+        id: from.signed()?,
+        name: <TextItem as Form<'a, S, Bytes>>::read(alloc, from)?,
+        owner: from.signed()?,
+        new_id: from.signed()?,
     })
 }
 
-pub(crate) fn set_fields<S: Source>(from: &mut S) -> Result<PtCall, NotRead>
-    ensures { Gives (λ c. c) from.new result (call_at S.value_at kinds.SetFields from.old) }
+pub(crate) fn set_fields<'a, S: Source<'a>>(from: &mut S) -> Result<PtCall, NotRead>
+    ensures { Gives (λ c. c) from.new result (call_at S.item_at kinds.SetFields from.old) }
 {
     Ok(PtCall::SetFields {
-        id: from.id()?,
+        id: from.signed()?,
         mask: from.number()?,
         flags: from.number()?,
-        quota: from.id()?,
+        quota: from.signed()?,
     })
 }
 
-pub(crate) fn list_elements<S: Source>(from: &mut S) -> Result<PtCall, NotRead>
-    ensures { Gives (λ c. c) from.new result (call_at S.value_at kinds.ListElements from.old) }
+pub(crate) fn list_elements<'a, S: Source<'a>>(from: &mut S) -> Result<PtCall, NotRead>
+    ensures { Gives (λ c. c) from.new result (call_at S.item_at kinds.ListElements from.old) }
 {
-    Ok(PtCall::ListElements { id: from.id()? })
+    Ok(PtCall::ListElements { id: from.signed()? })
 }
 
-pub(crate) fn is_member_of<S: Source>(from: &mut S) -> Result<PtCall, NotRead>
-    ensures { Gives (λ c. c) from.new result (call_at S.value_at kinds.IsMemberOf from.old) }
+pub(crate) fn is_member_of<'a, S: Source<'a>>(from: &mut S) -> Result<PtCall, NotRead>
+    ensures { Gives (λ c. c) from.new result (call_at S.item_at kinds.IsMemberOf from.old) }
 {
     Ok(PtCall::IsMemberOf {
-        member: from.id()?,
-        group: from.id()?,
+        member: from.signed()?,
+        group: from.signed()?,
     })
 }
 
-pub(crate) fn list_owned<S: Source>(from: &mut S) -> Result<PtCall, NotRead>
-    ensures { Gives (λ c. c) from.new result (call_at S.value_at kinds.ListOwned from.old) }
+pub(crate) fn list_owned<'a, S: Source<'a>>(from: &mut S) -> Result<PtCall, NotRead>
+    ensures { Gives (λ c. c) from.new result (call_at S.item_at kinds.ListOwned from.old) }
 {
-    Ok(PtCall::ListOwned { id: from.id()? })
+    Ok(PtCall::ListOwned { id: from.signed()? })
 }

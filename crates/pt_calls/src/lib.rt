@@ -1,4 +1,4 @@
-//! The calls of the protection database and its answers: their grammar.
+//! The calls of the protection database and its answers: their grammar, in bytes and in words.
 #![tactic(auto)]
 
 mod answer_reading;
@@ -13,11 +13,9 @@ mod lists;
 mod reading;
 mod shapes;
 mod skipping;
-mod sources;
-mod word_source;
+mod texts;
 mod words;
 mod writing;
-mod xdr_source;
 
 pub use answer_reading::read_answer;
 pub use answer_writing::spell_answer;
@@ -26,9 +24,9 @@ pub use calls::PtCall;
 pub use kinds::{CallKind, KINDS};
 pub use laws::{a_call_is_read_from_its_spelling, no_call_begins_another, words_name_calls};
 pub use limits::{MAX_ANSWER_IDS, MAX_LIST, MAX_NAME, MAX_PAGE};
-pub use lists::{Ids, Items, Names};
+pub use lists::{Ids, Names};
 pub use reading::read_call;
 pub use shapes::Shape;
 pub use skipping::kind_of;
-pub use words::call_words;
+pub use words::{call_words, reply_words};
 pub use writing::spell_call;

@@ -1,15 +1,14 @@
 //! Calls, read from where their values come from.
 ghost use Rattle.std.specs.Prelude.{◌≡◌, IfOk, IfSome, Some};
-ghost use Rattle.xdr_base.specs.Reading.{at_start};
+ghost use Rattle.call_grammar.specs.Reading.{Gives, Shows};
 ghost use Rattle.pt_calls.specs.declared.calls.PtCall.{PtCall};
 ghost use Rattle.pt_calls.specs.Calls.{IsCall, spelling};
-ghost use Rattle.pt_calls.specs.Reading.{Gives, Shows, call_at, call_of, front_call, whole};
+ghost use Rattle.pt_calls.specs.Reading.{call_at, call_of, front_call};
 
 use crate::by_kind;
 use crate::calls::PtCall;
 use crate::kinds::CallKind;
-use crate::sources::{NotRead, Source};
-use crate::xdr_source::XdrSource;
+use call_grammar::{NotRead, Source, at_end};
 use std::alloc::Global;
 use ubik_types::NoMemory;
 use xdr_base::XdrReader;
@@ -33,34 +32,37 @@ pub fn read_call(alloc: Global, bytes: &[u8]) -> Result<Option<PtCall>, NoMemory
 fn whole_call(alloc: Global, bytes: &[u8]) -> Result<PtCall, NotRead>
     ensures { Shows result (call_of bytes.now) }
 {
-    let reader = XdrReader::new(bytes);
-    let mut from = XdrSource { alloc, reader };
-    let call = front_call(&mut from)?;
-    from.end()?;
+    let mut from = XdrReader::new(bytes);
+    let call = front_call(alloc, &mut from)?;
+    at_end(&from)?;
     Ok(call)
 }
 
 /// The call at the front.
 #[tactic(auto, unfolding(crate::specs::Reading::front_call))]
-fn front_call(from: &mut XdrSource<'_>) -> Result<PtCall, NotRead>
+fn front_call(alloc: Global, from: &mut XdrReader<'_>) -> Result<PtCall, NotRead>
     ensures { Gives (λ c. c) from.new result (front_call from.old) }
 {
     let number = from.number()?;
     match CallKind::numbered(number) {
-        Some(kind) => call_in(kind, from),
+        Some(kind) => call_in(alloc, kind, from),
         None => Err(NotRead::None),
     }
 }
 
 /// The call of this kind.
-pub(crate) fn call_in<S: Source>(kind: CallKind, from: &mut S) -> Result<PtCall, NotRead>
-    ensures { Gives (λ c. c) from.new result (call_at S.value_at kind from.old) }
+pub(crate) fn call_in<'a, S: Source<'a>>(
+    alloc: Global,
+    kind: CallKind,
+    from: &mut S,
+) -> Result<PtCall, NotRead>
+    ensures { Gives (λ c. c) from.new result (call_at S.item_at kind from.old) }
 {
     match kind {
-        CallKind::NewEntry => by_kind::new_entry(from),
-        CallKind::INewEntry => by_kind::new_entry_with_id(from),
-        CallKind::NameToId => by_kind::name_to_id(from),
-        CallKind::IdToName => by_kind::id_to_name(from),
+        CallKind::NewEntry => by_kind::new_entry(alloc, from),
+        CallKind::INewEntry => by_kind::new_entry_with_id(alloc, from),
+        CallKind::NameToId => by_kind::name_to_id(alloc, from),
+        CallKind::IdToName => by_kind::id_to_name(alloc, from),
         CallKind::Delete => by_kind::delete(from),
         CallKind::AddToGroup => by_kind::add_to_group(from),
         CallKind::RemoveFromGroup => by_kind::remove_from_group(from),
@@ -69,7 +71,7 @@ pub(crate) fn call_in<S: Source>(kind: CallKind, from: &mut S) -> Result<PtCall,
         CallKind::SetMax => by_kind::set_max(from),
         CallKind::ListEntry => by_kind::list_entry(from),
         CallKind::ListEntries => by_kind::list_entries(from),
-        CallKind::ChangeEntry => by_kind::change_entry(from),
+        CallKind::ChangeEntry => by_kind::change_entry(alloc, from),
         CallKind::SetFields => by_kind::set_fields(from),
         CallKind::ListElements => by_kind::list_elements(from),
         CallKind::IsMemberOf => by_kind::is_member_of(from),

@@ -1,13 +1,17 @@
 //! Calls that are passed over, without taking memory.
 ghost use Rattle.std.specs.Prelude.{◌≡◌};
 ghost use Rattle.std.specs.Option.{option_map};
+ghost use Rattle.call_grammar.specs.Reading.{Skips, rest_of, values_at, xdr_item};
 ghost use Rattle.pt_calls.specs.Calls.{call_kind};
-ghost use Rattle.pt_calls.specs.Reading.{Skips, call_of, id_at, list_at, name_at, rest_of, values_at, xdr_at};
+ghost use Rattle.pt_calls.specs.Reading.{call_of};
+ghost use Rattle.pt_calls.specs.Shapes.{shape_at, value};
 
 use crate::kinds::CallKind;
-use crate::limits::{MAX_LIST, MAX_NAME};
+use crate::limits::MAX_LIST;
 use crate::shapes::Shape;
-use xdr_base::{XdrFault, XdrReader};
+use call_grammar::{NoValue, SignedItem, Source, TextItem, skip_list};
+use ubik_types::Bytes;
+use xdr_base::XdrReader;
 
 /// The kind of the call that these bytes spell, all of them; none where they spell no call. It takes no memory.
 pub fn kind_of(bytes: &[u8]) -> Option<CallKind>
@@ -28,8 +32,8 @@ pub fn kind_of(bytes: &[u8]) -> Option<CallKind>
 }
 
 /// Passes over a value of each of these shapes.
-fn skip_all(from: &mut XdrReader<'_>, shapes: &[Shape]) -> Result<(), XdrFault>
-    ensures { Skips from.new result (rest_of (values_at xdr_at shapes.now from.old)) }
+fn skip_all(from: &mut XdrReader<'_>, shapes: &[Shape]) -> Result<(), NoValue>
+    ensures { Skips from.new result (rest_of (values_at value (shape_at xdr_item) shapes.now from.old)) }
 {
     for shape in shapes {
         skip(from, *shape)?;
@@ -38,65 +42,43 @@ fn skip_all(from: &mut XdrReader<'_>, shapes: &[Shape]) -> Result<(), XdrFault>
 }
 
 /// Passes over a value of this shape.
-fn skip(from: &mut XdrReader<'_>, shape: Shape) -> Result<(), XdrFault>
-    ensures { Skips from.new result (rest_of (xdr_at shape from.old)) }
+fn skip(from: &mut XdrReader<'_>, shape: Shape) -> Result<(), NoValue>
+    ensures { Skips from.new result (rest_of (shape_at xdr_item shape from.old)) }
 {
     match shape {
         Shape::Number => skip_number(from),
         Shape::Id => skip_id(from),
         Shape::Truth => skip_truth(from),
         Shape::Name => skip_name(from),
-        Shape::Names => skip_names(from),
-        Shape::Ids => skip_ids(from),
+        Shape::Names => skip_list::<XdrReader<'_>, Bytes, TextItem>(from, MAX_LIST),
+        Shape::Ids => skip_list::<XdrReader<'_>, i32, SignedItem>(from, MAX_LIST),
     }
 }
 
-fn skip_number(from: &mut XdrReader<'_>) -> Result<(), XdrFault>
-    ensures { Skips from.new result (rest_of (xdr_at Shape.Number from.old)) }
+fn skip_number(from: &mut XdrReader<'_>) -> Result<(), NoValue>
+    ensures { Skips from.new result (rest_of (shape_at xdr_item Shape.Number from.old)) }
 {
-    from.get_u32()?;
+    from.number()?;
     Ok(())
 }
 
-#[tactic(auto, unfolding(crate::specs::Reading::id_at))]
-fn skip_id(from: &mut XdrReader<'_>) -> Result<(), XdrFault>
-    ensures { Skips from.new result (rest_of (id_at from.old)) }
+fn skip_id(from: &mut XdrReader<'_>) -> Result<(), NoValue>
+    ensures { Skips from.new result (rest_of (shape_at xdr_item Shape.Id from.old)) }
 {
-    from.get_i32()?;
+    from.signed()?;
     Ok(())
 }
 
-fn skip_truth(from: &mut XdrReader<'_>) -> Result<(), XdrFault>
-    ensures { Skips from.new result (rest_of (xdr_at Shape.Truth from.old)) }
+fn skip_truth(from: &mut XdrReader<'_>) -> Result<(), NoValue>
+    ensures { Skips from.new result (rest_of (shape_at xdr_item Shape.Truth from.old)) }
 {
-    from.get_bool()?;
+    from.truth()?;
     Ok(())
 }
 
-#[tactic(auto, unfolding(crate::specs::Reading::name_at))]
-fn skip_name(from: &mut XdrReader<'_>) -> Result<(), XdrFault>
-    ensures { Skips from.new result (rest_of (name_at from.old)) }
+fn skip_name(from: &mut XdrReader<'_>) -> Result<(), NoValue>
+    ensures { Skips from.new result (rest_of (shape_at xdr_item Shape.Name from.old)) }
 {
-    from.get_bytes(MAX_NAME)?;
-    Ok(())
-}
-
-fn skip_names(from: &mut XdrReader<'_>) -> Result<(), XdrFault>
-    ensures { Skips from.new result (rest_of (list_at MAX_LIST name_at from.old)) }
-{
-    let count = from.get_count(MAX_LIST)?;
-    for _ in 0..count {
-        skip_name(from)?;
-    }
-    Ok(())
-}
-
-fn skip_ids(from: &mut XdrReader<'_>) -> Result<(), XdrFault>
-    ensures { Skips from.new result (rest_of (list_at MAX_LIST id_at from.old)) }
-{
-    let count = from.get_count(MAX_LIST)?;
-    for _ in 0..count {
-        skip_id(from)?;
-    }
+    from.text()?;
     Ok(())
 }

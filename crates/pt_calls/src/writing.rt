@@ -1,28 +1,16 @@
 //! Calls as bytes.
-ghost use Rattle.std.specs.Prelude.{◌≡◌, ◌≤◌, ◌<◌, ◌^◌, ◌++◌, length, IfOk, OnOk};
-ghost use Rattle.std.specs.List.{flat_map, AllByRecursion};
-ghost use Rattle.xdr_base.specs.Spelling.{signed, opaque};
+ghost use Rattle.std.specs.Prelude.{◌≡◌, ◌++◌, IfOk, OnOk};
+ghost use Rattle.call_grammar.specs.Items.{xdr_text};
+ghost use Rattle.call_grammar.specs.Lists.{spelled};
 ghost use Rattle.pt_calls.specs.Calls.{HasSpelling, spelling, shapes_of, call_kind, call_values};
-ghost use Rattle.pt_calls.specs.Shapes.{listed, spelled, IsName};
-ghost use Rattle.pt_calls.specs.Writing.{value_text, IsShort};
+ghost use Rattle.pt_calls.specs.Shapes.{shape_text, value};
 
 use crate::calls::PtCall;
-use crate::lists::{Ids, Names};
-use Value::{Id, Name, Number, Truth};
+use crate::texts::Value::{Id, Name, Number, Truth};
+use crate::texts::{Value, put};
 use std::alloc::Global;
 use ubik_types::{Bytes, NoMemory};
 use xdr_base::XdrWriter;
-
-/// A value of a call, which is lent.
-#[derive(Clone, Copy)]
-pub(crate) enum Value<'a> {
-    Number(&'a u32),
-    Id(&'a i32),
-    Truth(&'a bool),
-    Name(&'a Bytes),
-    Names(&'a Names),
-    Ids(&'a Ids),
-}
 
 /// The bytes of a call.
 pub fn spell_call(alloc: Global, call: &PtCall) -> Result<Bytes, NoMemory>
@@ -38,7 +26,8 @@ pub fn spell_call(alloc: Global, call: &PtCall) -> Result<Bytes, NoMemory>
 /// Writes the fields of a call.
 fn put_fields(out: &mut XdrWriter, call: &PtCall) -> Result<(), NoMemory>
     requires { HasSpelling call.now }
-    ensures { OnOk result (out.new ≡ out.old ++ spelled (shapes_of (call_kind call.now)) (call_values call.now)) }
+    ensures { OnOk result (out.new ≡ out.old
+        ++ spelled value (shape_text xdr_text) (shapes_of (call_kind call.now)) (call_values call.now)) }
 {
     match call {
         PtCall::NewEntry { name, kind, owner } => put(out, &[Name(name), Number(kind), Id(owner)]),
@@ -69,52 +58,4 @@ fn put_fields(out: &mut XdrWriter, call: &PtCall) -> Result<(), NoMemory>
         PtCall::IsMemberOf { member, group } => put(out, &[Id(member), Id(group)]),
         PtCall::ListOwned { id } => put(out, &[Id(id)]),
     }
-}
-
-/// Writes values one after the other.
-pub(crate) fn put(out: &mut XdrWriter, values: &[Value<'_>]) -> Result<(), NoMemory>
-    requires { AllByRecursion IsShort values.now }
-    ensures { OnOk result (out.new ≡ out.old ++ flat_map value_text values.now) }
-{
-    for value in values {
-        put_value(out, *value)?;
-    }
-    Ok(())
-}
-
-fn put_value(out: &mut XdrWriter, value: Value<'_>) -> Result<(), NoMemory>
-    requires { IsShort value }
-    ensures { OnOk result (out.new ≡ out.old ++ value_text value.entry) }
-{
-    match value {
-        Value::Number(n) => out.put_u32(*n),
-        Value::Id(id) => out.put_i32(*id),
-        Value::Truth(truth) => out.put_bool(*truth),
-        Value::Name(name) => out.put_bytes(name.as_slice()),
-        Value::Names(names) => put_names(out, names.as_slice()),
-        Value::Ids(ids) => put_ids(out, ids.as_slice()),
-    }
-}
-
-pub(crate) fn put_names(out: &mut XdrWriter, names: &[Bytes]) -> Result<(), NoMemory>
-    requires count { length names.now ≤ 5000 }
-    requires each { AllByRecursion IsName names.now }
-    ensures { OnOk result (out.new ≡ out.old ++ listed opaque names.now) }
-{
-    out.put_u32(names.len() as u32)?;
-    for name in names {
-        out.put_bytes(name.as_slice())?;
-    }
-    Ok(())
-}
-
-pub(crate) fn put_ids(out: &mut XdrWriter, ids: &[i32]) -> Result<(), NoMemory>
-    requires { length ids.now < 2 ^ 32 }
-    ensures { OnOk result (out.new ≡ out.old ++ listed signed ids.now) }
-{
-    out.put_u32(ids.len() as u32)?;
-    for id in ids {
-        out.put_i32(*id)?;
-    }
-    Ok(())
 }

@@ -21,8 +21,8 @@ pub refused_so : (bytes after : Option (List ℕ)) (v : State → Verdict) (rule
 refused_so None after v rule ended told same is = tt
 refused_so (Some image) after v rule ended told same is = λ s holds. done_refused (v s) s image after rule ended told same (is s holds)
 
-done_made : (v : Verdict) (s : State) (image : List ℕ) (after : Option (List ℕ)) (change : Change) (ended : CallEnd)
-    → ended ≡ end_of (reply_by (Answers answer.Done)) → after ≡ image_after change s image → v ≡ Makes answer.Done change
+pub done_made : (v : Verdict) (s : State) (image : List ℕ) (after : Option (List ℕ)) (change : Change) (ended : CallEnd)
+    → ended ≡ end_of (reply_by (Answers answer.Done)) → after ≡ Some (image_after change s image) → v ≡ Makes answer.Done change
     → IsDone v s image ended after
 done_made v s image after change ended told leaves is =
     let done : IsDone (Makes answer.Done change) s image ended after = record { reply = told; leaves = leaves } in
@@ -34,7 +34,7 @@ OfImages bytes P = IfSome bytes (λ image. (s : State) → HoldsState image s �
 
 pub made_so : (bytes after : Option (List ℕ)) (v : State → Verdict) (change : Change) (ended : CallEnd)
     → ended ≡ end_of (reply_by (Answers answer.Done))
-    → OfStates bytes (λ s. v s ≡ Makes answer.Done change) → OfImages bytes (λ image s. after ≡ image_after change s image)
+    → OfStates bytes (λ s. v s ≡ Makes answer.Done change) → OfImages bytes (λ image s. after ≡ Some (image_after change s image))
     → IsMeantOf bytes v ended after
 made_so None after v change ended told is leaves = tt
 made_so (Some image) after v change ended told is leaves = λ s holds. done_made (v s) s image after change ended told (leaves s holds)

@@ -4,7 +4,7 @@ use Rattle.db_image.specs.declared.images.ImageRead.{Ghosts}
 use Rattle.db_blocks.specs.Ends.{OnlyDrafts as BlockDrafts}
 use Rattle.prdb_entries.specs.RecordEnds.{OnlyDrafts, OnlyLooks}
 use Rattle.prdb_entries.proofs.Scanned.{drafts_after, drafts_then, looks_then}
-use Rattle.pt_service.proofs.Frames.{drafted, looked}
+use Rattle.pt_service.proofs.Frames.{drafted, drafts_so, looked}
 
 pub looked_two : {I : Type 0} (g : Ghosts I) (a b c : Drafted I) (first second failed : Type 0) → OnlyLooks g a b first
     → OnlyLooks g b c second → (failed → second)
@@ -17,19 +17,6 @@ pub drafted_two : {I : Type 0} (g : Ghosts I) (a b c d : Drafted I) (first secon
 drafted_two g a b c d first second third failed r s t so =
     let changes : OnlyDrafts g c d third = record { layout = t.layout; reads = t.reads } in
     drafted g a c d second third failed (looks_then g a b c first second r s) changes so
-
-pub drafts_so : {I : Type 0} (g : Ghosts I) (a b : Drafted I) (first failed : Type 0) → OnlyDrafts g a b first → (failed → first)
-    → OnlyDrafts g a b failed
-drafts_so g a b first failed r so = record {
-  layout = r.layout;
-  reads = record {
-    held = r.reads.held;
-    size = r.reads.size;
-    came = r.reads.came;
-    never_falls = r.reads.never_falls;
-    cause = λ h. r.reads.cause (so h);
-  };
-}
 
 -- a look, a change, a look, and two changes more
 pub looked_then_changed : {I : Type 0} (g : Ghosts I) (a b c d : Drafted I) (first second third failed : Type 0) → OnlyLooks g a b first

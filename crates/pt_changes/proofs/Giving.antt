@@ -20,7 +20,7 @@ use Rattle.pt_database.proofs.Pairs.{some_is}
 use Rattle.pt_changes.specs.Ends.{HasChangeCause, Leaves, over_registry}
 use Rattle.pt_changes.specs.Leaving.{MayGive, after_given, after_gives, with_owner}
 use Rattle.pt_changes.proofs.Decided.{OfImages}
-use Rattle.pt_changes.proofs.Frames.{drafts_so}
+use Rattle.pt_service.proofs.Frames.{drafts_so}
 use Rattle.pt_changes.proofs.Owners.{IsSameBut, give_step, given_is, may_give, one_given, owner_stays, same_stays, still_there}
 use Rattle.pt_changes.proofs.Parting.{cut, some_at}
 

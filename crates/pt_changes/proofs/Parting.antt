@@ -22,7 +22,7 @@ use Rattle.pt_database.proofs.States.{as_looks}
 use Rattle.pt_changes.specs.Ends.{Always, HasChangeCause, Leaves, Makes}
 use Rattle.pt_changes.specs.Leaving.{MayPart, after_parted, after_parts, without_paired, without_pairs}
 use Rattle.pt_changes.proofs.Decided.{OfImages}
-use Rattle.pt_changes.proofs.Frames.{drafts_so}
+use Rattle.pt_service.proofs.Frames.{drafts_so}
 use Rattle.pt_changes.proofs.Parted.{CanPart, elements_can, left_is, without_each}
 
 -- ---- one pair, by which of the two is the group

@@ -1,3 +1,5 @@
 pub mod Ends
 pub mod Leaving
 pub mod Standing
+pub mod Turning
+pub mod Under

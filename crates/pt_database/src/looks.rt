@@ -11,9 +11,10 @@ ghost use Rattle.pt_database.specs.Ends.{IsTooMany};
 ghost use Rattle.pt_database.specs.States.{IsToldOf, OfStates};
 
 use crate::finds::{entry_of, is_in, told_of};
+use call_grammar::Items;
 use db_image::{CallEnd, Draft, ImageRead, RecordFault};
 use prdb_members::{IdList, cps, elements, owned};
-use pt_calls::{Items, MAX_ANSWER_IDS, PtAnswer};
+use pt_calls::{MAX_ANSWER_IDS, PtAnswer};
 use pt_service::{NO_ENTRY, NOT_GROUP, NOT_USER, is_group, tell};
 use std::alloc::Global;
 

@@ -12,10 +12,11 @@ ghost use Rattle.pt_database.specs.Ends.{IsUnless};
 ghost use Rattle.pt_database.specs.Pages.{HasShortName, fits_in, page_of, told_in};
 ghost use Rattle.pt_database.specs.States.{IsToldOf, OfStates};
 
+use call_grammar::Items;
 use db_blocks::Block;
 use db_image::{CallEnd, Draft, ImageRead, RecordFault};
 use entry_scans::{EntryView, Sought, entry_in, first_where, pair_count_in};
-use pt_calls::{Entries, Items, MAX_PAGE, PtAnswer, PtEntry};
+use pt_calls::{Entries, MAX_PAGE, PtAnswer, PtEntry};
 use pt_service::{BAD_ARGUMENT, is_group, is_id, is_name_of, tell};
 use std::alloc::Global;
 use ubik_types::bytes_of;

@@ -1,8 +1,7 @@
 -- What kind of change each call makes, if it makes one.
-use Rattle.std.proofs.Common.{◌≡◌, ℕ, ℤ, pos, negsuc, Bool, true, false, not, ◌&&◌, ◌||◌, cond, eqb, List, Option, Some, None, Result, Ok, Err, refl}
+use Rattle.std.proofs.Common.{◌≡◌, ℕ, ℤ, pos, Bool, true, false, not, ◌&&◌, ◌||◌, cond, eqb, List, Option, Some, None, Result, Ok, Err, refl}
 use Rattle.std.specs.Prelude.{is_none, is_some}
 use Rattle.std.specs.Ordering.{int_eq}
-use Rattle.prdb_entries.specs.Names.{lowered}
 use Rattle.prdb_entries.specs.Registry.{Registry}
 use Rattle.prdb_entries.specs.State.{PrEntry}
 use Rattle.pt_calls.specs.Calls.{call_kind}
@@ -10,13 +9,12 @@ use Rattle.pt_calls.specs.declared.answers.PtAnswer.{PtAnswer}
 use Rattle.pt_calls.specs.declared.answers.PtAnswer.TheVariants as answer
 use Rattle.pt_calls.specs.declared.calls.PtCall.{PtCall}
 use Rattle.pt_calls.specs.declared.calls.PtCall.TheVariants as call
-use Rattle.pt_service.specs.Meaning.{Answers, Enter, Join, Leave, Makes, Maxima, NoCall, Part, Refit, Refuses, Turn, Verdict, are_bad_fields, are_kinds, enters, entry_made, fields_set, is_maximum, joins, leaves}
+use Rattle.pt_service.specs.Meaning.{Answers, Enter, Makes, Maxima, NoCall, Refit, Refuses, Verdict, are_bad_fields, are_kinds, enters, entry_made, fields_set, is_maximum}
 use Rattle.pt_service.specs.Meaning.{maxima_with, maximum_set, new_entry, new_entry_of_id, next_id, of_entry, of_owner, of_pair, owned}
-use Rattle.pt_service.specs.Meaning.{owner_for, page, parts, turns, unless, verdict, with_given, with_next}
+use Rattle.pt_service.specs.Meaning.{owner_for, page, unless, verdict, with_given, with_next}
 use Rattle.pt_service.specs.State.{State, is_group, is_id}
-use Rattle.pt_service.specs.Turning.{is_fixed, turn_fault}
 use Rattle.pt_calls.specs.Writes.{is_write}
-use Rattle.pt_laws.specs.Standing.{image_by}
+use Rattle.pt_changes.specs.Standing.{image_by}
 
 -- ---- kinds of change
 
@@ -34,20 +32,6 @@ IsPlain (Makes a (Enter e user group)) = Unit {0}
 IsPlain (Makes a (Refit e)) = Unit {0}
 IsPlain (Makes a change) = ⊥
 IsPlain v = Unit {0}
-
--- the change is one of pairs, or an entry that leaves
-abbrev pub IsPaired : Verdict → Type 0
-IsPaired (Makes a (Leave id)) = Unit {0}
-IsPaired (Makes a (Join user group)) = Unit {0}
-IsPaired (Makes a (Part user group)) = Unit {0}
-IsPaired (Makes a change) = ⊥
-IsPaired v = Unit {0}
-
--- the change is an entry that turns
-abbrev pub IsTurned : Verdict → Type 0
-IsTurned (Makes a (Turn e name owner id user group)) = Unit {0}
-IsTurned (Makes a change) = ⊥
-IsTurned v = Unit {0}
 
 -- ---- verdicts that are put together
 
@@ -158,32 +142,3 @@ pub fields_plain : (o : Option PrEntry) (mask flags : ℕ) (quota : ℤ) → IsP
 fields_plain o mask flags quota =
     of_one IsPlain o (fields_set mask flags quota) (λ rule. tt)
     (λ e. by_test IsPlain (are_bad_fields mask flags quota) (Refuses 267273) _ tt tt)
-
--- ---- pairs, and an entry that leaves
-
-pub join_paired : (s : State) (user group : ℤ) → IsPaired (verdict s (Some (call.AddToGroup user group)))
-unfolding verdict
-join_paired s user group =
-    of_both IsPaired s.registry user group (joins s user group) (λ rule. tt)
-    (by_test IsPaired (int_eq group (negsuc 100) || int_eq group (negsuc 101)) (Refuses 267269) _ tt
-    (by_test IsPaired (s.is_in user group) (Refuses 267265) _ tt tt))
-
-pub part_paired : (s : State) (user group : ℤ) → IsPaired (verdict s (Some (call.RemoveFromGroup user group)))
-unfolding verdict
-part_paired s user group =
-    of_both IsPaired s.registry user group (parts s user group) (λ rule. tt)
-    (by_test IsPaired (s.is_in user group) _ (Refuses 267268) tt tt)
-
-pub leave_paired : (s : State) (id : ℤ) → IsPaired (verdict s (Some (call.Delete id)))
-unfolding verdict
-leave_paired s id =
-    of_one IsPaired (s.registry.entry id) leaves (λ rule. tt) (λ e. by_test IsPaired (is_fixed e.id) (Refuses 267269) _ tt tt)
-
--- ---- an entry that turns
-
-pub turn_turned : (s : State) (id : ℤ) (name : List ℕ) (owner new_id : ℤ)
-    → IsTurned (verdict s (Some (call.ChangeEntry id name owner new_id)))
-unfolding verdict
-turn_turned s id name owner new_id =
-    of_one IsTurned (s.registry.entry id) (turns s.registry (lowered name) owner new_id) (λ rule. tt)
-    (λ e. unless_one IsTurned (turn_fault s.registry e (lowered name) owner new_id) _ (λ rule. tt) tt)

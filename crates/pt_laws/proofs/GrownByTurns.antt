@@ -10,9 +10,9 @@ use Rattle.pt_service.specs.Meaning.{Answers, Change, Enter, Join, Leave, Makes,
 use Rattle.pt_service.specs.State.{State, elements, is_group}
 use Rattle.pt_service.specs.Turning.{moved}
 use Rattle.pt_changes.specs.Leaving.{after_given, after_gives, after_leave, after_parted, after_parts, property, with_owner, with_owners}
-use Rattle.pt_turns.specs.Turning.{after_fronted, after_fronts, after_rename, after_renumber, after_turn, fronted, named, renamed, with_fronted}
-use Rattle.pt_turns.specs.Under.{under}
-use Rattle.pt_laws.specs.Standing.{image_after, image_by}
+use Rattle.pt_changes.specs.Turning.{after_fronted, after_fronts, after_rename, after_renumber, after_turn, fronted, named, renamed, with_fronted}
+use Rattle.pt_changes.specs.Under.{under}
+use Rattle.pt_changes.specs.Standing.{image_after, image_by}
 use Rattle.pt_laws.proofs.Grown.{either_longer, grows_insert, grows_join, grows_maxima, grows_part, grows_relisted, grows_remove, grows_replace, grows_same, grows_whole, on_longer}
 
 -- ---- an entry that leaves

@@ -9,9 +9,9 @@ use Rattle.pt_service.specs.State.{State}
 use Rattle.pt_service.specs.Turning.{with_turned}
 use Rattle.pt_database.specs.States.{HoldsState, members_of}
 use Rattle.pt_changes.proofs.Left.{left_holds}
-use Rattle.pt_turns.specs.Turning.{after_turn}
+use Rattle.pt_changes.specs.Turning.{after_turn}
 use Rattle.pt_turns.proofs.Whole.{turned_holds}
-use Rattle.pt_laws.specs.Standing.{image_after, image_by}
+use Rattle.pt_changes.specs.Standing.{image_after, image_by}
 use Rattle.pt_laws.proofs.Possible.{CanMake, IsSound}
 use Rattle.pt_laws.proofs.Sound.{sound}
 

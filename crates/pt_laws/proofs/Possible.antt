@@ -7,7 +7,7 @@ use Rattle.pt_service.specs.Meaning.{Answers, Change, Enter, Join, Leave, Makes,
 use Rattle.pt_service.specs.State.{State}
 use Rattle.pt_service.specs.Turning.{is_fixed}
 use Rattle.pt_database.specs.States.{members_of}
-use Rattle.pt_turns.specs.Turning.{MayTurn}
+use Rattle.pt_changes.specs.Turning.{MayTurn}
 
 -- ---- changes that may be made
 

@@ -1,16 +1,16 @@
 -- What is decided of a call in a state can be made there.
-use Rattle.std.proofs.Common.{◌≡◌, ℕ, zero, suc, pos, Bool, true, false, not, ◌&&◌, cond, List, [], ◌∷◌, Option, Some, None, refl, arith}
+use Rattle.std.proofs.Common.{◌≡◌, ℕ, pos, Bool, true, false, not, ◌&&◌, cond, List, Option, Some, None, refl}
 use Rattle.std.specs.Prelude.{filter, is_none, nat_lt}
 use Rattle.std.specs.List.{list_all}
 use Rattle.std.specs.Ordering.{int_eq}
-use Rattle.std.proofs.lemmas.Bool.{and_parts, ltb-true}
+use Rattle.call_grammar.specs.Laws.{IsBytes}
+use Rattle.call_grammar.proofs.Fitting.{bytes_low}
 use Rattle.prdb_entries.specs.Names.{lowered}
 use Rattle.prdb_entries.specs.Registry.{IsRegistry}
 use Rattle.pt_calls.specs.declared.answers.PtAnswer.TheVariants as answer
 use Rattle.pt_calls.specs.declared.calls.PtCall.{PtCall}
 use Rattle.pt_calls.specs.declared.calls.PtCall.TheVariants as call
 use Rattle.pt_calls.specs.Calls.{HasItsBits}
-use Rattle.pt_calls.specs.Laws.{IsBytes}
 use Rattle.pt_calls.specs.Reading.{call_of}
 use Rattle.pt_calls.proofs.Taken.{read_alone}
 use Rattle.pt_service.specs.Meaning.{Answers, Refuses, are_kinds, asked, counts_for, owned_by, told_of, verdict}
@@ -47,11 +47,6 @@ call_sound s (call.ListOwned id) valid bits =
     (Answers (answer.Ids (owned_by s.registry id))) (λ is. tt) (λ is. tt)
 
 -- ---- of bytes
-
-bytes_low : (bytes : List ℕ) → list_all (λ b. nat_lt b 256) bytes ≡ true → IsBytes bytes
-bytes_low [] all i = omega arith
-bytes_low (b ∷ bytes) all zero = ltb-true b 256 (and_parts (nat_lt b 256) (list_all (λ x. nat_lt x 256) bytes) all).0
-bytes_low (b ∷ bytes) all (suc i) = bytes_low bytes (and_parts (nat_lt b 256) (list_all (λ x. nat_lt x 256) bytes) all).1 i
 
 read_sound : (s : State) (bytes : List ℕ) (o : Option PtCall) → IsRegistry s.registry → IsBytes bytes → call_of bytes ≡ o
     → IsSound s (verdict s o)

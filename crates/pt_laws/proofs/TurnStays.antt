@@ -16,11 +16,11 @@ use Rattle.pt_service.specs.Names.{with_front}
 use Rattle.pt_service.specs.State.{State, ids}
 use Rattle.pt_service.specs.Turning.{before, moved, name_after, turned}
 use Rattle.pt_database.specs.States.{HoldsState}
-use Rattle.pt_turns.specs.Turning.{after_fronted, after_fronts, after_rename, after_renumber, after_turn, fronted, named, renamed, with_fronted}
-use Rattle.pt_turns.specs.Under.{is_one_under, is_under, under}
+use Rattle.pt_changes.specs.Turning.{after_fronted, after_fronts, after_rename, after_renumber, after_turn, fronted, named, renamed, with_fronted}
+use Rattle.pt_changes.specs.Under.{is_one_under, is_under, under}
 use Rattle.pt_turns.proofs.Equal.{after_by, after_own}
 use Rattle.pt_turns.proofs.Named.{not_itself}
-use Rattle.pt_laws.specs.Standing.{image_after}
+use Rattle.pt_changes.specs.Standing.{image_after}
 use Rattle.pt_laws.proofs.Possible.{CanTurn}
 use Rattle.pt_laws.proofs.Refilled.{maxima_same, replace_same}
 

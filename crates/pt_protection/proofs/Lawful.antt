@@ -1,5 +1,5 @@
 -- The laws of the protection database.
-use Rattle.std.proofs.Common.{◌≡◌, ◌≢◌, ℕ, Bool, true, false, cond, List, Option, Some, None, IsSome, refl, sym, ap, subst, ◌∙◌}
+use Rattle.std.proofs.Common.{◌≡◌, ◌≢◌, ℕ, Bool, true, false, cond, List, Option, Some, None, IsSome, refl, ap, subst, ◌∙◌}
 use Rattle.std.specs.Prelude.{is_some, nat_lt}
 use Rattle.std.specs.List.{list_all}
 use Rattle.std.specs.Option.{option_map}
@@ -10,7 +10,7 @@ use Rattle.pt_calls.specs.Calls.{call_kind, spelling}
 use Rattle.pt_calls.specs.Reading.{call_of}
 use Rattle.pt_calls.specs.Words.{call_in_words}
 use Rattle.pt_calls.proofs.Again.{spelling_again}
-use Rattle.pt_calls.proofs.WordLoop.{named_is_call}
+use Rattle.pt_calls.proofs.WordCalls.{named_is_call}
 use Rattle.pt_service.specs.Meaning.{Answers, Makes, NoCall, Refuses, Verdict, asked, protection_meaning, reply_by, verdict}
 use Rattle.pt_service.specs.State.{State}
 use Rattle.pt_database.specs.States.{HoldsState}
@@ -68,11 +68,3 @@ named_by words (Some c) bytes is e =
 
 pub names_calls : NamesCalls
 names_calls words bytes e = named_by words (call_in_words words) bytes refl e
-
--- bytes that have their range stay
-pub only_these : (o : Option (List ℕ)) (bytes : List ℕ) → o ≡ Some bytes → list_all (λ x. nat_lt x 256) bytes ≡ true
-    → Some bytes ≡ only_bytes o
-only_these None bytes is fit = absurd cc
-only_these (Some other) bytes is fit =
-    let same : bytes ≡ other = cc in
-    subst (λ (l : List ℕ). Some bytes ≡ only_bytes (Some l)) same (sym (ap (λ (b : Bool). cond b (Some bytes) None) fit))

@@ -18,11 +18,9 @@ use Rattle.pt_service.specs.Standing as registry
 use Rattle.pt_service.specs.State.{State}
 use Rattle.pt_service.specs.Told.{IsMeant}
 use Rattle.pt_database.specs.States.{HoldsState, IsToldOf}
-use Rattle.pt_changes.specs.Standing as pairs
-use Rattle.pt_turns.specs.Standing as turns
-use Rattle.pt_laws.specs.Standing.{IsDone, IsMeantOf, image_by}
+use Rattle.pt_changes.specs.Standing.{IsDone, IsMeantOf, image_by}
 use Rattle.pt_protection.specs.Service.{protection_database}
-use Rattle.pt_laws.proofs.Changing.{IsLook, IsPaired, IsPlain, IsTurned, image_same}
+use Rattle.pt_laws.proofs.Changing.{IsLook, IsPlain, image_same}
 use Rattle.pt_laws.proofs.ToldStates.{state_told}
 
 -- ---- calls that only look
@@ -77,59 +75,13 @@ plain_ok (Err fault) bytes after v call p is kind of done = tt
 plain_ok (Ok ended) bytes after v call p is kind of done =
     as_asked bytes after call p ended is (plain bytes after v (λ s. verdict s (Some p)) ended kind of done)
 
--- ---- calls that change pairs, and one that lets an entry leave
+-- ---- calls that change pairs, or let an entry leave or turn
 
-image_paired : (v : Verdict) (s : State) (image : List ℕ) → IsPaired v → pairs.image_by v s image ≡ Some (image_by v s image)
-image_paired NoCall s image is = refl
-image_paired (Refuses rule) s image is = refl
-image_paired (Answers a) s image is = refl
-image_paired (Makes a (Maxima user group)) s image is = absurd is
-image_paired (Makes a (Enter e user group)) s image is = absurd is
-image_paired (Makes a (Refit e)) s image is = absurd is
-image_paired (Makes a (Leave id)) s image is = refl
-image_paired (Makes a (Turn e name owner id user group)) s image is = absurd is
-image_paired (Makes a (Join user group)) s image is = refl
-image_paired (Makes a (Part user group)) s image is = refl
-
-paired : (bytes after : Option (List ℕ)) (v : State → Verdict) (ended : CallEnd) → ((s : State) → IsPaired (v s))
-    → pairs.IsMeantOf bytes v ended after → IsMeantOf bytes v ended after
-paired None after v ended kind done = tt
-paired (Some image) after v ended kind done = λ s holds.
-    let d = done s holds in record { reply = d.reply; leaves = d.leaves ∙ image_paired (v s) s image (kind s) }
-
-pub paired_ok : (r : Result CallEnd RecordFault) (bytes after : Option (List ℕ)) (call p : PtCall) → call ≡ p
-    → ((s : State) → IsPaired (verdict s (Some p))) → IfOk r (λ ended. pairs.IsMeantOf bytes (λ s. verdict s (Some p)) ended after)
+pub change_ok : (r : Result CallEnd RecordFault) (bytes after : Option (List ℕ)) (call p : PtCall) → call ≡ p
+    → IfOk r (λ ended. IsMeantOf bytes (λ s. verdict s (Some p)) ended after)
     → IfOk r (λ ended. IsMeantOf bytes (λ s. verdict s (Some call)) ended after)
-paired_ok (Err fault) bytes after call p is kind done = tt
-paired_ok (Ok ended) bytes after call p is kind done =
-    as_asked bytes after call p ended is (paired bytes after (λ s. verdict s (Some p)) ended kind done)
-
--- ---- a call that lets an entry turn
-
-image_turned : (v : Verdict) (s : State) (image : List ℕ) → IsTurned v → turns.image_by v s image ≡ Some (image_by v s image)
-image_turned NoCall s image is = refl
-image_turned (Refuses rule) s image is = refl
-image_turned (Answers a) s image is = refl
-image_turned (Makes a (Maxima user group)) s image is = absurd is
-image_turned (Makes a (Enter e user group)) s image is = absurd is
-image_turned (Makes a (Refit e)) s image is = absurd is
-image_turned (Makes a (Leave id)) s image is = absurd is
-image_turned (Makes a (Turn e name owner id user group)) s image is = refl
-image_turned (Makes a (Join user group)) s image is = absurd is
-image_turned (Makes a (Part user group)) s image is = absurd is
-
-turned : (bytes after : Option (List ℕ)) (v : State → Verdict) (ended : CallEnd) → ((s : State) → IsTurned (v s))
-    → turns.IsMeantOf bytes v ended after → IsMeantOf bytes v ended after
-turned None after v ended kind done = tt
-turned (Some image) after v ended kind done = λ s holds.
-    let d = done s holds in record { reply = d.reply; leaves = d.leaves ∙ image_turned (v s) s image (kind s) }
-
-pub turned_ok : (r : Result CallEnd RecordFault) (bytes after : Option (List ℕ)) (call p : PtCall) → call ≡ p
-    → ((s : State) → IsTurned (verdict s (Some p))) → IfOk r (λ ended. turns.IsMeantOf bytes (λ s. verdict s (Some p)) ended after)
-    → IfOk r (λ ended. IsMeantOf bytes (λ s. verdict s (Some call)) ended after)
-turned_ok (Err fault) bytes after call p is kind done = tt
-turned_ok (Ok ended) bytes after call p is kind done =
-    as_asked bytes after call p ended is (turned bytes after (λ s. verdict s (Some p)) ended kind done)
+change_ok (Err fault) bytes after call p is done = tt
+change_ok (Ok ended) bytes after call p is done = as_asked bytes after call p ended is done
 
 -- a call that writes is none that only reads
 pub no_reader : (call p : PtCall) → call ≡ p → is_write (call_kind p) ≡ true → is_write (call_kind call) ≡ false → ⊥

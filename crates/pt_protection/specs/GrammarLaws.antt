@@ -10,7 +10,7 @@ use Rattle.pt_calls.specs.Calls.{call_kind}
 use Rattle.pt_calls.specs.Writes.{is_write}
 use Rattle.pt_service.specs.Meaning.{Answers, Makes, NoCall, Refuses, Verdict, asked, reply_by, verdict}
 use Rattle.pt_service.specs.State.{State}
-use Rattle.pt_laws.specs.Standing.{image_by}
+use Rattle.pt_changes.specs.Standing.{image_by}
 use Rattle.pt_laws.specs.Told.{state_in}
 use Rattle.pt_laws.proofs.Answered.{IsAnswer, call_answers}
 use Rattle.pt_laws.proofs.Changing.{image_same, reads_look}

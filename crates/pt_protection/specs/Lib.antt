@@ -1,4 +1,3 @@
-pub mod Answers
 pub mod GrammarLaws
 pub mod Laws
 pub mod Service

@@ -9,7 +9,7 @@ use Rattle.pt_calls.specs.Writes.{is_write}
 use Rattle.pt_service.specs.Meaning.{asked, protection_meaning, reply_by, verdict}
 use Rattle.pt_service.specs.State.{State}
 use Rattle.pt_database.specs.States.{HoldsState}
-use Rattle.pt_laws.specs.Standing.{image_by}
+use Rattle.pt_changes.specs.Standing.{image_by}
 use Rattle.pt_laws.specs.Told.{state_in}
 
 abbrev pub protection_database : Database

@@ -6,7 +6,7 @@ use Rattle.prdb_entries.specs.Records.{whole}
 use Rattle.pt_service.specs.Meaning.{Answers, Makes, NoCall, Refuses, Verdict, asked, protection_meaning, reply_by, verdict}
 use Rattle.pt_service.specs.State.{State, first_state}
 use Rattle.pt_database.specs.States.{HoldsState}
-use Rattle.pt_laws.specs.Standing.{image_by}
+use Rattle.pt_changes.specs.Standing.{image_by}
 use Rattle.pt_laws.specs.Told.{state_in}
 use Rattle.pt_laws.proofs.GrownByTurns.{grows_by}
 use Rattle.pt_laws.proofs.Made.{holds_after}

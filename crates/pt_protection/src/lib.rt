@@ -1,12 +1,9 @@
 //! The protection database as a service over drafts.
 #![tactic(auto)]
 
-mod answers;
 mod laws;
 mod service;
-mod texts;
 
-pub use answers::reply_words;
 pub use laws::{
     an_image_holds_one_protection_state, protection_calls_are_answered, protection_calls_are_meant,
     protection_words_name_calls,

@@ -11,13 +11,12 @@ ghost use Rattle.pt_calls.specs.Calls.{HasSpelling, call_kind};
 ghost use Rattle.pt_calls.specs.Reading.{call_of};
 ghost use Rattle.pt_calls.specs.Writes.{is_write};
 ghost use Rattle.pt_service.specs.Meaning.{verdict};
-ghost use Rattle.pt_laws.specs.Standing.{IsMeantOf};
+ghost use Rattle.pt_changes.specs.Standing.{IsMeantOf};
 
-use crate::answers::reply_words;
 use call_grammar::{bytes_fit, push_words};
 use db_image::{CallEnd, Draft, DraftService, DraftWords, ImageRead, RecordFault};
 use prdb_entries::draft_over;
-use pt_calls::{PtCall, call_words, kind_of, read_call};
+use pt_calls::{PtCall, call_words, kind_of, read_call, reply_words};
 use pt_changes::{add_to_group, delete, remove_from_group};
 use pt_database::{get_cps, is_member_of, list_elements, list_entries, list_entry, list_owned};
 use pt_service::{

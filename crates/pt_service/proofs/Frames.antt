@@ -22,7 +22,7 @@ looked g a b first failed r so = record {
       };
 }
 
-drafts_so : {I : Type 0} (g : Ghosts I) (a b : Drafted I) (first failed : Type 0) → OnlyDrafts g a b first → (failed → first)
+pub drafts_so : {I : Type 0} (g : Ghosts I) (a b : Drafted I) (first failed : Type 0) → OnlyDrafts g a b first → (failed → first)
     → OnlyDrafts g a b failed
 drafts_so g a b first failed r so = record {
   layout = r.layout;

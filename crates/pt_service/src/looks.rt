@@ -14,9 +14,10 @@ ghost use Rattle.pt_service.specs.Told.{IsMeant, Told};
 
 use crate::finds::{entry_of_id, entry_of_name};
 use crate::names::lowered;
+use call_grammar::Items;
 use db_image::{CallEnd, Draft, ImageRead, RecordFault};
 use prdb_entries::maxima;
-use pt_calls::{Ids, Items, Names, PtAnswer, spell_answer};
+use pt_calls::{Ids, Names, PtAnswer, spell_answer};
 use std::alloc::Global;
 use ubik_types::{Bytes, NoMemory};
 

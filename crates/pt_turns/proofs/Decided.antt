@@ -23,9 +23,10 @@ use Rattle.pt_service.proofs.Entered.{raised_are}
 use Rattle.pt_database.specs.States.{HoldsState, OfStates}
 use Rattle.pt_database.proofs.Pairs.{is_there}
 use Rattle.pt_changes.specs.Ends.{HasChangeCause, Leaves}
+use Rattle.pt_changes.proofs.Decided.{done_made, refused_so}
 use Rattle.pt_turns.specs.Deciding.{IsDecided}
-use Rattle.pt_turns.specs.Standing.{IsDone, IsMeantOf}
-use Rattle.pt_turns.specs.Turning.{MayRenumber, MayTurn, after_turn}
+use Rattle.pt_changes.specs.Standing.{IsMeantOf}
+use Rattle.pt_changes.specs.Turning.{MayRenumber, MayTurn, after_turn}
 use Rattle.pt_turns.specs.declared.deciding.Turn.{Turn}
 use Rattle.pt_turns.proofs.Anyone.{any_some}
 use Rattle.pt_turns.proofs.Equal.{after_own}
@@ -214,19 +215,6 @@ may_turn r e name owner new_id valid at none new old =
 
 -- ---- how it ends
 
-done_refused : (v : Verdict) (s : State) (image : List ℕ) (after : Option (List ℕ)) (rule : ℕ) (ended : CallEnd)
-    → ended ≡ end_of (reply_by (Refuses rule))
-    → after ≡ Some image → v ≡ Refuses rule → IsDone v s image ended after
-done_refused v s image after rule ended told same is =
-    let done : IsDone (Refuses rule) s image ended after = record { reply = told; leaves = same } in
-    subst (λ (w : Verdict). IsDone w s image ended after) (sym is) done
-
-refused_so : (bytes after : Option (List ℕ)) (v : State → Verdict) (rule : ℕ) (ended : CallEnd)
-    → ended ≡ end_of (reply_by (Refuses rule)) → after ≡ bytes
-    → OfStates bytes (λ s. v s ≡ Refuses rule) → IsMeantOf bytes v ended after
-refused_so None after v rule ended told same is = tt
-refused_so (Some image) after v rule ended told same is = λ s holds. done_refused (v s) s image after rule ended told same (is s holds)
-
 abbrev pub turn_verdict : (low : List ℕ) → (id owner new_id : ℤ) → State → Verdict
 turn_verdict low id owner new_id s = of_entry (s.registry.entry id) (turns s.registry low owner new_id)
 
@@ -310,14 +298,6 @@ makes_by r e low owner new_id u g p t decided max raises =
     ∙ ap (λ (o : ℤ). Makes answer.Done (Turns e t.name.items o (given_or new_id e.id) p.0 p.1)) (sym decided.2)
     ∙ ap (λ (i : ℤ). Makes answer.Done (Turns e t.name.items t.owner i p.0 p.1)) (sym decided.3)
 
-done_made : (v : Verdict) (s : State) (image : List ℕ) (after : Option (List ℕ)) (e : PrEntry) (name : List ℕ) (owner id u g : ℤ)
-    (ended : CallEnd)
-    → ended ≡ end_of (reply_by (Answers answer.Done)) → after ≡ Some (after_set_maxima u g (after_turn e name owner id s image))
-    → v ≡ Makes answer.Done (Turns e name owner id u g) → IsDone v s image ended after
-done_made v s image after e name owner id u g ended told leaves is =
-    let done : IsDone (Makes answer.Done (Turns e name owner id u g)) s image ended after = record { reply = told; leaves = leaves } in
-    subst (λ (w : Verdict). IsDone w s image ended after) (sym is) done
-
 pub turn_made : (bytes b1 bm b2 b3 after : Option (List ℕ)) (low : List ℕ) (id owner new_id : ℤ) (e : PrEntry) (t : Turn) (u g : ℤ)
     (p : ℤ × ℤ) (ended : CallEnd)
     → Found bytes id e → b1 ≡ bytes → Decides b1 e low owner new_id (Ok t) → FitsSigned w32 new_id → FitsSigned w32 e.id
@@ -341,7 +321,7 @@ turn_made (Some image) b1 bm b2 b3 after low id owner new_id e t u g p ended fou
     (λ i. (s : State) → HoldsState i s → MayTurn e t.name.items t.owner t.id s.registry
     → b3 ≡ Some (after_turn e t.name.items t.owner t.id s i)) same2 turned s holds
     (may_decided r e low owner new_id t holds.holds.valid own decided new old) in
-    done_made (turn_verdict low id owner new_id s) s image after e t.name.items t.owner t.id p.0 p.1 ended told
+    done_made (turn_verdict low id owner new_id s) s image after (Turns e t.name.items t.owner t.id p.0 p.1) ended told
     (made ∙ ap (option_map (after_set_maxima p.0 p.1)) at)
     (entry_by (r.entry id) e (turns r low owner new_id) (found s holds) ∙ makes_by r e low owner new_id u g p t decided maxima raises)
 

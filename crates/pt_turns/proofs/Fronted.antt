@@ -14,8 +14,8 @@ use Rattle.pt_service.specs.Names.{has_colon, with_front}
 use Rattle.pt_service.specs.State.{ids}
 use Rattle.pt_service.proofs.Refitted.{some_with}
 use Rattle.pt_database.proofs.Pairs.{is_there}
-use Rattle.pt_turns.specs.Turning.{MayFront, MayFronts, fronted, with_fronted, with_fronts}
-use Rattle.pt_turns.specs.Under.{is_one_under, is_under, under}
+use Rattle.pt_changes.specs.Turning.{MayFront, MayFronts, fronted, with_fronted, with_fronts}
+use Rattle.pt_changes.specs.Under.{is_one_under, is_under, under}
 use Rattle.pt_turns.proofs.Anyone.{any_kept}
 use Rattle.pt_turns.proofs.Fronts.{colon_there, front_again, front_free, is_colon, parts_of}
 use Rattle.pt_turns.proofs.Named.{IsTurning, after_other, after_under, clash, front_twice, id_of, names_apart, own_at, to_id, under_good, under_parts, whole_free}

@@ -13,35 +13,19 @@ use Rattle.prdb_entries.specs.Records.{Holds, after_replace}
 use Rattle.prdb_entries.specs.Registry.{Registry, MayReplace, is_name_for}
 use Rattle.prdb_entries.specs.State.{PrEntry}
 use Rattle.prdb_entries.proofs.Scanned.{drafts_then, looks_none}
-use Rattle.prdb_members.specs.Ends.{HasItsCause}
 use Rattle.prdb_members.specs.Layout.{HoldsPairs}
 use Rattle.pt_service.specs.Fitting.{entry_fits}
 use Rattle.pt_service.specs.Names.{is_name_of}
 use Rattle.pt_service.specs.State.{State, is_group, is_id}
-use Rattle.pt_service.proofs.Frames.{looked}
+use Rattle.pt_service.proofs.Frames.{drafts_so, looked}
 use Rattle.pt_database.specs.States.{HoldsState, OfStates, members_of}
 use Rattle.pt_changes.specs.Ends.{HasChangeCause, Leaves}
-use Rattle.pt_turns.specs.Turning.{MayFront, MayFronts, MayStand, after_fronted, after_fronts, fronted, named, with_fronted}
+use Rattle.pt_changes.specs.Turning.{MayFront, MayFronts, MayStand, after_fronted, after_fronts, fronted, named, with_fronted}
 use Rattle.pt_turns.proofs.Named.{clash}
 use Rattle.pt_turns.proofs.Renamed.{fronts_keep}
 
 pub at_some : (bytes : Option (List ℕ)) (at : List ℕ) (P : List ℕ → Type 0) → bytes ≡ Some at → IfSome bytes P → P at
 at_some bytes at P is all = subst (λ (b : Option (List ℕ)). IfSome b P) is all
-
-pub drafts_so : {I : Type 0} (g : Ghosts I) (a b : Drafted I) (first failed : Type 0) → OnlyDrafts g a b first → (failed → first)
-    → OnlyDrafts g a b failed
-drafts_so g a b first failed r so = record {
-  layout = r.layout;
-  reads =
-      record {
-        held = r.reads.held;
-        size = r.reads.size;
-        came = r.reads.came;
-        never_falls = r.reads.never_falls;
-        cause = λ h.
-            r.reads.cause (so h);
-      };
-}
 
 -- ---- one entry
 
@@ -94,13 +78,6 @@ pub stand_err : {T : Type 0} (res : Result T RecordFault) (bytes : Option (List 
     → IfErr res (HasCause bytes (λ image r. Holds image r × MayStand r e))
 stand_err (Ok x) bytes e cause = tt
 stand_err (Err fault) bytes e cause = stand_cause bytes e fault cause
-
-pub find_cause : (bytes : Option (List ℕ)) (may : State → Type 0) (fault : RecordFault) → HasItsCause bytes fault
-    → HasChangeCause bytes may fault
-find_cause bytes may DiskFault cause = tt
-find_cause None may (BadRecord at) cause = tt
-find_cause (Some image) may (BadRecord at) cause = λ some. cause (some.0.registry, members_of some.0, some.1)
-find_cause bytes may NoMemory cause = tt
 
 none_may : (front : List ℕ) (r : Registry) (o : Option PrEntry) → None ≡ o → IsSomeAnd o (MayFront front r) → ⊥
 none_may front r None is may = absurd may

@@ -11,7 +11,7 @@ use Rattle.pt_service.specs.State.{entries}
 use Rattle.pt_database.specs.States.{OfStates}
 use Rattle.pt_database.proofs.Ordered.{list_is}
 use Rattle.pt_database.proofs.Pairs.{entry_range, is_there}
-use Rattle.pt_turns.specs.Under.{is_one_under, is_under, under}
+use Rattle.pt_changes.specs.Under.{is_one_under, is_under, under}
 use Rattle.pt_turns.proofs.Anyone.{any_none, any_some}
 
 tells : (r : Registry) (test : PrEntry → Bool) (b : Bool) → IsRegistry r → TellsWhether test r b → b ≡ list_any test (entries r)

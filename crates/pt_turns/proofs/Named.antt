@@ -18,8 +18,8 @@ use Rattle.pt_service.specs.State.{entries}
 use Rattle.pt_service.specs.Turning.{has_equal_names, has_long_name, name_after}
 use Rattle.pt_service.proofs.GroupNames.{group_form}
 use Rattle.pt_database.proofs.Pairs.{some_is}
-use Rattle.pt_turns.specs.Turning.{MayRename}
-use Rattle.pt_turns.specs.Under.{is_under}
+use Rattle.pt_changes.specs.Turning.{MayRename}
+use Rattle.pt_changes.specs.Under.{is_under}
 use Rattle.pt_turns.proofs.Anyone.{any_some}
 use Rattle.pt_turns.proofs.Equal.{after_by}
 use Rattle.pt_turns.proofs.Fronts.{behind_again, colon_there, front_all, front_again, front_free, is_colon}

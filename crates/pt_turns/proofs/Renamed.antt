@@ -14,8 +14,8 @@ use Rattle.prdb_members.specs.Members.{Members}
 use Rattle.prdb_members.proofs.RecordsKeep.{replace_keep}
 use Rattle.pt_service.specs.Names.{with_front}
 use Rattle.pt_service.specs.Turning.{is_fixed, moved, name_after, turned}
-use Rattle.pt_turns.specs.Turning.{MayFront, MayFronts, MayRename, after_fronted, after_fronts, after_rename, fronted, renamed, with_fronted, with_fronts}
-use Rattle.pt_turns.specs.Under.{is_one_under, is_under, under}
+use Rattle.pt_changes.specs.Turning.{MayFront, MayFronts, MayRename, after_fronted, after_fronts, after_rename, fronted, renamed, with_fronted, with_fronts}
+use Rattle.pt_changes.specs.Under.{is_one_under, is_under, under}
 use Rattle.pt_turns.proofs.Equal.{after_own}
 use Rattle.pt_turns.proofs.Fronted.{IsFronted, IsPartly, are_under, fronts_at, in_under, may_fronts, owner_stays, partly_all, partly_none, partly_some}
 use Rattle.pt_turns.proofs.Named.{IsTurning, after_other, after_under, clash, id_of, names_apart, own_at, owner_fits, record_with, to_id}

@@ -18,7 +18,7 @@ use Rattle.pt_changes.specs.Ends.{over_registry}
 use Rattle.pt_changes.specs.Leaving.{MayGive, after_gives, is_property, property, with_owner, with_owners}
 use Rattle.pt_database.specs.States.{HoldsState, members_of}
 use Rattle.pt_database.proofs.Pairs.{elements_are, is_there, some_is}
-use Rattle.pt_turns.specs.Turning.{MayRenumber, after_renumber}
+use Rattle.pt_changes.specs.Turning.{MayRenumber, after_renumber}
 use Rattle.pt_turns.proofs.Anyone.{any_kept, which_kept}
 use Rattle.pt_turns.proofs.Fronted.{kept_all}
 use Rattle.pt_turns.proofs.Named.{clash, id_of, to_id}

@@ -17,8 +17,8 @@ use Rattle.pt_service.specs.Turning.{moved}
 use Rattle.pt_database.specs.States.{HoldsState, OfStates, members_of}
 use Rattle.pt_changes.specs.Ends.{HasChangeCause, Leaves, over_registry}
 use Rattle.pt_changes.specs.Leaving.{MayGive, after_gives, property, with_owners}
-use Rattle.pt_turns.specs.Turning.{MayFronts, MayRename, MayRenumber, MayStand, MayTurn, after_fronts, after_rename, after_renumber, after_turn, named, with_fronts}
-use Rattle.pt_turns.specs.Under.{under}
+use Rattle.pt_changes.specs.Turning.{MayFronts, MayRename, MayRenumber, MayStand, MayTurn, after_fronts, after_rename, after_renumber, after_turn, named, with_fronts}
+use Rattle.pt_changes.specs.Under.{under}
 use Rattle.pt_turns.proofs.Fronted.{are_under, may_fronts, partly_none}
 use Rattle.pt_turns.proofs.Fronting.{at_some}
 use Rattle.pt_turns.proofs.Named.{IsTurning, to_id}

@@ -14,7 +14,7 @@ use Rattle.pt_service.specs.State.{State}
 use Rattle.pt_service.specs.Turning.{before, both_in, is_fixed, moved, name_after, turned, with_turned}
 use Rattle.pt_database.specs.States.{HoldsState, members_of}
 use Rattle.pt_database.proofs.Pairs.{some_is}
-use Rattle.pt_turns.specs.Turning.{MayRenumber, MayTurn, after_rename, after_renumber, after_turn, renamed}
+use Rattle.pt_changes.specs.Turning.{MayRenumber, MayTurn, after_rename, after_renumber, after_turn, renamed}
 use Rattle.pt_turns.proofs.Kept.{gives_keep, move_keeps}
 use Rattle.pt_turns.proofs.Named.{id_of, to_id}
 use Rattle.pt_turns.proofs.Renamed.{registry_is, rename_keeps, turned_is}

@@ -1,4 +1,1 @@
 pub mod Deciding
-pub mod Standing
-pub mod Turning
-pub mod Under

@@ -4,7 +4,7 @@ ghost use Rattle.prdb_entries.specs.State.{PrEntry};
 ghost use Rattle.pt_service.specs.State.{State};
 ghost use Rattle.pt_service.specs.Turning.{with_turned};
 ghost use Rattle.pt_database.specs.States.{HoldsState};
-ghost use Rattle.pt_turns.specs.Turning.{MayTurn, after_turn};
+ghost use Rattle.pt_changes.specs.Turning.{MayTurn, after_turn};
 
 /// The image after an entry got another name, owner or id holds the state after it.
 pub fn law_turn_leaves_the_state_after_it()

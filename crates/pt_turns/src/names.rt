@@ -6,7 +6,7 @@ ghost use Rattle.prdb_entries.specs.Registry.{behind_colon};
 ghost use Rattle.prdb_entries.specs.State.{front_of};
 ghost use Rattle.pt_service.specs.Names.{has_colon, with_front};
 ghost use Rattle.pt_turns.specs.Deciding.{name_then};
-ghost use Rattle.pt_turns.specs.Under.{is_under};
+ghost use Rattle.pt_changes.specs.Under.{is_under};
 
 use prdb_entries::PrEntry;
 use pt_service::{front_of, has_colon};

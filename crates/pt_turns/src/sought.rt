@@ -5,7 +5,7 @@ ghost use Rattle.prdb_entries.specs.RecordEnds.{OnlyLooks};
 ghost use Rattle.prdb_members.specs.Ends.{HasItsCause};
 ghost use Rattle.pt_service.specs.State.{entries};
 ghost use Rattle.pt_database.specs.States.{OfStates};
-ghost use Rattle.pt_turns.specs.Under.{under};
+ghost use Rattle.pt_changes.specs.Under.{under};
 
 use crate::names::{Renaming, is_after, is_under, len_after};
 use db_image::{Draft, ImageRead, RecordFault};
@@ -78,7 +78,7 @@ pub(crate) struct NamedUnder<'a> {
 }
 
 impl<'a> Sought for NamedUnder<'a> {
-    ghost use Rattle.pt_turns.specs.Under.{is_under};
+    ghost use Rattle.pt_changes.specs.Under.{is_under};
 
     ghost test = { λ s e. is_under s.whole.now e.name };
 

@@ -10,8 +10,8 @@ ghost use Rattle.pt_service.specs.State.{is_group, is_id};
 ghost use Rattle.pt_service.specs.Told.{IsGood};
 ghost use Rattle.pt_service.specs.Turning.{moved};
 ghost use Rattle.pt_changes.specs.Ends.{HasChangeCause, Leaves};
-ghost use Rattle.pt_turns.specs.Standing.{IsMeantOf};
-ghost use Rattle.pt_turns.specs.Turning.{MayFronts, MayRename, MayRenumber, MayStand, MayTurn, after_fronted, after_fronts, after_rename, after_renumber, after_turn, named};
+ghost use Rattle.pt_changes.specs.Standing.{IsMeantOf};
+ghost use Rattle.pt_changes.specs.Turning.{MayFronts, MayRename, MayRenumber, MayStand, MayTurn, after_fronted, after_fronts, after_rename, after_renumber, after_turn, named};
 
 use crate::deciding::{Given, Turn, decide};
 use crate::names::with_front;

@@ -1,11 +1,14 @@
 -- Calls that have a spelling, and how long it is.
-use Rattle.std.proofs.Common.{◌≡◌, ℕ, ℤ, ◌+◌, ◌*◌, ◌≤◌, Bool, true, false, ◌&&◌, List, [], ◌∷◌, ◌++◌, length, replicate, arith, refl}
+use Rattle.std.proofs.Common.{◌≡◌, ℕ, ℤ, ◌+◌, ◌*◌, ◌≤◌, Bool, true, false, ◌&&◌, List, [], ◌∷◌, ◌++◌, length, arith, refl}
 use Rattle.std.specs.List.{AllByRecursion, flat_map, list_all}
 use Rattle.std.proofs.lemmas.Bool.{leb-true}
-use Rattle.std.proofs.lemmas.List.{length-append, length-replicate}
-use Rattle.xdr_base.specs.Spelling.{opaque, padding, signed, truth, word}
+use Rattle.std.proofs.lemmas.List.{length-append}
+use Rattle.xdr_base.specs.Spelling.{opaque, signed, word}
+use Rattle.call_grammar.specs.Items.{xdr_text}
+use Rattle.call_grammar.specs.Lists.{listed}
+use Rattle.call_grammar.proofs.Lengths.{opaque_len}
 use Rattle.pt_calls.specs.Calls.{HasSpelling, spelling}
-use Rattle.pt_calls.specs.Shapes.{IsName, listed}
+use Rattle.pt_calls.specs.Shapes.{IsName}
 use Rattle.pt_calls.specs.declared.calls.PtCall.{PtCall}
 use Rattle.pt_calls.specs.declared.calls.PtCall.TheVariants as call
 use Rattle.pts_tool.specs.Asking.{has_spelling, is_short}
@@ -46,17 +49,6 @@ is_spelled (call.ListElements id) is = (tt, tt)
 is_spelled (call.IsMemberOf member group) is = (tt, (tt, tt))
 is_spelled (call.ListOwned id) is = (tt, tt)
 
-opaque_len : (bytes : List ℕ) → length (opaque bytes) ≤ length bytes + 7
-opaque_len bytes =
-    let n = length bytes in
-    omega (
-      arith,
-      length-append (word n ++ bytes) (replicate (padding n) 0),
-      length-append (word n) bytes,
-      length-replicate {A = ℕ}
-          (padding n) 0,
-    )
-
 names_len : (names : List (List ℕ)) → AllByRecursion IsName names → length (flat_map opaque names) ≤ 262 * length names
 names_len [] is = omega arith
 names_len (name ∷ names) is =
@@ -85,8 +77,8 @@ spelling_len (call.NameToId names) is =
     let some = names_len names is.0.1 in
     omega (
       arith,
-      length-append (word 3) (listed opaque names ++ []),
-      length-append (listed opaque names) [],
+      length-append (word 3) (listed xdr_text opaque names ++ []),
+      length-append (listed xdr_text opaque names) [],
       length-append (word (length names)) (flat_map opaque names),
       few,
       some,
@@ -96,8 +88,8 @@ spelling_len (call.IdToName ids) is =
     let some = ids_len ids in
     omega (
       arith,
-      length-append (word 4) (listed signed ids ++ []),
-      length-append (listed signed ids) [],
+      length-append (word 4) (listed xdr_text signed ids ++ []),
+      length-append (listed xdr_text signed ids) [],
       length-append (word (length ids)) (flat_map signed ids),
       few,
       some,

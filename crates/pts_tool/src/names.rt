@@ -8,8 +8,9 @@ ghost use Rattle.tool_base.specs.Running.{Ran};
 
 use crate::asking::ask;
 use afs_commands::Entry;
+use call_grammar::Items;
 use io_base::Link;
-use pt_calls::{Ids, Items, MAX_LIST, Names, PtCall};
+use pt_calls::{Ids, MAX_LIST, Names, PtCall};
 use std::alloc::Global;
 use tool_base::{Client, Refusal, Stop};
 use ubik_types::{Bytes, NoMemory, bytes_of};

@@ -3,7 +3,8 @@ ghost use Rattle.std.specs.Prelude.{◌≡◌, ◌+◌, ◌%◌, IfOk};
 ghost use Rattle.pt_calls.specs.Calls.{HasSpelling, spelling};
 ghost use Rattle.server_bench.specs.Turns.{user_name, call_of_turn};
 
-use pt_calls::{Items, PtCall, spell_call};
+use call_grammar::Items;
+use pt_calls::{PtCall, spell_call};
 use std::alloc::Global;
 use ubik_types::{Bytes, NoMemory, bytes_of};
 

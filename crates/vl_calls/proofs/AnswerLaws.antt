@@ -1,6 +1,5 @@
 -- An answer is read from its spelling, and from no other bytes.
-use Rattle.std.proofs.Common.{◌≡◌, ℕ, List, [], ◌∷◌, ◌++◌, Some, refl, sym, ap, subst, ◌∙◌, arith}
-use Rattle.std.specs.List.{AllByRecursion}
+use Rattle.std.proofs.Common.{◌≡◌, ℕ, List, [], ◌++◌, Some, refl, sym, ap, subst, ◌∙◌, arith}
 use Rattle.std.proofs.lemmas.List.{append-nil}
 use Rattle.xdr_base.specs.Reading.{Reading, at_start}
 use Rattle.xdr_base.specs.Spelling.{word}
@@ -9,6 +8,7 @@ use Rattle.call_grammar.specs.Items.{xdr_text}
 use Rattle.call_grammar.specs.Laws.{IsBytes}
 use Rattle.call_grammar.specs.Reading.{list_at, xdr_item}
 use Rattle.call_grammar.proofs.Again.{Again, ended, number_again, list_again}
+use Rattle.call_grammar.proofs.Both.{both_all, first_all, second_all}
 use Rattle.call_grammar.proofs.ItemsTaken.{Takes, number_takes}
 use Rattle.call_grammar.proofs.Taken.{bind_some, given_is, list_takes, whole_is}
 use Rattle.vl_calls.specs.declared.answers.AnswerKind.{AnswerKind}
@@ -19,18 +19,6 @@ use Rattle.vl_calls.specs.Entries.{entry_at, entry_text, IsEntryText, EntryHasIt
 use Rattle.vl_calls.specs.Answers.{answer_kind, answer_spelling, IsAnswer, IsWord, answer_at, answer_of}
 use Rattle.vl_calls.proofs.EntriesAgain.{entry_again}
 use Rattle.vl_calls.proofs.EntriesTaken.{entry_takes}
-
-both_all : {A : Type 0} (P Q : A → Type 0) (xs : List A) → AllByRecursion P xs → AllByRecursion Q xs → AllByRecursion (λ x. P x × Q x) xs
-both_all P Q [] p q = tt
-both_all P Q (x ∷ xs) p q = ((p.0, q.0), both_all P Q xs p.1 q.1)
-
-first_all : {A : Type 0} (P Q : A → Type 0) (xs : List A) → AllByRecursion (λ x. P x × Q x) xs → AllByRecursion P xs
-first_all P Q [] p = tt
-first_all P Q (x ∷ xs) p = (p.0.0, first_all P Q xs p.1)
-
-second_all : {A : Type 0} (P Q : A → Type 0) (xs : List A) → AllByRecursion (λ x. P x × Q x) xs → AllByRecursion Q xs
-second_all P Q [] p = tt
-second_all P Q (x ∷ xs) p = (p.0.1, second_all P Q xs p.1)
 
 answer_again : (a : VlAnswer) (from : Reading) (after : List ℕ) → IsAnswer a → from.rest ≡ answer_spelling a ++ after
     → Again (answer_at (answer_kind a) from) a after

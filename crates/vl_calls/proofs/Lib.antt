@@ -2,6 +2,5 @@ pub mod AnswerLaws
 pub mod Again
 pub mod EntriesAgain
 pub mod EntriesTaken
-pub mod Skipped
 pub mod Taken
 pub mod WordCalls

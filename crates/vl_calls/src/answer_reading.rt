@@ -8,10 +8,10 @@ ghost use Rattle.vl_calls.specs.declared.answers.VlAnswer.{VlAnswer};
 ghost use Rattle.vl_calls.specs.Answers.{IsAnswer, answer_at, answer_kind, answer_of, answer_spelling, asked_for};
 
 use crate::answers::{AnswerKind, VlAnswer};
-use crate::forms::{EntryForm, HostForm};
+use crate::forms::EntryForm;
 use crate::kinds::CallKind;
 use crate::limits::{MAX_HOSTS, MAX_PAGE};
-use call_grammar::{Form, NotRead, Source, at_end, read_list};
+use call_grammar::{Form, NotRead, NumberItem, Source, at_end, read_list};
 use std::alloc::Global;
 use ubik_types::NoMemory;
 use vldb_entries::VlEntry;
@@ -91,6 +91,6 @@ fn some_entries(alloc: Global, from: &mut XdrReader<'_>) -> Result<VlAnswer, Not
 fn hosts(alloc: Global, from: &mut XdrReader<'_>) -> Result<VlAnswer, NotRead>
     ensures { Gives (λ a. a) from.new result (answer_at tells.Hosts from.old) }
 {
-    let hosts = read_list::<XdrReader<'_>, u32, HostForm>(alloc, from, MAX_HOSTS)?;
+    let hosts = read_list::<XdrReader<'_>, u32, NumberItem>(alloc, from, MAX_HOSTS)?;
     Ok(VlAnswer::Hosts(hosts))
 }

@@ -3,8 +3,8 @@ ghost use Rattle.std.specs.Prelude.{◌≡◌, ◌++◌, IfOk, OnOk};
 ghost use Rattle.vl_calls.specs.Answers.{AnswerHasSpelling, answer_spelling, answer_text};
 
 use crate::answers::VlAnswer;
-use crate::texts::{EntryText, HostText};
-use call_grammar::{Sink, Telling, write_list};
+use crate::texts::EntryText;
+use call_grammar::{NumberItem, Sink, Telling, write_list};
 use std::alloc::Global;
 use ubik_types::{Bytes, NoMemory};
 use vldb_entries::VlEntry;
@@ -30,6 +30,6 @@ pub(crate) fn put_answer<W: Sink>(out: &mut W, answer: &VlAnswer) -> Result<(), 
         VlAnswer::Id(id) => out.number(*id),
         VlAnswer::Entry(entry) => <EntryText as Telling<W, VlEntry>>::write(out, entry),
         VlAnswer::Entries(entries) => write_list::<W, VlEntry, EntryText>(out, entries.as_slice()),
-        VlAnswer::Hosts(hosts) => write_list::<W, u32, HostText>(out, hosts.as_slice()),
+        VlAnswer::Hosts(hosts) => write_list::<W, u32, NumberItem>(out, hosts.as_slice()),
     }
 }

@@ -1,6 +1,5 @@
 //! How sites and entries are read: from bytes, or from words.
 ghost use Rattle.vl_calls.specs.Entries.{entry_at, given_at, site_at};
-ghost use Rattle.call_grammar.specs.Items.{Number};
 
 use crate::calls::GivenEntry;
 use crate::limits::MAX_SITES;
@@ -93,16 +92,5 @@ impl<'a, S: Source<'a>> Form<'a, S, VlEntry> for EntryForm {
             lock_op: from.number()?,
             lock_moment: from.number()?,
         })
-    }
-}
-
-/// How a server's address is read.
-pub(crate) struct HostForm;
-
-impl<'a, S: Source<'a>> Form<'a, S, u32> for HostForm {
-    ghost value_at = { S.item_at Number };
-
-    fn read(_alloc: Global, from: &mut S) -> Result<u32, NotRead> {
-        Ok(from.number()?)
     }
 }

@@ -115,18 +115,3 @@ impl<W: Sink> Telling<W, VlEntry> for EntryText {
         )
     }
 }
-
-/// How a server's address is written.
-pub(crate) struct HostText;
-
-impl<W: Sink> Telling<W, u32> for HostText {
-    ghost use Rattle.call_grammar.specs.Items.{Number};
-
-    ghost text = { W.text_of Number };
-
-    ghost HasText = { λ _. Unit {0} };
-
-    fn write(out: &mut W, host: &u32) -> Result<(), NoMemory> {
-        out.number(*host)
-    }
-}

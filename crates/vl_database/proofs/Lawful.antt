@@ -11,6 +11,8 @@ use Rattle.vl_calls.specs.declared.calls.VlCall.{VlCall}
 use Rattle.vl_calls.specs.Calls.{call_kind, spelling}
 use Rattle.vl_calls.specs.Reading.{call_of}
 use Rattle.vl_calls.specs.Words.{call_in_words}
+use Rattle.vl_calls.proofs.Again.{spelling_again}
+use Rattle.vl_calls.proofs.WordCalls.{named_is_call}
 use Rattle.vl_service.specs.Meaning.{Answers, Makes, NoCall, Refuses, Verdict, reply_by, verdict}
 use Rattle.vl_service.specs.Told.{location_in}
 use Rattle.vl_service.proofs.ToldLocations.{location_told}
@@ -20,7 +22,6 @@ use Rattle.vl_calls.specs.Writes.{is_write}
 use Rattle.vl_database.specs.Service.{location_meaning, moment_word, spelled_call, vl_database}
 use Rattle.vl_database.specs.ServiceLaws.{database_is_meant}
 use Rattle.call_grammar.specs.Shown.{only_bytes}
-use Rattle.vl_database.proofs.NamedCalls.{named_again}
 
 -- ---- images and states
 
@@ -66,15 +67,7 @@ named_by : (words : List (List ℕ)) (read : Option VlCall) (bytes : List ℕ) �
     → only_bytes (option_map spelling read) ≡ Some bytes → IsSome (vl_database.writes bytes)
 named_by words None bytes is e = absurd cc
 named_by words (Some c) bytes is e =
-    fit_bytes (spelling c) c (list_all (λ x. nat_lt x 256) (spelling c)) refl (named_again words c is) bytes e
+    fit_bytes (spelling c) c (list_all (λ x. nat_lt x 256) (spelling c)) refl (spelling_again c (named_is_call words c is)) bytes e
 
 pub names_calls : NamesCalls
 names_calls words bytes e = named_by words (call_in_words words) bytes refl e
-
--- bytes that have their range stay
-pub only_these : (o : Option (List ℕ)) (bytes : List ℕ) → o ≡ Some bytes → list_all (λ x. nat_lt x 256) bytes ≡ true
-    → Some bytes ≡ only_bytes o
-only_these None bytes is fit = absurd cc
-only_these (Some other) bytes is fit =
-    let same : bytes ≡ other = cc in
-    subst (λ (l : List ℕ). Some bytes ≡ only_bytes (Some l)) same (sym (ap (λ (b : Bool). cond b (Some bytes) None) fit))

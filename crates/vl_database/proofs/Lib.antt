@@ -1,4 +1,3 @@
 pub mod Costs
 pub mod Lawful
-pub mod NamedCalls
 pub mod Served

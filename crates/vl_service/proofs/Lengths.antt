@@ -1,35 +1,17 @@
 -- How long an answer is.
-use Rattle.std.proofs.Common.{ℕ, ◌+◌, ◌*◌, ◌≤◌, List, [], ◌∷◌, ◌++◌, length, replicate, arith}
-use Rattle.std.specs.List.{AllByRecursion, flat_map}
-use Rattle.std.proofs.lemmas.List.{length-append, length-replicate}
-use Rattle.xdr_base.specs.Spelling.{opaque, padding, word}
+use Rattle.std.proofs.Common.{ℕ, ◌+◌, ◌≤◌, List, [], ◌∷◌, ◌++◌, length, arith}
+use Rattle.std.specs.List.{AllByRecursion}
+use Rattle.std.proofs.lemmas.List.{length-append}
+use Rattle.xdr_base.specs.Spelling.{opaque, word}
 use Rattle.call_grammar.specs.Items.{xdr_text}
 use Rattle.call_grammar.specs.Lists.{listed}
+use Rattle.call_grammar.proofs.Lengths.{listed_len, opaque_len}
 use Rattle.vl_calls.specs.Answers.{AnswerHasSpelling, answer_spelling}
 use Rattle.vl_calls.specs.Entries.{IsEntryText, entry_text, site_text}
 use Rattle.vl_calls.specs.declared.answers.VlAnswer.{VlAnswer}
 use Rattle.vl_calls.specs.declared.answers.VlAnswer.TheVariants as answer
 use Rattle.vldb_entries.specs.declared.entries.VlEntry.{VlEntry}
 use Rattle.vldb_entries.specs.declared.entries.VlSite.{VlSite}
-
-opaque_len : (bytes : List ℕ) → length (opaque bytes) ≤ length bytes + 7
-opaque_len bytes =
-    let n = length bytes in
-    omega (
-      arith,
-      length-append (word n ++ bytes) (replicate (padding n) 0),
-      length-append (word n) bytes,
-      length-replicate {A = ℕ}
-          (padding n) 0,
-    )
-
-flat_len : {A : Type 0} (f : A → List ℕ) (most : ℕ) (xs : List A) → AllByRecursion (λ x. length (f x) ≤ most) xs
-    → length (flat_map f xs) ≤ most * length xs
-flat_len f most [] all = omega arith
-flat_len f most (x ∷ xs) all =
-    let first = all.0 in
-    let rest = flat_len f most xs all.1 in
-    grind (arith, length-append (f x) (flat_map f xs), first, rest)
 
 site_len : (site : VlSite) → length (site_text xdr_text site) ≤ 12
 unfolding site_text
@@ -44,10 +26,6 @@ site_len site =
 sites_len : (sites : List VlSite) → AllByRecursion (λ site. length (site_text xdr_text site) ≤ 12) sites
 sites_len [] = tt
 sites_len (site ∷ sites) = (site_len site, sites_len sites)
-
-listed_len : {A : Type 0} (f : A → List ℕ) (most : ℕ) (xs : List A) → AllByRecursion (λ x. length (f x) ≤ most) xs
-    → length (listed xdr_text f xs) ≤ 4 + most * length xs
-listed_len f most xs all = omega (arith, length-append (word (length xs)) (flat_map f xs), flat_len f most xs all)
 
 entry_len : (e : VlEntry) → IsEntryText e → length (entry_text xdr_text e) ≤ 3354
 unfolding entry_text IsEntryText

@@ -1,9 +1,10 @@
 -- What is decided of a call in a state can be made there.
-use Rattle.std.proofs.Common.{◌≡◌, ℕ, ℤ, zero, suc, ◌+◌, ◌<◌, ◌≤◌, ◌^◌, Bool, true, false, not, ◌&&◌, ◌||◌, cond, eqb, ltb, List, [], ◌∷◌, length, Option, Some, None, IsSome, refl, sym, ap, subst, ◌∙◌, inl, inr, arith}
+use Rattle.std.proofs.Common.{◌≡◌, ℕ, ℤ, ◌+◌, ◌<◌, ◌≤◌, ◌^◌, Bool, true, false, not, ◌&&◌, ◌||◌, cond, eqb, ltb, List, [], ◌∷◌, length, Option, Some, None, IsSome, refl, sym, ap, subst, ◌∙◌, inl, inr, arith}
 use Rattle.std.specs.Prelude.{bit_and, nat_lt, unwrap_or}
 use Rattle.std.specs.List.{AllByRecursion, list_all, list_any}
 use Rattle.std.proofs.lemmas.Bool.{and_parts, ltb-false, ltb-true, le-ltb, or_parts}
 use Rattle.call_grammar.specs.Laws.{IsBytes}
+use Rattle.call_grammar.proofs.Fitting.{bytes_low}
 use Rattle.vl_calls.specs.declared.answers.VlAnswer.TheVariants as answer
 use Rattle.vl_calls.specs.declared.calls.GivenEntry.{GivenEntry}
 use Rattle.vl_calls.specs.declared.calls.VlCall.{VlCall}
@@ -234,11 +235,6 @@ call_sound s now (call.ChangeAddr from to) valid low bits = move_sound s from to
 call_sound s now call.Probe valid low bits = tt
 
 -- ---- of bytes, at a moment
-
-bytes_low : (bytes : List ℕ) → list_all (λ b. nat_lt b 256) bytes ≡ true → IsBytes bytes
-bytes_low [] all i = omega arith
-bytes_low (b ∷ bytes) all zero = ltb-true b 256 (and_parts (nat_lt b 256) (list_all (λ x. nat_lt x 256) bytes) all).0
-bytes_low (b ∷ bytes) all (suc i) = bytes_low bytes (and_parts (nat_lt b 256) (list_all (λ x. nat_lt x 256) bytes) all).1 i
 
 read_sound : (s : Location) (now : ℕ) (bytes : List ℕ) (o : Option VlCall) → IsLocation s → now < 2 ^ 32 → IsBytes bytes
     → call_of bytes ≡ o → IsSound s (verdict s now o)

@@ -1,27 +1,17 @@
 -- How long a call is.
-use Rattle.std.proofs.Common.{◌≡◌, ℕ, ◌+◌, ◌*◌, ◌≤◌, List, [], ◌∷◌, ◌++◌, length, replicate, arith}
+use Rattle.std.proofs.Common.{◌≡◌, ℕ, ◌+◌, ◌*◌, ◌≤◌, List, [], ◌∷◌, ◌++◌, length, arith}
 use Rattle.std.specs.List.{flat_map}
-use Rattle.std.proofs.lemmas.List.{length-append, length-replicate}
-use Rattle.xdr_base.specs.Spelling.{opaque, padding, signed, word}
+use Rattle.std.proofs.lemmas.List.{length-append}
+use Rattle.xdr_base.specs.Spelling.{opaque, signed, word}
 use Rattle.call_grammar.specs.Items.{xdr_text}
 use Rattle.call_grammar.specs.Lists.{listed}
+use Rattle.call_grammar.proofs.Lengths.{opaque_len}
 use Rattle.vl_calls.specs.Calls.{HasSpelling, spelling}
 use Rattle.vl_calls.specs.Entries.{IsGiven, given_text, site_text}
 use Rattle.vl_calls.specs.declared.calls.GivenEntry.{GivenEntry}
 use Rattle.vl_calls.specs.declared.calls.VlCall.{VlCall}
 use Rattle.vl_calls.specs.declared.calls.VlCall.TheVariants as call
 use Rattle.vldb_entries.specs.declared.entries.VlSite.{VlSite}
-
-opaque_len : (bytes : List ℕ) → length (opaque bytes) ≤ length bytes + 7
-opaque_len bytes =
-    let n = length bytes in
-    omega (
-      arith,
-      length-append (word n ++ bytes) (replicate (padding n) 0),
-      length-append (word n) bytes,
-      length-replicate {A = ℕ}
-          (padding n) 0,
-    )
 
 site_len : (site : VlSite) → length (site_text xdr_text site) ≤ 12
 unfolding site_text

@@ -13,7 +13,7 @@ pub returns-in-Name : goal.returns-in-Name
 returns-in-Name c = rw c.in-Name.is c.skip_name.ensures
 
 pub returns-in-Names : goal.returns-in-Names
-returns-in-Names c = rw c.in-Names.is c.skip_names.ensures
+returns-in-Names c = rw c.in-Names.is c.skip_list.ensures
 
 pub returns-in-Ids : goal.returns-in-Ids
-returns-in-Ids c = rw c.in-Ids.is c.skip_ids.ensures
+returns-in-Ids c = rw c.in-Ids.is c.skip_list-in-Ids.ensures

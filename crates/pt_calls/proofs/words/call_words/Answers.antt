@@ -1,4 +1,4 @@
-use Rattle.pt_calls.proofs.WordLoop.{named_has_spelling}
+use Rattle.pt_calls.proofs.WordCalls.{named_has_spelling}
 use Rattle.pt_calls.proofs.words.call_words.Goals as goal
 
 pub spell_call-requires : goal.spell_call-requires

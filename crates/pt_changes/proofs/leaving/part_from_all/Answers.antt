@@ -6,7 +6,7 @@ use Rattle.pt_service.proofs.Frames.{looked}
 use Rattle.pt_service.proofs.Named.{passed_id}
 use Rattle.pt_database.proofs.Counted.{elements_told}
 use Rattle.pt_database.proofs.States.{as_looks}
-use Rattle.pt_changes.proofs.Frames.{drafts_so}
+use Rattle.pt_service.proofs.Frames.{drafts_so}
 use Rattle.pt_changes.proofs.Parting.{elements_same, parting_bytes, parting_fault, parting_holds, parting_more, parting_none}
 use Rattle.pt_changes.proofs.leaving.part_from_all.Goals as goal
 

@@ -6,7 +6,7 @@ use Rattle.pt_calls.specs.declared.answers.PtAnswer.TheVariants as answer
 use Rattle.pt_service.specs.Meaning.{Answers, told_of}
 use Rattle.pt_service.specs.State.{State}
 use Rattle.pt_database.proofs.Ended.{entry_ends, entry_refused}
-use Rattle.pt_database.proofs.Spelled.{entry_len, entry_text}
+use Rattle.pt_database.proofs.Spelled.{entry_len, is_entry_text}
 use Rattle.pt_database.proofs.looks.list_entry.Goals as goal
 
 pub returns-in_default-clause-meant : goal.returns-in_default-clause-meant
@@ -25,7 +25,7 @@ told_of-requires-clause-good g c =
 pub tell-requires : goal.tell-requires
 tell-requires g c =
     let short = c.in_ok-entry.ensures.short in
-    record { spelled = entry_text c.in_ok-entry.entry short; short = omega (arith, entry_len c.in_ok-entry.entry short) }
+    record { spelled = is_entry_text c.in_ok-entry.entry short; short = omega (arith, entry_len c.in_ok-entry.entry short) }
 
 pub returns-clause-meant : goal.returns-clause-meant
 returns-clause-meant g c =

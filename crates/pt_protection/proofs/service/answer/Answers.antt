@@ -8,8 +8,8 @@ use Rattle.pt_calls.specs.declared.calls.PtCall.TheVariants as call
 use Rattle.pt_calls.specs.Meaning.{id_or_anonymous}
 use Rattle.pt_service.specs.Meaning.{Answers, fields_set, maximum_set, name_of, new_entry, new_entry_of_id, of_entry, verdict}
 use Rattle.pt_database.proofs.States.{err_so}
-use Rattle.pt_laws.proofs.Changing.{fields_plain, given_plain, join_paired, leave_paired, maximum_plain, new_plain, part_paired, reads_look, turn_turned}
-use Rattle.pt_protection.proofs.Served.{look_ok, no_reader, paired_ok, plain_ok, turned_ok}
+use Rattle.pt_laws.proofs.Changing.{fields_plain, given_plain, maximum_plain, new_plain, reads_look}
+use Rattle.pt_protection.proofs.Served.{change_ok, look_ok, no_reader, plain_ok}
 use Rattle.pt_protection.proofs.service.answer.Goals as goal
 
 pub returns-in-NewEntry-clause-meant : goal.returns-in-NewEntry-clause-meant
@@ -76,9 +76,9 @@ unfolding verdict
 returns-in-Delete-clause-meant g c =
     let fits_id : FitsSigned w32 c.in-Delete.id = search rules in
     let meant = c.delete.ensures.meant in
-    paired_ok c.delete.result c.args.d.now.bytes c.delete.new.d.bytes
+    change_ok c.delete.result c.args.d.now.bytes c.delete.new.d.bytes
     c.args.call (call.Delete c.in-Delete.id) c.in-Delete.is
-    (λ s. leave_paired s c.in-Delete.id) (simp to_z-of_z at meant)
+    (simp to_z-of_z at meant)
 
 pub returns-in-AddToGroup-clause-meant : goal.returns-in-AddToGroup-clause-meant
 unfolding verdict
@@ -86,9 +86,9 @@ returns-in-AddToGroup-clause-meant g c =
     let fits_member : FitsSigned w32 c.in-AddToGroup.member = search rules in
     let fits_group : FitsSigned w32 c.in-AddToGroup.group = search rules in
     let meant = c.add_to_group.ensures.meant in
-    paired_ok c.add_to_group.result c.args.d.now.bytes c.add_to_group.new.d.bytes
+    change_ok c.add_to_group.result c.args.d.now.bytes c.add_to_group.new.d.bytes
     c.args.call (call.AddToGroup c.in-AddToGroup.member c.in-AddToGroup.group) c.in-AddToGroup.is
-    (λ s. join_paired s c.in-AddToGroup.member c.in-AddToGroup.group) (simp to_z-of_z at meant)
+    (simp to_z-of_z at meant)
 
 pub returns-in-RemoveFromGroup-clause-meant : goal.returns-in-RemoveFromGroup-clause-meant
 unfolding verdict
@@ -96,9 +96,9 @@ returns-in-RemoveFromGroup-clause-meant g c =
     let fits_member : FitsSigned w32 c.in-RemoveFromGroup.member = search rules in
     let fits_group : FitsSigned w32 c.in-RemoveFromGroup.group = search rules in
     let meant = c.remove_from_group.ensures.meant in
-    paired_ok c.remove_from_group.result c.args.d.now.bytes c.remove_from_group.new.d.bytes
+    change_ok c.remove_from_group.result c.args.d.now.bytes c.remove_from_group.new.d.bytes
     c.args.call (call.RemoveFromGroup c.in-RemoveFromGroup.member c.in-RemoveFromGroup.group) c.in-RemoveFromGroup.is
-    (λ s. part_paired s c.in-RemoveFromGroup.member c.in-RemoveFromGroup.group) (simp to_z-of_z at meant)
+    (simp to_z-of_z at meant)
 
 pub returns-in-GetCps-clause-meant : goal.returns-in-GetCps-clause-meant
 unfolding verdict
@@ -162,10 +162,10 @@ returns-in-ChangeEntry-clause-meant g c =
     let fits_new_id : FitsSigned w32 c.in-ChangeEntry.new_id = search rules in
     let meant = c.change_entry.ensures.meant in
     let named = rw c.as_slice-in-ChangeEntry.ensures at meant in
-    turned_ok c.change_entry.result c.args.d.now.bytes c.change_entry.new.d.bytes
+    change_ok c.change_entry.result c.args.d.now.bytes c.change_entry.new.d.bytes
     c.args.call (call.ChangeEntry c.in-ChangeEntry.id c.in-ChangeEntry.name c.in-ChangeEntry.owner c.in-ChangeEntry.new_id)
     c.in-ChangeEntry.is
-    (λ s. turn_turned s c.in-ChangeEntry.id c.in-ChangeEntry.name c.in-ChangeEntry.owner c.in-ChangeEntry.new_id) (simp to_z-of_z at named)
+    (simp to_z-of_z at named)
 
 pub returns-in-SetFields-clause-meant : goal.returns-in-SetFields-clause-meant
 unfolding verdict

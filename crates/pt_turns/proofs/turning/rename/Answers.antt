@@ -5,8 +5,9 @@ use Rattle.prdb_entries.specs.RecordEnds.{seen}
 use Rattle.prdb_entries.specs.State.{front_of}
 use Rattle.pt_service.specs.State.{State}
 use Rattle.pt_service.proofs.Frames.{drafted}
-use Rattle.pt_turns.specs.Turning.{MayRename}
-use Rattle.pt_turns.proofs.Fronting.{changed_then, find_cause, id_of_good}
+use Rattle.pt_changes.specs.Turning.{MayRename}
+use Rattle.pt_changes.proofs.Giving.{find_cause}
+use Rattle.pt_turns.proofs.Fronting.{changed_then, id_of_good}
 use Rattle.pt_turns.proofs.Steps.{fronts_cause, put_err, rename_ok}
 use Rattle.pt_turns.proofs.turning.rename.Goals as goal
 

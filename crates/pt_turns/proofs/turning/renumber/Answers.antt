@@ -2,8 +2,9 @@ use Rattle.std.proofs.lemmas.Int.{to_z-of_z}
 use Rattle.std.proofs.lemmas.Result.{err_from_is_err_and}
 use Rattle.pt_service.specs.State.{State}
 use Rattle.pt_service.proofs.Frames.{drafted, no_disk}
-use Rattle.pt_turns.specs.Turning.{MayRenumber}
-use Rattle.pt_turns.proofs.Fronting.{as_drafts, changed_then, find_cause}
+use Rattle.pt_changes.specs.Turning.{MayRenumber}
+use Rattle.pt_changes.proofs.Giving.{find_cause}
+use Rattle.pt_turns.proofs.Fronting.{as_drafts, changed_then}
 use Rattle.pt_turns.proofs.Kept.{gives_keep, move_keeps}
 use Rattle.pt_turns.proofs.Steps.{first_cause, last_err, move_cause, renumber_ok}
 use Rattle.pt_turns.proofs.turning.renumber.Goals as goal

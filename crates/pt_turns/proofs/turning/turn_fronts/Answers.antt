@@ -2,7 +2,8 @@ use Rattle.std.proofs.Common.{arith, rules}
 use Rattle.std.proofs.lemmas.Int.{to_z-of_z}
 use Rattle.std.proofs.lemmas.Result.{err_from_is_err_and}
 use Rattle.pt_service.proofs.Named.{passed_id}
-use Rattle.pt_turns.proofs.Fronting.{changed_then, drafts_so, fronting_bytes, fronting_fault, fronting_more, fronting_none}
+use Rattle.pt_service.proofs.Frames.{drafts_so}
+use Rattle.pt_turns.proofs.Fronting.{changed_then, fronting_bytes, fronting_fault, fronting_more, fronting_none}
 use Rattle.pt_turns.proofs.turning.turn_fronts.Goals as goal
 
 pub loop-id-init : goal.loop-id-init

@@ -2,7 +2,7 @@ use Rattle.std.proofs.Common.{◌∙◌, ℕ, List, ap, sym}
 use Rattle.std.specs.Prelude.{nat_lt}
 use Rattle.std.specs.List.{list_all}
 use Rattle.pt_calls.specs.Words.{call_of_words}
-use Rattle.pt_protection.proofs.Lawful.{only_these}
+use Rattle.call_grammar.proofs.Fitting.{only_these}
 use Rattle.pt_protection.proofs.service.PtServiceDraftWords.call_words.Goals as goal
 
 pub returns-in-Some : goal.returns-in-Some

@@ -2,7 +2,7 @@ use Rattle.std.proofs.Common.{◌∙◌, ℕ, List, ap, sym}
 use Rattle.std.specs.Prelude.{nat_lt}
 use Rattle.std.specs.List.{list_all}
 use Rattle.vl_calls.specs.Words.{call_of_words}
-use Rattle.vl_database.proofs.Lawful.{only_these}
+use Rattle.call_grammar.proofs.Fitting.{only_these}
 use Rattle.vl_database.proofs.service.VlServiceDraftWords.call_words.Goals as goal
 
 pub returns-in-Some : goal.returns-in-Some

@@ -9,7 +9,7 @@ use Rattle.pt_service.specs.Names.{with_front}
 use Rattle.pt_service.specs.State.{State, elements, is_group}
 use Rattle.pt_service.specs.Turning.{has_equal_names, has_long_name, is_fixed, moved, turned}
 use Rattle.pt_changes.specs.Leaving.{after_gives, property, with_owners}
-use Rattle.pt_turns.specs.Under.{under}
+use Rattle.pt_changes.specs.Under.{under}
 
 -- ---- names
 

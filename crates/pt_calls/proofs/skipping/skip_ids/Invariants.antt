@@ -1,6 +1,0 @@
-use Rattle.std.proofs.Common.{◌≡◌, ◌-◌}
-use Rattle.pt_calls.specs.Reading.{items_at, list_at, rest_of, id_at}
-use Rattle.pt_calls.proofs.skipping.skip_ids.Given as goal
-
-abbrev pub invariant-loop : goal.invariant-loop
-invariant-loop l = rest_of (items_at id_at (l.count - l.counter) l.from) ≡ rest_of (list_at 5000 id_at l.fn.from)
