@@ -1,1 +1,3 @@
+pub mod Over
 pub mod States
+pub mod Waiting
