@@ -36,7 +36,9 @@ pub fn packet_heard<'a>(
         ≡ stepped_by dbs (member_of state.new) now short (server_of state.new) act) }
     ensures leaves { IfOk result (Leaves state.old state.new) }
     ensures need { IfOk result (λ act. act_need act ≤ body_need packet.now) }
-    ensures line { IfOk result (λ act. 2 < act_need act → (server_of state.new).waiting ≡ (server_of state.old).waiting) }
+    ensures holder { (image : List ℕ) (dbs : Databases) (short : List Bool) → IfOk result (λ act. 2 < act_need act →
+        received_from dbs (member_of state.old) (record (server_of state.old) { image = image }) now host from packet.now short
+        ≡ stepped_by dbs (member_of state.new) now short (record (server_of state.new) { image = image }) act) }
     ensures memory { BodyTakesNoMemory packet.now → IsOk result × IfOk result (λ act. ¬ MayEndShort act) }
     ensures err { OnErr result (state.new ≡ state.old) }
 {
@@ -92,7 +94,9 @@ fn small_heard(
         ≡ stepped_by dbs (member_of state.new) now short (server_of state.new) act) }
     ensures leaves { IfOk result (Leaves state.old state.new) }
     ensures need { IfOk result (λ act. act_need act ≤ body_need packet.now) }
-    ensures line { IfOk result (λ act. 2 < act_need act → (server_of state.new).waiting ≡ (server_of state.old).waiting) }
+    ensures holder { (image : List ℕ) (dbs : Databases) (short : List Bool) → IfOk result (λ act. 2 < act_need act →
+        received_from dbs (member_of state.old) (record (server_of state.old) { image = image }) now host from packet.now short
+        ≡ stepped_by dbs (member_of state.new) now short (record (server_of state.new) { image = image }) act) }
     ensures memory { BodyTakesNoMemory packet.now → IsOk result × IfOk result (λ act. ¬ MayEndShort act) }
     ensures err { OnErr result (state.new ≡ state.old) }
 {
@@ -141,7 +145,9 @@ fn write_heard(
         ≡ stepped_by dbs (member_of state.new) now short (server_of state.new) act) }
     ensures leaves { IfOk result (Leaves state.old state.new) }
     ensures need { IfOk result (λ act. act_need act ≤ body_need packet.now) }
-    ensures line { IfOk result (λ act. 2 < act_need act → (server_of state.new).waiting ≡ (server_of state.old).waiting) }
+    ensures holder { (image : List ℕ) (dbs : Databases) (now from : ℕ) (short : List Bool) → IfOk result (λ act. 2 < act_need act →
+        received_from dbs (member_of state.old) (record (server_of state.old) { image = image }) now host from packet.now short
+        ≡ stepped_by dbs (member_of state.new) now short (record (server_of state.new) { image = image }) act) }
     ensures memory { BodyTakesNoMemory packet.now → IsOk result × IfOk result (λ act. ¬ MayEndShort act) }
     ensures err { OnErr result (state.new ≡ state.old) }
 {

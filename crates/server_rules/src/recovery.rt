@@ -201,7 +201,10 @@ pub fn version_told(
         ≡ stepped_by dbs (member_of state.new) now short (server_of state.new) result }
     ensures leaves { Leaves state.old state.new result }
     ensures need { act_need result ≤ 3 }
-    ensures line { 2 < act_need result → (server_of state.new).waiting ≡ (server_of state.old).waiting }
+    ensures holder { (image : List ℕ) (dbs : Databases) (short : List Bool) → 2 < act_need result
+        → version_is_received dbs (member_of state.old) (record (server_of state.old) { image = image }) now host from poll version short
+        (server_of state.old).phase
+        ≡ stepped_by dbs (member_of state.new) now short (record (server_of state.new) { image = image }) result }
 {
     match state.recovery.phase() {
         Phase::Poll if poll == state.recovery.poll() => {
@@ -234,7 +237,10 @@ fn version_spread(
         ≡ stepped_by dbs (member_of state.new) now short (server_of state.new) result }
     ensures leaves { Leaves state.old state.new result }
     ensures need { act_need result ≤ 3 }
-    ensures line { 2 < act_need result → (server_of state.new).waiting ≡ (server_of state.old).waiting }
+    ensures holder { (image : List ℕ) (dbs : Databases) (now : ℕ) (short : List Bool) → 2 < act_need result
+        → told_to_spread dbs (member_of state.old) (record (server_of state.old) { image = image }) now host from
+        (polled_of state.old.recovery) (spread_of state.old.recovery) poll version short
+        ≡ stepped_by dbs (member_of state.new) now short (record (server_of state.new) { image = image }) result }
 {
     if poll != state.recovery.poll() {
         return Act::Rest;
@@ -284,7 +290,10 @@ pub fn version_kept(state: &mut State, from: usize, version: Version) -> Act<'st
         ≡ stepped_by dbs (member_of state.new) now short (server_of state.new) result }
     ensures leaves { Leaves state.old state.new result }
     ensures need { act_need result ≤ 3 }
-    ensures line { 2 < act_need result → (server_of state.new).waiting ≡ (server_of state.old).waiting }
+    ensures holder { (image : List ℕ) (dbs : Databases) (now : ℕ) (short : List Bool) → 2 < act_need result
+        → version_kept_received dbs (member_of state.old) (record (server_of state.old) { image = image }) now from version short
+        (server_of state.old).phase
+        ≡ stepped_by dbs (member_of state.new) now short (record (server_of state.new) { image = image }) result }
     ensures memory { ¬ MayEndShort result }
 {
     if !state.is_spreading() || version != state.version {
