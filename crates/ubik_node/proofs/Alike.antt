@@ -1,11 +1,10 @@
 -- Steps but for the bytes of images.
-use Rattle.std.proofs.Common.{◌≡◌, ◌≤◌, ◌<◌, ◌-◌, ◌+◌, ◌++◌, ◌==◌, ℕ, Bool, true, false, cond, ltb, Option, Some, None, List, [], ◌∷◌, length, map, min, drop, replicate, Result, Ok, Err, OnOk, IfErr, IfOk, IsErrOf, ⊎_elim, inl, inr, ◌≢◌, refl, sym, ap, ◌∙◌, append_assoc, arith, length-take, length-drop}
+use Rattle.std.proofs.Common.{◌≡◌, ◌≤◌, ◌<◌, ◌-◌, ◌++◌, ◌==◌, ◌+◌, ℕ, Bool, true, false, cond, ltb, Option, Some, None, List, [], ◌∷◌, length, map, min, drop, replicate, Result, Ok, Err, OnOk, IfErr, IfOk, IsErrOf, ⊎_elim, ◌≢◌, refl, sym, ap, ◌∙◌, append_assoc, arith, length-take, length-drop}
 use Rattle.std.proofs.lemmas.Bool.Decides.{nat_tests}
 use Rattle.std.proofs.lemmas.List.{append-nil, map-append}
 use Rattle.ubik_types.specs.declared.hosts.Host.{Host}
 use Rattle.ubik_types.specs.declared.versions.Version.{Version}
-use Rattle.ubik_types.specs.Phase.{Polled, Spread, PhaseRecord, Send, Ready}
-use Rattle.ubik_types.specs.Quorum.{is_majority}
+use Rattle.ubik_types.specs.Phase.{Polled}
 use Rattle.ubik_types.specs.Version.{version_eq}
 use Rattle.ubik_calls.specs.declared.packets.Body.{Body}
 use Rattle.ubik_calls.specs.declared.packets.Body.TheVariants as body
@@ -14,21 +13,21 @@ use Rattle.db_image.specs.declared.services.CallReply.{CallReply}
 use Rattle.db_image.specs.declared.services.CallReply.TheVariants as call_reply
 use Rattle.db_image.specs.Database.{Database, Outcome}
 use Rattle.db_image.specs.Ends.{IsShort, KeepsGrammar, end_of}
-use Rattle.db_image.specs.Standing.{Standing}
 use Rattle.cell_model.specs.declared.events.Output.{Output}
 use Rattle.cell_model.specs.declared.events.Output.TheVariants as output
 use Rattle.cell_model.specs.Asks.{read_reply}
-use Rattle.cell_model.specs.Evaluating.{Databases, Evaluated, MayAllCome, Told}
-use Rattle.cell_model.specs.Node.{Flight, Server, Waiting}
+use Rattle.cell_model.specs.Evaluating.{Databases, Evaluated}
+use Rattle.cell_model.specs.Node.{Server}
 use Rattle.cell_model.specs.Pieces.{piece_from}
 use Rattle.cell_model.specs.Polls.{entry_at}
 use Rattle.cell_model.specs.Recovery.{spread_answer}
-use Rattle.cell_model.specs.Step.{Evaluation, Member, Shown, Stepped, announcing, cell_size, outputs_of, packet_to, quiet, sends_from, sends_to, sends_to_each, sent, short_after, showing, with_database, with_phase}
-use Rattle.cell_model.specs.Writes.{ended_write, flight_settled, next_turns, settled, settled_in, settled_with_turns}
+use Rattle.cell_model.specs.Step.{Evaluation, Member, Shown, Stepped, outputs_of, packet_to, sends_from, sends_to, sends_to_each, sent, with_database}
+use Rattle.cell_model.specs.Writes.{settled}
+use Rattle.state_laws.specs.Over.{over}
+use Rattle.state_laws.proofs.Over.{settled_over}
 use Rattle.server_state.specs.Spreading.{given_bodies}
 use Rattle.server_state.specs.State.{ShowsBehind}
-use Rattle.ubik_node.specs.Alike.{ActNeedsTurn, AlikeSo, Frees, IsAlike, MayAllBe, NeedsHolder, NobodyOr, ReadsAlike, StepsAlike, blank, blank_body, blank_output, blank_outputs, blanked, free_dbs}
-use Rattle.ubik_node.specs.Choices.{Choices}
+use Rattle.ubik_node.specs.Alike.{ActsAlike, AlikeSo, Frees, IsAlike, ReadsAlike, StepsAlike, blank, blank_body, blank_output, blank_outputs, blanked, free_dbs}
 use Rattle.ubik_node.specs.Evaluation.{IsShortReply}
 use Rattle.ubik_node.specs.Node.{Closes, Ends, Held, IsMade}
 use Rattle.ubik_node.specs.Serving.{IsReadReply}
@@ -38,8 +37,7 @@ use Rattle.ubik_store.specs.declared.faults.StoreFault.{StoreFault}
 use Rattle.ubik_store.specs.declared.faults.StoreFault.TheVariants as fault
 use Rattle.server_rules.specs.declared.acts.Act.{Act}
 use Rattle.server_rules.specs.declared.acts.Act.TheVariants as act
-use Rattle.server_rules.specs.Acts.{act_need, own_piece}
-use Rattle.server_rules.specs.Packets.{body_need}
+use Rattle.server_rules.specs.Acts.{act_need, own_piece, stepped_by}
 use Rattle.ubik_calls.specs.declared.replies.Reply.{Reply}
 use Rattle.cell_model.specs.declared.events.NodeEvent.{NodeEvent}
 use Rattle.cell_model.specs.Node as model
@@ -47,20 +45,11 @@ use Rattle.cell_model.specs.NodeRule.{step_by}
 use Rattle.ubik_node.proofs.Closing.{node_at}
 use Rattle.ubik_node.proofs.Endings.{disk_or, fault_is, ok_not}
 use Rattle.ubik_node.proofs.Evaluated.{told_itself}
-use Rattle.ubik_node.proofs.Rested.{short_behind}
+use Rattle.state_laws.specs.Waiting.{short_behind}
 use Rattle.ubik_node.proofs.Stepping.{halted_if, up_if}
 use Rattle.ubik_node.proofs.Relabelled.{alone_sends, given_as, relabel_outputs}
 
 -- ---- choices
-
-pub told_may : (d : Standing) (told : Told) → MayAllCome d told → MayAllBe d.database told
-told_may d [] all = tt
-told_may d (None ∷ told) all = (tt, told_may d told all.1)
-told_may d (Some e ∷ told) all = (record { grammar = all.0.grammar; rests = all.0.rests; short = all.0.short; longer = all.0.longer }, told_may d told all.1)
-
--- what a step chose is a free choice
-abbrev pub frees_of : {d : Standing} → Choices d → Frees d.database
-frees_of {d} o = record { short = o.short; told = o.told; may = told_may d o.told o.may }
 
 -- nothing was chosen
 abbrev pub none_free : (db : Database) → Frees db
@@ -103,29 +92,6 @@ pub blank_image : (s : Server) (a b : List ℕ) → length a ≡ length b → bl
 blank_image s a b same = ap (λ (xs : List ℕ). record (blank s) { image = xs }) (blanked_same a b same)
 
 -- what holders lead to is told of no byte of the image
-abbrev over_image : List ℕ → Stepped → Stepped
-over_image image t = record t { server = record t.server { image = image } }
-
-settled_over : (m : Member) (s : Server) (image : List ℕ) → settled m (record s { image = image }) ≡ over_image image (settled m s)
-settled_over m s image = by s.phase
-  where
-    both : (c : Bool) (t u : Stepped) → cond c (over_image image t) (over_image image u) ≡ over_image image (cond c t u)
-    both true t u = refl
-    both false t u = refl
-
-    over : (poll : Polled) (spread : Spread) (announced : Version) (o : Option Flight)
-        → flight_settled m (record s { image = image }) poll spread announced o
-        ≡ over_image image (flight_settled m s poll spread announced o)
-    over poll spread announced None = refl
-    over poll spread announced (Some f) = both (is_majority (cell_size m) spread.holders) (ended_write s f poll spread announced) (quiet s)
-
-    by : (p : PhaseRecord) → settled_in m (record s { image = image }) p ≡ over_image image (settled_in m s p)
-    by (Send poll spread) =
-        let ready : Stepped = showing (with_phase s (Ready poll spread s.version)) (announcing s.version ∷ []) in
-        both (is_majority (cell_size m) spread.holders) ready (quiet s)
-    by (Ready poll spread announced) = over poll spread announced s.flight
-    by other = refl
-
 pub settled_alike : (m : Member) (s : Server) (a b : List ℕ) → length a ≡ length b
     → (let t = settled m (record s { image = a }) in let u = settled m (record s { image = b }) in
     (blank t.server ≡ blank u.server) × (t.shown ≡ u.shown))
@@ -213,16 +179,6 @@ pub piece_alike : (s : Server) (poll at : ℕ) (asked : Bool) (bytes : List ℕ)
 piece_alike s poll at true bytes same = ap (λ (xs : List ℕ). body.Piece poll s.version (length s.image) at xs) (blanked_same bytes (piece_from s.image at) same)
 piece_alike s poll at false bytes same = ap (λ (xs : List ℕ). body.SendPiece poll s.version (length s.image) at xs) (blanked_same bytes (piece_from s.image at) same)
 
--- a rule without an evaluation
-pub free_alike : (db : Database) {t : Stepped} {after : Server} {before out : List Output} → IsAlike t after before out → AlikeSo db (λ _. t) after before out
-free_alike db alike = (none_free db, alike)
-
--- a rule that was made, with what was chosen in it
-pub made_so : {D : Type 0} (g : Ghosts D) {d : Standing} (t : Frees d.database → Stepped) {knows : Type 0} {before out : List Output} {n m : Held D} (r : Result (Unit {0}) StoreFault) (o : Choices d) → Ends g knows (t (frees_of o)) before out n m r → knows
-    → OnOk r (AlikeSo d.database t m.server before out)
-made_so g t (Ok x) o ends known = (frees_of o, alike_made g (ends.made known))
-made_so g t (Err e) o ends known = tt
-
 -- a rule that shows nothing, behind what stands there
 pub quiet_alike : {t : Stepped} {after : Server} (out : List Output) → IsAlike t after [] [] → IsAlike t after out out
 quiet_alike {t} out alike = record {
@@ -237,42 +193,28 @@ pub on_made : {P Q : Type 0} (r : Result (Unit {0}) StoreFault) → OnOk r P →
 on_made (Ok x) so map = map so
 on_made (Err e) so map = tt
 
--- holders came, and no call waits
-none_turns : (dbs : Databases) (m : Member) (now : ℕ) (waiting : List Waiting) (s : Server) (short : List Bool) → waiting ≡ [] → next_turns dbs m now waiting s short ≡ quiet s
-none_turns dbs m now [] s short none = refl
-none_turns dbs m now (w ∷ waiting) s short none = absurd cc
+-- a rule over the image that the server has
+pub own_alike : (db : Database) (s : Server) (t : Server → Frees db → Stepped) {after : Server} {before out : List Output} (free : Frees db) → IsAlike (t s free) after before out → AlikeSo db s t after before out
+own_alike db s t free alike = (s.image, refl, free, alike)
 
-pub nobody_alike : (dbs : Databases) (m : Member) (s : Server) (now : ℕ) (short : List Bool) (mid after : Server) (before out last : List Output) → ShowsBehind (settled m s) mid before out
-    → (settled m s).server.waiting ≡ [] → after ≡ mid → last ≡ out → IsAlike (settled_with_turns dbs m s now short) after before last
-nobody_alike dbs m s now short mid after before out last shows none same still =
-    let t = settled m s in
-    let rest = next_turns dbs m now t.server.waiting t.server (short_after t.shown short) in
-    let is : rest ≡ quiet t.server = none_turns dbs m now t.server.waiting t.server (short_after t.shown short) none in
-    record {
-      server = ap (λ (u : Stepped). blank u.server) is ∙ ap blank (shows.server ∙ sym same);
-      outputs =
-          ap blank_outputs (still ∙ shows.outputs)
-          ∙ ap (λ (those : List Shown). blank_outputs (before ++ outputs_of those)) (sym (append-nil t.shown) ∙ ap (λ (u : Stepped). t.shown ++ u.shown) (sym is));
-    }
+-- what a decision and its act come to
+pub act_alike : (db : Database) (m : Member) (now : ℕ) (a : Act) (s mid : Server) (t : Databases → Server → List Bool → Stepped) {after : Server} {before out : List Output} → mid.image ≡ s.image
+    → ((dbs : Databases) (short : List Bool) → t dbs s short ≡ stepped_by dbs m now short mid a) → ((image : List ℕ) (dbs : Databases) (short : List Bool) → 2 < act_need a → t dbs (over s image) short ≡ stepped_by dbs m now short (over mid image) a)
+    → ActsAlike db m now a mid after before out → AlikeSo db s (λ at free. t (free_dbs db free) at free.short) after before out
+act_alike db m now act.Settle s mid t same own holder so =
+    (so.0, so.1 ∙ ap length same, so.2, alike_same (holder so.0 (free_dbs db so.2) so.2.short (omega arith)) so.3)
+act_alike db m now other s mid t same own holder so =
+    own_alike db s (λ at free. t (free_dbs db free) at free.short) (none_free db) (alike_same (own (free_dbs db (none_free db)) []) (so (free_dbs db (none_free db)) []))
 
--- only with packets of two kinds calls that wait may have their turns
-settles : (line later : List Waiting) (tells : Type 0) → later ≡ line → NobodyOr line tells → NobodyOr later tells
-settles line later tells same needs = ⊎_elim (λ none. inl (same ∙ none)) (λ told. inr told) needs
-
-pub holder_needs : (b : Body) (a : Act) (line later : List Waiting) (tells : Type 0) → act_need a ≤ body_need b → (2 < act_need a → later ≡ line) → NeedsHolder b line tells → ActNeedsTurn a later tells
-holder_needs (body.VersionIs poll version) act.Settle line later tells few same needs = settles line later tells (same (omega arith)) needs
-holder_needs (body.VersionKept version) act.Settle line later tells few same needs = settles line later tells (same (omega arith)) needs
-holder_needs b act.Settle line later tells few same needs = absurd (omega (arith, few))
-holder_needs b other line later tells few same needs = tt
-
--- nor in a recovery turn
-pub no_turn : (a : Act) (line : List Waiting) (tells : Type 0) → act_need a ≤ 1 → ActNeedsTurn a line tells
-no_turn act.Settle line tells few = absurd (omega (arith, few))
-no_turn other line tells few = tt
+-- no call has its turn in a recovery turn
+pub no_turn : (db : Database) (m : Member) (now : ℕ) (a : Act) (s : Server) {after : Server} {before out : List Output} → act_need a ≤ 1 → ActsAlike db m now a s after before out
+    → (dbs : Databases) (short : List Bool) → IsAlike (stepped_by dbs m now short s a) after before out
+no_turn db m now act.Settle s few so = absurd (omega (arith, few))
+no_turn db m now other s few so = so
 
 -- ---- calls
 
-short_end : (r : CallReply) → IsShortReply r → IsShort (end_of r)
+pub short_end : (r : CallReply) → IsShortReply r → IsShort (end_of r)
 short_end (call_reply.Done answer) short = short
 short_end other short = tt
 
@@ -283,7 +225,7 @@ pub read_alike : (db : Database) (s : Server) (now id : ℕ) (call image : List 
 read_alike db s now id call image before out made (Err e) grammar short replied = tt
 read_alike db s now id call image before out (Ok e) (Ok x) grammar short replied =
     let one : Evaluated = record { image = image; moment = now; call = call; outcome = record { reply = e.reply; image = image } } in (
-      record { short = []; told = Some one ∷ []; may = (record { grammar = grammar; rests = λ _. refl; short = short_end e.reply short; longer = omega arith }, tt) },
+      record { short = []; told = Some one ∷ []; may = (record { grammar = grammar; short = short_end e.reply short; longer = omega arith }, tt) },
       λ basis.
           let on : Evaluation = record { call = call; moment = now; basis = basis } in
           record {
@@ -300,17 +242,17 @@ read_alike db s now id call image before out (Err e) (Ok x) grammar short replie
 
 -- ---- a step, from the end of its rule
 
-module _ {D : Type 0} (g : Ghosts D) (db : Database) (m : Member) (s : Server) (e : NodeEvent) (now : ℕ) (shown : List Shown) (t : Frees db → Stepped)
-    (first mid last : Held D) (before after : List Output) (back : Server) (end : StepEnd)
-    (step : (free : Frees db) → step_by (free_dbs db free) m s now e (short_behind shown free.short) ≡ t free) where
-  pub closed_alike : {knows : Type 0} {u : Stepped} (r : Result (Unit {0}) StoreFault) → Ends g knows u [] before first mid r → OnOk r (AlikeSo db t mid.server [] before)
+module _ {D : Type 0} (g : Ghosts D) (db : Database) (m : Member) (s back : Server) (e : NodeEvent) (now : ℕ) (shown : List Shown) (t : Server → Frees db → Stepped)
+    (first mid last : Held D) (before after : List Output) (end : StepEnd)
+    (step : (image : List ℕ) (free : Frees db) → step_by (free_dbs db free) m (over s image) now e (short_behind shown free.short) ≡ t (over first.server image) free) (long : first.server.image ≡ s.image) where
+  pub closed_alike : {knows : Type 0} {u : Stepped} (r : Result (Unit {0}) StoreFault) → Ends g knows u [] before first mid r → OnOk r (AlikeSo db first.server t mid.server [] before)
       → IfErr r (λ why. why ≢ fault.DiskFault → back ≡ s) → (IsErrOf r fault.DiskFault → model.halted_from back ≡ model.halted_from s)
       → Closes r e back mid last before after end → StepsAlike db m end e now (model.Up s) (node_at last) after
   closed_alike (Ok x) ends alike returns keeps closed =
       rw (closed.0, closed.1, closed.2) (
         mid.server,
         up_if mid.store.failed (model.halted_from mid.server) mid.server (ends.leaves.runs (λ is. ok_not x is)),
-        (record alike.0 { short = short_behind shown alike.0.short }, alike_same (step alike.0) alike.1),
+        (alike.0, alike.1 ∙ ap length long, record alike.2 { short = short_behind shown alike.2.short }, alike_same (step alike.0 alike.2) alike.3),
       )
   closed_alike (Err why) ends alike returns keeps closed =
       ⊎_elim (λ is.

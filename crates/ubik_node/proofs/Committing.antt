@@ -1,15 +1,14 @@
 -- What a writing call leads to at its turn.
-use Rattle.std.proofs.Common.{◌≡◌, ◌<◌, ◌≤◌, ◌+◌, ◌/◌, ℕ, zero, suc, Bool, true, false, cond, Option, Some, None, IfSome, IsSome, List, [], ◌∷◌, length, replicate, take, refl, sym, ap, subst, ◌∙◌, arith}
+use Rattle.std.proofs.Common.{◌≡◌, ◌<◌, ℕ, suc, Bool, true, false, cond, Option, Some, None, IfSome, IsSome, List, [], ◌∷◌, length, replicate, take, refl, sym, ap, subst, ◌∙◌, arith}
 use Rattle.std.proofs.lemmas.Bool.{false≢true}
 use Rattle.std.proofs.lemmas.Bool.Decides.{nat_tests}
 use Rattle.std.proofs.lemmas.List.{append-nil}
-use Rattle.std.proofs.lemmas.List.Sums.{sum_by-cons}
 use Rattle.ubik_types.specs.declared.hosts.Host.{Host}
 use Rattle.ubik_types.specs.declared.images.Change.{Change}
 use Rattle.ubik_types.specs.declared.phases.Phase.TheVariants as phase
 use Rattle.ubik_types.specs.declared.versions.Version.{Version}
 use Rattle.ubik_types.specs.Logged.{too_large}
-use Rattle.ubik_types.specs.Quorum.{is_majority, marked, size}
+use Rattle.ubik_types.specs.Quorum.{marked}
 use Rattle.ubik_types.specs.Version.{version_lt}
 use Rattle.xdr_base.specs.ChangeText.{text_of}
 use Rattle.ubik_calls.specs.declared.replies.Reply.{Reply}
@@ -21,10 +20,11 @@ use Rattle.cell_model.specs.declared.events.Output.{Output}
 use Rattle.cell_model.specs.declared.events.Output.TheVariants as output
 use Rattle.cell_model.specs.Asks.{read_reply}
 use Rattle.cell_model.specs.Node.{Server}
-use Rattle.cell_model.specs.Polls.{is_marked, only_at}
+use Rattle.cell_model.specs.Polls.{is_marked}
 use Rattle.cell_model.specs.Step.{Evaluation, Member, Shown, cell_size, outputs_of, sends_to_each, told_version, with_database}
 use Rattle.cell_model.specs.Writes.{answered_on, flight_of, next_version, own_commit, turned, write_bodies}
 use Rattle.cell_model.specs.Writes.{written, written_changes, written_in, written_within}
+use Rattle.state_laws.proofs.Turning.{one_is_few}
 use Rattle.site_writes.specs.OwnWrite.{OwnRecord, own_write}
 use Rattle.ubik_recovery.specs.Record.{RecoveryRecord, held_alone, with_text}
 use Rattle.ubik_recovery.specs.Rules.{recovering}
@@ -57,25 +57,12 @@ module _ (db : Database) (m : Member) (s : Server) (now id : ℕ) (call : List �
       ap (λ (xs : List Change). written_within m s now id call answer image xs (too_large 0 (length s.image) xs)) changes
       ∙ ap (λ (o : Option ℕ). written_within m s now id call answer image (c ∷ cs) o) fits
 
--- ---- who has the version after a commit
+  -- a call whose changes are too many, or none
+  pub too_many : (answer image : List ℕ) (bytes : ℕ) → too_large 0 (length s.image) (changes_of db s.image image) ≡ Some bytes → Leads (written db m s now id call answer image) s (output.Reply id (reply.TooLarge bytes) ∷ []) []
+  too_many answer image bytes large = rw large (record { server = refl; outputs = refl; calls = refl })
 
-size-cons : (a : Bool) (set : List Bool) → size (a ∷ set) ≡ cond a 1 0 + size set
-size-cons a set = sum_by-cons (λ (marked : Bool). cond marked 1 0) a set
-
-none_has : (n : ℕ) → size (replicate n false) ≡ 0
-none_has zero = refl
-none_has (suc n) = omega (arith, size-cons false (replicate n false), none_has n)
-
-one_has : (n me : ℕ) → size (only_at true false n me) ≤ 1
-one_has zero me = omega arith
-one_has (suc n) zero = omega (arith, size-cons true (replicate n false), none_has n)
-one_has (suc n) (suc me) = omega (arith, size-cons false (only_at true false n me), one_has n me)
-
--- one of several is no majority
-pub one_is_few : (n me : ℕ) → 1 < n → is_majority n (only_at true false n me) ≡ false
-one_is_few n me more =
-    let few : size (only_at true false n me) < n / 2 + 1 = omega (arith, one_has n me) in
-    grind (arith, nat_tests)
+  pub changes_nothing : (answer image : List ℕ) → changes_of db s.image image ≡ [] → Leads (written db m s now id call answer image) s (output.Reply id (reply.Ok answer) ∷ []) []
+  changes_nothing answer image none = rw none (record { server = refl; outputs = refl; calls = refl })
 
 pub next_is_newer : (own : Version) → version_lt own (next_version own) ≡ true
 next_is_newer own = grind (arith, nat_tests)

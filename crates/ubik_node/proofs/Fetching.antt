@@ -16,7 +16,7 @@ use Rattle.server_state.specs.Held.{held_image}
 use Rattle.server_state.specs.declared.state.State.{State}
 use Rattle.server_state.specs.State.{announced, server_of, server_with}
 use Rattle.ubik_node.proofs.Received.{held_text}
-use Rattle.ubik_node.proofs.Rested.{drop_none}
+use Rattle.state_laws.proofs.Waiting.{drop_none}
 
 cond_none : (b : Bool) (text : Option ReceivedText) → text ≡ None → cond b None text ≡ None
 cond_none true text is = refl

@@ -12,7 +12,6 @@ pub mod Fetching
 pub mod Fronts
 pub mod Gapless
 pub mod HeldImages
-pub mod Images
 pub mod Least
 pub mod Lending
 pub mod Made
@@ -23,8 +22,8 @@ pub mod Reading
 pub mod Received
 pub mod Relabelled
 pub mod Rested
-pub mod ShortTexts
 pub mod Stepping
 pub mod Stored
 pub mod Turns
+pub mod TurnsAlike
 pub mod TwoCalls

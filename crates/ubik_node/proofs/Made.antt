@@ -1,5 +1,5 @@
 -- What the database makes of a call where the disk tells the image.
-use Rattle.std.proofs.Common.{◌≡◌, ◌≤◌, ℕ, false, List, [], length, Option, Some, None, Ok, IfSome, IsSome, subst}
+use Rattle.std.proofs.Common.{◌≡◌, ◌≤◌, ℕ, false, List, [], length, Option, Some, None, Ok, IfSome, IsSome, refl, subst}
 use Rattle.std.proofs.lemmas.Bool.{false≢true}
 use Rattle.disk_base.specs.Files.{Files}
 use Rattle.db_image.specs.declared.services.CallReply.{CallReply}
@@ -8,6 +8,7 @@ use Rattle.db_image.specs.Standing.{Standing}
 use Rattle.cell_model.specs.Evaluating.{Evaluated, outcome_told}
 use Rattle.cell_model.specs.Step.{Member}
 use Rattle.cell_model.specs.Writes.{turned, write_turn}
+use Rattle.state_laws.specs.Over.{over}
 use Rattle.ubik_store.specs.declared.faults.StoreFault.{StoreFault}
 use Rattle.ubik_store.specs.Store.{image_in}
 use Rattle.ubik_node.specs.declared.evaluations.Evaluation.{Evaluation}
@@ -35,8 +36,8 @@ pub record Turned (d : Standing) (m : Member) (st : State) (now id : ℕ) (call 
 pub turned_so : (d : Standing) → ((image : List ℕ) (now : ℕ) (call : List ℕ) → length image ≤ length (d.database.call image now call).image)
     → (m : Member) (st : State) (files : Option Files) (now id : ℕ) (call : List ℕ) (e : Evaluation) (v : Verdict)
     → IsMadeOf d (image_in files) now call e
-    → ((image : List ℕ) → length st.image ≤ length image → e.changes ≡ changes_of d.database st.image image → (m : Member) (now id : ℕ) (call : List ℕ)
-    → Judges m (server_of st) now id call image v (turned d.database m (server_of st) now id call image e.reply))
+    → ((old image : List ℕ) → length old ≡ length st.image → length old ≤ length image → e.changes ≡ changes_of d.database old image → (m : Member) (now id : ℕ) (call : List ℕ)
+    → Judges m (over (server_of st) old) now id call image v (turned d.database m (over (server_of st) old) now id call image e.reply))
     → IsThere st.image (image_in files) → Turned d m st now id call (IsSome files) v
 turned_so d grows m st files now id call e v made judged there =
     let told = answers_of {E = StoreFault} d (image_in files) now call (Ok e) made in
@@ -47,5 +48,5 @@ turned_so d grows m st files now id call e v made judged there =
       judged = λ tells.
           let outcome = made_here d told.one files st.image now call e tells there told.says in
           subst (λ (r : CallReply). Judges m (server_of st) now id call image v (turned d.database m (server_of st) now id call image r)) outcome.reply
-          (judged image (never_less d grows told.one told.may st.image now call) outcome.changes m now id call);
+          (judged st.image image refl (never_less d grows told.one told.may st.image now call) outcome.changes m now id call);
     }

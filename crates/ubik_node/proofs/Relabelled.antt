@@ -1,23 +1,20 @@
 -- A relabelling: what goes to the others, and the server after it.
 use Rattle.std.proofs.Common.{◌≡◌, ◌≤◌, ◌<◌, ◌++◌, ℕ, zero, suc, Bool, true, false, ltb, Option, Some, None, IfSome, IsSome, List, [], ◌∷◌, length, refl, sym, ap, ◌∙◌, append_assoc, arith}
-use Rattle.std.proofs.lemmas.Bool.{cond_both}
 use Rattle.std.proofs.lemmas.Bool.Decides.{nat_tests}
 use Rattle.std.proofs.lemmas.List.{map-append}
 use Rattle.ubik_types.specs.declared.hosts.Host.{Host}
 use Rattle.ubik_types.specs.declared.versions.Version.{Version}
-use Rattle.ubik_types.specs.Phase.{Polled, PhaseRecord, Spread, Send, Ready}
-use Rattle.ubik_types.specs.Quorum.{is_majority}
+use Rattle.ubik_types.specs.Phase.{Polled}
 use Rattle.disk_base.specs.Files.{Files}
 use Rattle.ubik_store.specs.Store.{image_in}
 use Rattle.ubik_calls.specs.declared.packets.Body.{Body}
-use Rattle.cell_model.specs.Node.{Flight, Server}
+use Rattle.cell_model.specs.Node.{Server}
 use Rattle.cell_model.specs.Pieces.{piece_from}
 use Rattle.cell_model.specs.Polls.{entry_at}
 use Rattle.cell_model.specs.Recovery.{spread_answer}
-use Rattle.cell_model.specs.Step.{Member, Shown, Stepped, announcing, cell_size, outputs_of, quiet, showing, with_phase}
+use Rattle.cell_model.specs.Step.{Member, Shown, outputs_of}
 use Rattle.cell_model.specs.Step.{sends_from, sends_to_each}
 use Rattle.cell_model.specs.declared.events.Output.{Output}
-use Rattle.cell_model.specs.Writes.{ended_write, flight_settled, settled, settled_in}
 use Rattle.server_rules.proofs.Turns.{sends_same}
 use Rattle.server_state.specs.declared.spreading.Given.{Given}
 use Rattle.server_state.specs.Spreading.{given_bodies}
@@ -63,25 +60,3 @@ relabel_outputs m poll old after number total piece first mid last rest inside s
 pub piece_known : (files : Option Files) (piece image : List ℕ) (at : ℕ) → IsSome files → IfSome (image_in files) (λ there. piece ≡ piece_from there at) → IfSome (image_in files) (λ there. there ≡ image) → piece ≡ piece_from image at
 piece_known None piece image at told is there = absurd cc
 piece_known (Some fs) piece image at told is there = is ∙ ap (λ (bytes : List ℕ). piece_from bytes at) there
-
--- what holders lead to: a version that was sent is announced, a write is over, or nothing changes
-pub settled_is : (m : Member) (s : Server) (P : Stepped → Type 0) → P (quiet s)
-    → ((poll : Polled) (spread : Spread) → s.phase ≡ Send poll spread → P (showing (with_phase s (Ready poll spread s.version)) (announcing s.version ∷ [])))
-    → ((poll : Polled) (spread : Spread) (announced : Version) (f : Flight) → s.phase ≡ Ready poll spread announced → P (ended_write s f poll spread announced))
-    → P (settled m s)
-settled_is m s P rests sent over = by s.phase refl
-  where
-    by_flight : (poll : Polled) (spread : Spread) (announced : Version) → s.phase ≡ Ready poll spread announced → (o : Option Flight)
-        → P (flight_settled m s poll spread announced o)
-    by_flight poll spread announced is None = rests
-    by_flight poll spread announced is (Some f) =
-        cond_both (is_majority (cell_size m) spread.holders) _ _ P (λ _. over poll spread announced f is) (λ _. rests)
-
-    by : (p : PhaseRecord) → s.phase ≡ p → P (settled_in m s p)
-    by (Send poll spread) is = cond_both (is_majority (cell_size m) spread.holders) _ _ P (λ _. sent poll spread is) (λ _. rests)
-    by (Ready poll spread announced) is = by_flight poll spread announced is s.flight
-    by other is = rests
-
--- no durable call
-pub settled_calls : (m : Member) (s : Server) → (settled m s).calls ≡ []
-settled_calls m s = settled_is m s (λ (t : Stepped). t.calls ≡ []) refl (λ poll spread is. refl) (λ poll spread announced f is. refl)

@@ -1,17 +1,12 @@
--- A step after the lapse.
-use Rattle.std.proofs.Common.{◌≡◌, ℕ, zero, suc, Bool, false, Option, Some, None, List, [], ◌∷◌, ◌++◌, drop, replicate, refl, sym, ap, ◌∙◌}
-use Rattle.std.specs.Prelude.{count_by}
+-- What the lapse gave out, and comes back.
+use Rattle.std.proofs.Common.{◌≡◌, Option, Some, None, refl, sym, ap, ◌∙◌}
 use Rattle.std.proofs.lemmas.Bool.{cond_both}
 use Rattle.ubik_types.specs.declared.phases.Phase.{Phase}
 use Rattle.ubik_types.specs.declared.phases.Phase.TheVariants as phase
 use Rattle.ubik_types.specs.declared.versions.Version.{Version}
 use Rattle.ubik_types.specs.Phase.{phase_of}
-use Rattle.cell_model.specs.Evaluating.{Databases}
-use Rattle.cell_model.specs.declared.events.NodeEvent.{NodeEvent}
-use Rattle.cell_model.specs.Lapse.{lapsed}
 use Rattle.cell_model.specs.Node.{HaltedServer, ReceivedText, Server, halted_from}
-use Rattle.cell_model.specs.NodeRule.{step_by, handled}
-use Rattle.cell_model.specs.Step.{Member, Shown, is_reply}
+use Rattle.cell_model.specs.Step.{Member}
 use Rattle.ubik_recovery.specs.Record.{RecoveryRecord, is_fetch, phase_record, record_in, restored}
 use Rattle.server_state.specs.declared.lapse.Dropped.{Dropped}
 use Rattle.server_state.specs.declared.state.State.{State}
@@ -19,29 +14,9 @@ use Rattle.server_state.specs.Lapsing.{returned}
 use Rattle.server_state.specs.State.{server_of}
 use Rattle.server_state.specs.Writing.{announced_of, flight_of, own_of, waiting_of}
 
--- the choices of a step whose lapse shows this: its refusals found memory, and then those of the rule
-abbrev pub short_behind : List Shown → List Bool → List Bool
-short_behind shown short = replicate (count_by (λ (one : Shown). is_reply one.output) shown) false ++ short
-
-pub drop_none : {A : Type 0} (xs : List A) → drop 0 xs ≡ xs
-drop_none [] = refl
-drop_none (first ∷ rest) = refl
-
-pub drop_past : (n : ℕ) (short : List Bool) → drop n (replicate n false ++ short) ≡ short
-drop_past zero short = drop_none short
-drop_past (suc n) short = drop_past n short
-
 -- what is so of the server that the lapse leaves, at its place
 pub lapsed_there : (P : Member → Server → Type 0) {m at : Member} {s mid : Server} → s ≡ mid → at ≡ m → P m s → P at mid
 lapsed_there P is same so = rw (same, ← is) so
-
--- a step shows what the lapse shows, and then is what the event makes of the server that the lapse leaves
-pub step_comes : (dbs : Databases) (m : Member) (s mid : Server) (now : ℕ) (e : NodeEvent) (short : List Bool) → (lapsed m s now).server ≡ mid → (lapsed m s now).calls ≡ []
-    → (let u = handled dbs m mid now e short in
-    step_by dbs m s now e (short_behind (lapsed m s now).shown short) ≡ record { server = u.server; calls = u.calls; shown = (lapsed m s now).shown ++ u.shown })
-unfolding step_by
-step_comes dbs m s mid now e short server calls =
-    rw (drop_past (count_by (λ (one : Shown). is_reply one.output) (lapsed m s now).shown) short, server, calls) refl
 
 -- what is given out comes back over what the server received since
 abbrev left_over : RecoveryRecord → Option ReceivedText → RecoveryRecord

@@ -1,18 +1,14 @@
 -- The turns of those that wait.
-use Rattle.std.proofs.Common.{◌≡◌, ◌++◌, ◌⊎◌, inl, inr, ⊎_elim, ℕ, zero, suc, ◌<◌, Bool, true, false, cond, eqb, Option}
-use Rattle.std.proofs.Common.{Some, None, List, [], ◌∷◌, length, drop, take, replicate, slice_get, IsErrAnd, IsErrOf, IsOk, IsSome}
+use Rattle.std.proofs.Common.{◌≡◌, ◌++◌, ◌⊎◌, inl, ⊎_elim, ℕ, zero, suc, ◌<◌, Bool, true, false, Option}
+use Rattle.std.proofs.Common.{Some, None, List, [], ◌∷◌, length, drop, take, slice_get, IsErrAnd, IsErrOf, IsOk, IsSome}
 use Rattle.std.proofs.Common.{Result, Ok, Err, refl, sym, ap, subst, ◌∙◌, append_assoc, arith}
 use Rattle.std.specs.Option.{option_map}
-use Rattle.std.specs.Prelude.{OnErr, count_by}
+use Rattle.std.specs.Prelude.{OnErr}
 use Rattle.std.proofs.lemmas.Bool.{false≢true}
 use Rattle.std.proofs.lemmas.List.{append-nil, map-append, take_all}
-use Rattle.ubik_types.specs.declared.images.Change.{Change}
-use Rattle.ubik_types.specs.Logged.{too_large}
-use Rattle.ubik_types.specs.Phase.{PhaseRecord, NoPhase, Ready, phase_of}
+use Rattle.ubik_types.specs.Phase.{PhaseRecord, NoPhase}
 use Rattle.disk_base.specs.declared.disks.Disk.{Ghosts}
-use Rattle.db_image.specs.declared.services.CallReply.{CallReply}
-use Rattle.db_image.specs.declared.services.CallReply.TheVariants as call_reply
-use Rattle.db_image.specs.Database.{Database, changes_of}
+use Rattle.db_image.specs.Database.{Database}
 use Rattle.ubik_store.specs.declared.faults.StoreFault.{StoreFault}
 use Rattle.ubik_store.specs.declared.faults.StoreFault.TheVariants.{DiskFault}
 use Rattle.ubik_store.proofs.Telling.{ok_map}
@@ -20,9 +16,12 @@ use Rattle.cell_model.specs.declared.events.Output.{Output}
 use Rattle.cell_model.specs.Durable.{Made}
 use Rattle.cell_model.specs.Evaluating.{Databases, behind_first}
 use Rattle.cell_model.specs.Node.{Server, Waiting, halted_from}
-use Rattle.cell_model.specs.Step.{Member, Shown, Stepped, cell_size, followed, is_ready, is_reply, is_short, outputs_of, quiet, short_after}
-use Rattle.cell_model.specs.Writes.{is_free, is_free_in, last_counter, next_turns, settled, settled_with_turns, turned}
-use Rattle.cell_model.specs.Writes.{write_turn, written_in, written_within}
+use Rattle.cell_model.specs.Step.{Member, Shown, Stepped, cell_size, outputs_of, quiet}
+use Rattle.cell_model.specs.Writes.{is_free, is_free_in, next_turns, write_turn}
+use Rattle.state_laws.specs.Over.{replies}
+use Rattle.state_laws.specs.Waiting.{first_turn, stepped, with_line}
+use Rattle.state_laws.proofs.Turning.{turn_is}
+use Rattle.state_laws.proofs.Waiting.{turn_alone, turn_then}
 use Rattle.site_writes.specs.OwnWrite.{OwnRecord}
 use Rattle.ubik_node.specs.Disk.{FailsIn}
 use Rattle.ubik_node.specs.Node.{Ends, Held, IsMade, durable_in}
@@ -30,12 +29,9 @@ use Rattle.ubik_node.specs.Serving.{IsRepliedTo}
 use Rattle.server_state.specs.State.{ShowsBehind}
 use Rattle.server_state.specs.Writing.{without_first}
 use Rattle.ubik_node.proofs.Calling.{after_reads, ended, known_so}
-use Rattle.ubik_node.proofs.Committing.{one_is_few}
 use Rattle.ubik_node.proofs.Durables.{fails_none}
 use Rattle.ubik_node.proofs.Decided.{decided_ends}
 use Rattle.ubik_node.proofs.Endings.{ends_as, never_short, same_ends}
-use Rattle.ubik_node.proofs.Relabelled.{settled_is}
-use Rattle.ubik_node.proofs.Rested.{drop_none, drop_past}
 
 -- no write can begin where one is in flight
 pub writes_busy : (p : PhaseRecord) (own : Option OwnRecord) → IsSome own
@@ -49,62 +45,6 @@ pub front_whole : (r : Result (Unit {0}) StoreFault) (out : List Output) → OnE
 front_whole (Ok done) out = tt
 front_whole (Err why) out = take_all (length out) out (omega arith)
 
--- how many replies these are
-abbrev pub replies : List Shown → ℕ
-replies shown = count_by (λ (one : Shown). is_reply one.output) shown
-
--- after a turn no write can begin; or its call was replied to, and nothing changed
-abbrev pub IsTurn : Server → Stepped → Type 0
-IsTurn s t = (is_free t.server ≡ false) ⊎ ((t.server ≡ s) × (t.calls ≡ []) × (replies t.shown ≡ 1))
-
-module _ (m : Member) (s : Server) (now id : ℕ) (call : List ℕ) (others : 1 < cell_size m) where
-  written_turns : (answer image : List ℕ) (changes : List Change) (p : PhaseRecord) → s.phase ≡ p
-      → IsTurn s (written_in m s now id call answer image changes p)
-  written_turns answer image changes (Ready poll spread announced) is = inl (let few = one_is_few (cell_size m) m.me others in rw few refl)
-  written_turns answer image changes other is = inl (ap (λ (p : PhaseRecord). is_free_in p s.flight) is)
-
-  counted_turns : (answer image : List ℕ) (changes : List Change) (b : Bool)
-      → IsTurn s (cond b (last_counter m s now id) (written_in m s now id call answer image changes s.phase))
-  counted_turns answer image changes true = inl refl
-  counted_turns answer image changes false = written_turns answer image changes s.phase refl
-
-  small_turns : (answer image : List ℕ) (changes : List Change) (o : Option ℕ)
-      → IsTurn s (written_within m s now id call answer image changes o)
-  small_turns answer image changes (Some bytes) = inr (refl, refl, refl)
-  small_turns answer image [] None = inr (refl, refl, refl)
-  small_turns answer image (change ∷ changes) None = counted_turns answer image (change ∷ changes) (eqb s.version.counter 2147483647)
-
-  replied_turns : (db : Database) (image : List ℕ) (r : CallReply) → IsTurn s (turned db m s now id call image r)
-  replied_turns db image (call_reply.Done answer) =
-      small_turns answer image (changes_of db s.image image) (too_large 0 (length s.image) (changes_of db s.image image))
-  replied_turns db image other = inr (refl, refl, refl)
-
-  pub turn_is : (db : Database) (short : Bool) → IsTurn s (write_turn db m s now id call short)
-  turn_is db true = inr (refl, refl, refl)
-  turn_is db false = replied_turns db (db.call s.image now call).image (db.call s.image now call).reply
-
--- where no write can begin nobody has a turn
-pub turns_rest : (dbs : Databases) (m : Member) (now : ℕ) (waiting : List Waiting) (s : Server) (short : List Bool) → is_free s ≡ false
-    → next_turns dbs m now waiting s short ≡ quiet s
-turns_rest dbs m now [] s short busy = refl
-turns_rest dbs m now (w ∷ waiting) s short busy = rw busy refl
-
--- the first of those that wait has its turn, and then the others
-abbrev pub turns_from : Databases → Member → ℕ → List Waiting → Stepped → List Bool → Stepped
-turns_from dbs m now waiting t short = followed t (λ after. next_turns (behind_first dbs) m now waiting after (short_after t.shown short))
-
-turns_first : (dbs : Databases) (m : Member) (now : ℕ) (w : Waiting) (waiting : List Waiting) (s : Server) (short : List Bool)
-    → is_free s ≡ true
-    → next_turns dbs m now (w ∷ waiting) s short ≡ turns_from dbs m now waiting
-    (write_turn (dbs 0) m (record s { waiting = waiting }) now w.id w.call (is_short short)) short
-turns_first dbs m now w waiting s short free = rw free refl
-
-abbrev with_line : Server → List Waiting → Server
-with_line s waiting = record s { waiting = waiting }
-
-abbrev stepped : Server → List Made → List Shown → Stepped
-stepped s calls shown = record { server = s; calls = calls; shown = shown }
-
 -- ---- a rule that begins with a change of the server that a halted one does not tell
 
 module _ {D : Type 0} (g : Ghosts D) {knows : Type 0} {t : Stepped} {before after : List Output} where
@@ -115,32 +55,6 @@ module _ {D : Type 0} (g : Ghosts D) {knows : Type 0} {t : Stepped} {before afte
   went_on n s place m r same keeps member fine ends = decided_ends g n s place r refl (λ known. known) same member keeps (never_short r (s ≡ n.server) fine) ends
 
 -- ---- a turn
-
-followed_rest : (t : Stepped) (next : Server → Stepped) → next t.server ≡ quiet t.server → followed t next ≡ t
-followed_rest t next is = rw (is, append-nil t.calls, append-nil t.shown) refl
-
-module _ (dbs : Databases) (m : Member) (s : Server) (now : ℕ) (w : Waiting) (waiting : List Waiting) (b : Bool) (free : is_free s ≡ true)
-    (line : s.waiting ≡ w ∷ waiting) where
-  abbrev turn : Stepped
-  turn = write_turn (dbs 0) m (with_line s waiting) now w.id w.call b
-
-  first_turn : (short : List Bool) → next_turns dbs m now s.waiting s (b ∷ short) ≡ turns_from dbs m now waiting turn (b ∷ short)
-  first_turn short =
-      ap (λ (those : List Waiting). next_turns dbs m now those s (b ∷ short)) line ∙ turns_first dbs m now w waiting s (b ∷ short) free
-
-  -- after it no write can begin
-  turn_alone : is_free turn.server ≡ false → next_turns dbs m now s.waiting s (b ∷ []) ≡ turn
-  turn_alone busy =
-      first_turn []
-      ∙ followed_rest turn (λ after. next_turns (behind_first dbs) m now waiting after (short_after turn.shown (b ∷ [])))
-      (turns_rest (behind_first dbs) m now waiting turn.server (short_after turn.shown (b ∷ [])) busy)
-
-  -- its call was replied to, and nothing changed
-  turn_then : (short : List Bool) → turn.server ≡ with_line s waiting → turn.calls ≡ [] → replies turn.shown ≡ 1
-      → (let u = next_turns (behind_first dbs) m now waiting (with_line s waiting) short in
-      next_turns dbs m now s.waiting s (b ∷ short) ≡ stepped u.server u.calls (turn.shown ++ u.shown))
-  turn_then short same calls one =
-      first_turn short ∙ rw (one, drop_none short, same, calls) refl
 
 named : (db : Database) (now : ℕ) (w : Waiting) (b : Bool) (m place : Member) (s t : Server) → place ≡ m → s ≡ t
     → write_turn db m t now w.id w.call b ≡ write_turn db place s now w.id w.call b
@@ -172,7 +86,7 @@ module _ {D : Type 0} (g : Ghosts D) {knows : Type 0} (dbs : Databases) (now : �
       (λ failed. ap halted_from is) at fine (same_ends g (named (dbs 0) now w b n.member place s (with_line n.server waiting) at is) ends))
     where
       by : (r : Result (Unit {0}) StoreFault) → IsErrOf r DiskFault ⊎ IsOk r → (IsOk r → is_free last.server ≡ false)
-          → Ends g knows (turn dbs n.member n.server now w waiting b free line) before after n last r
+          → Ends g knows (first_turn dbs n.member now n.server w waiting b) before after n last r
           → Ends g knows (next_turns dbs n.member now n.server.waiting n.server (b ∷ [])) before after n last r
       by (Ok done) fine busy one =
           known_so g (Ok done) (λ known.
@@ -204,7 +118,7 @@ module _ {D : Type 0} (g : Ghosts D) {knows : Type 0} (dbs : Databases) (now : �
       let same : u ≡ next_turns (behind_first dbs) n.member now waiting (with_line n.server waiting) short =
       ap (λ (k : Member). next_turns (behind_first dbs) k now mid.server.waiting mid.server short) (ends.member ∙ at)
       ∙ ap (λ (x : Server). next_turns (behind_first dbs) n.member now x.waiting x short) (replied.server ∙ is) in
-      let t = turn dbs n.member n.server now w waiting b free line in
+      let t = first_turn dbs n.member now n.server w waiting b in
       let one = went_on g n s place last r (ap durable_in is) (λ failed. ap halted_from is) at fine
       (after_reads g (record n { server = s; member = place }) mid.store last r replied.reads (λ none. none)
       (subst (λ (h : Held D). Ends g more u between after h last r) mid_is later)) in
@@ -246,32 +160,6 @@ nobody_left dbs m now s after short out none is =
     ap (λ (those : List Waiting). with_line s those) (none ∙ sym (ap (λ (those : List Waiting). drop 1 those) none)) ∙ sym is in
     subst (λ (t : Stepped). ShowsBehind t after out out) (sym rests)
     (record { server = same; calls = refl; outputs = sym (append-nil out) })
-
--- ---- a write that a majority has, and then the turns
-
-pub settled_comes : (dbs : Databases) (m : Member) (s mid : Server) (now : ℕ) (short : List Bool) → (settled m s).server ≡ mid
-    → (settled m s).calls ≡ []
-    → (let u = next_turns dbs m now mid.waiting mid short in
-    settled_with_turns dbs m s now (replicate (replies (settled m s).shown) false ++ short) ≡ stepped u.server u.calls
-    ((settled m s).shown ++ u.shown))
-settled_comes dbs m s mid now short server calls =
-    rw (drop_past (replies (settled m s).shown) short, server, calls) refl
-
-pub settled_line : (m : Member) (s : Server) → (settled m s).server.waiting ≡ s.waiting
-settled_line m s =
-    settled_is m s (λ (t : Stepped). t.server.waiting ≡ s.waiting) refl (λ poll spread is. refl) (λ poll spread announced f is. refl)
-
--- A server that serves goes on to, as a halted one tells; so does one at which nobody waits, or one whose disk does not fail.
-pub settled_halts : (m : Member) (s mid : Server) → (settled m s).server ≡ mid
-    → (is_ready s.phase ≡ false → halted_from mid ≡ halted_from s) → halted_from mid ≡ halted_from s
-settled_halts m s mid is rests = by (is_ready s.phase) refl
-  where
-    by : (b : Bool) → is_ready s.phase ≡ b → halted_from mid ≡ halted_from s
-    by true ready =
-        sym (ap halted_from is) ∙ settled_is m s (λ (t : Stepped). halted_from t.server ≡ halted_from s) refl
-        (λ poll spread sends. absurd (false≢true (ap is_ready (sym sends) ∙ ready)))
-        (λ poll spread announced f serves. ap (λ (p : PhaseRecord). record (halted_from s) { phase = phase_of p }) (sym serves))
-    by false ready = rests ready
 
 -- ---- the line
 

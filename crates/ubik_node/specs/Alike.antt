@@ -1,26 +1,27 @@
--- Steps as they are over any disk, also one that tells nothing: of images only the lengths count, and what comes of an evaluation is free (own).
-use Rattle.std.specs.Prelude.{◌≡◌, ◌≢◌, ◌≤◌, ◌⊎◌, ◌++◌, ℕ, Bool, true, IfSome, IsSome, Option, Some, None, List, [], ◌∷◌, length, map, replicate}
-use Rattle.disk_base.specs.Files.{Files}
+-- Steps as they are over any disk, also one that tells nothing: over some image of the server's length, and but for the bytes of images; what comes of
+-- an evaluation is free (own).
+use Rattle.std.specs.Prelude.{◌≡◌, ◌≤◌, ◌<◌, ◌⊎◌, ◌++◌, ℕ, Bool, false, IfSome, Option, Some, None, List, [], ◌∷◌, length, map, replicate}
 use Rattle.db_image.specs.Database.{Database}
 use Rattle.db_image.specs.Ends.{IsShort, KeepsGrammar, end_of}
 use Rattle.ubik_calls.specs.declared.packets.Body.{Body}
 use Rattle.ubik_calls.specs.declared.packets.Body.TheVariants as body
 use Rattle.cell_model.specs.declared.events.NodeEvent.{NodeEvent}
-use Rattle.cell_model.specs.declared.events.NodeEvent.TheVariants as events
 use Rattle.cell_model.specs.declared.events.Output.{Output}
 use Rattle.cell_model.specs.declared.events.Output.TheVariants as output
 use Rattle.cell_model.specs.Evaluating.{Databases, Evaluated, Told, told_by}
-use Rattle.cell_model.specs.Lapse.{lapsed}
 use Rattle.cell_model.specs.Node as model
-use Rattle.cell_model.specs.Node.{Flight, Server, Waiting}
+use Rattle.cell_model.specs.Node.{Flight, Server}
 use Rattle.cell_model.specs.NodeRule.{step_by, refusals}
 use Rattle.cell_model.specs.Asks.{read}
-use Rattle.cell_model.specs.Step.{Basis, Member, Stepped, is_short, outputs_of}
-use Rattle.ubik_node.specs.Evaluation.{is_evaluated}
-use Rattle.ubik_node.specs.declared.nodes.StepEnd.{StepEnd}
-use Rattle.ubik_node.specs.declared.nodes.StepEnd.TheVariants.{Done, Halted, NoMemory}
+use Rattle.cell_model.specs.Step.{Basis, Member, Stepped, cell_size, is_short, outputs_of}
+use Rattle.cell_model.specs.Writes.{is_free, settled_with_turns, write_turn}
+use Rattle.state_laws.specs.Over.{over}
+use Rattle.server_state.specs.State.{ShowsBehind}
 use Rattle.server_rules.specs.declared.acts.Act.{Act}
 use Rattle.server_rules.specs.declared.acts.Act.TheVariants as act
+use Rattle.server_rules.specs.Acts.{stepped_by}
+use Rattle.ubik_node.specs.declared.nodes.StepEnd.{StepEnd}
+use Rattle.ubik_node.specs.declared.nodes.StepEnd.TheVariants.{Done, Halted, NoMemory}
 
 -- ---- what is left of a server and of its packets without the bytes of images
 
@@ -57,11 +58,10 @@ pub record IsAlike (t : Stepped) (after : Server) (before out : List Output) : T
 
 -- ---- what comes of evaluations
 
--- What may come of a call, whatever the image holds: anything within the sizes that keeps the grammar. Only a writing call changes the image,
--- and none makes it shorter.
+-- What may come of a call, whatever the image holds: anything within the sizes that keeps the grammar. None makes the image shorter, and the rules
+-- take another image from the turn of a writing call alone.
 pub record MayBe (db : Database) (e : Evaluated) : Type 0 where
   pub grammar : KeepsGrammar (db.writes e.call) (end_of e.outcome.reply)
-  pub rests : db.writes e.call ≢ Some true → e.outcome.image ≡ e.image
   pub short : IsShort (end_of e.outcome.reply)
   pub longer : length e.image ≤ length e.outcome.image
 
@@ -80,21 +80,15 @@ pub record Frees (db : Database) : Type 0 where
 abbrev pub free_dbs : (db : Database) → Frees db → Databases
 free_dbs db free = told_by db free.told
 
--- a rule was made, whatever came of its evaluations
-abbrev pub AlikeSo : (db : Database) → (Frees db → Stepped) → (after : Server) → (before out : List Output) → Type 0
-AlikeSo db t after before out = (free : Frees db) × IsAlike (t free) after before out
+-- A rule was made at the server, but over some image of its length: that from which the changes of a write lead. Whatever came of its evaluations.
+abbrev pub AlikeSo : (db : Database) → Server → (Server → Frees db → Stepped) → (after : Server) → (before out : List Output) → Type 0
+AlikeSo db s t after before out =
+    (image : List ℕ) × (length image ≡ length s.image) × (free : Frees db) × IsAlike (t (over s image) free) after before out
 
--- a call that reads an image was answered so, whatever came of it
-abbrev pub ReadsAlike : Database → Server → (now id : ℕ) → (call image : List ℕ) → (after : Server) → (before out : List Output) → Type 0
-ReadsAlike db s now id call image after before out =
-    (free : Frees db)
-    × ((basis : Basis) → IsAlike (read (free_dbs db free 0) s now id call image basis (is_short free.short)) after before out)
-
--- A step that ended so: where it was made, it is one of the rules but for the bytes of images. One that was not made left the server as it was,
--- or halted it.
+-- A step that ended so: where it was made, it is one of the rules. One that was not made left the server as it was, or halted it.
 abbrev pub StepsAlike : Database → Member → StepEnd → NodeEvent → ℕ → (before after : model.Node) → List Output → Type 0
 StepsAlike db m Done event now (model.Up s) after outputs =
-    (new : Server) × (after ≡ model.Up new) × AlikeSo db (λ free. step_by (free_dbs db free) m s now event free.short) new [] outputs
+    (new : Server) × (after ≡ model.Up new) × AlikeSo db s (λ at free. step_by (free_dbs db free) m at now event free.short) new [] outputs
 StepsAlike db m Done event now _ after outputs = ⊥
 StepsAlike db m Halted event now (model.Up s) after outputs =
     (after ≡ model.Halted (model.halted_from s)) × (outputs ≡ outputs_of (refusals event))
@@ -103,29 +97,23 @@ StepsAlike db m Halted event now model.Down after outputs = ⊥
 StepsAlike db m NoMemory event now (model.Up s) after outputs = (after ≡ model.Up s) × (outputs ≡ [])
 StepsAlike db m NoMemory event now _ after outputs = ⊥
 
--- ---- where a call that writes has its turn, which asks for a disk that tells its files
+-- ---- parts of a step
 
--- no call waits, or the disk tells its files
-abbrev pub NobodyOr : List Waiting → (tells : Type 0) → Type 0
-NobodyOr waiting tells = (waiting ≡ []) ⊎ tells
+-- a call that reads an image was answered so, whatever came of it
+abbrev pub ReadsAlike : Database → Server → (now id : ℕ) → (call image : List ℕ) → (after : Server) → (before out : List Output) → Type 0
+ReadsAlike db s now id call image after before out =
+    (free : Frees db)
+    × ((basis : Basis) → IsAlike (read (free_dbs db free 0) s now id call image basis (is_short free.short)) after before out)
 
--- with such a packet a holder may come, and then those that wait have their turns
-abbrev pub NeedsHolder : Body → List Waiting → (tells : Type 0) → Type 0
-NeedsHolder (body.VersionIs poll version) waiting tells = NobodyOr waiting tells
-NeedsHolder (body.VersionKept version) waiting tells = NobodyOr waiting tells
-NeedsHolder _ waiting tells = Unit {0}
+-- The turn of a writing call. Where others may have theirs behind it, it was only replied to, and would be so over each image of the length.
+abbrev pub TurnsAlike : Database → Member → Server → (now id : ℕ) → List ℕ → (after : Server) → (before out : List Output) → Type 0
+TurnsAlike db m s now id call after before out =
+    (let turn : Server → Frees db → Stepped = λ at free. write_turn (free_dbs db free 0) m at now id call (is_short free.short) in
+    ((after ≡ s) × ((image : List ℕ) → length image ≡ length s.image → (free : Frees db) × ShowsBehind (turn (over s image) free) (over s image) before out))
+    ⊎ ((1 < cell_size m → is_free after ≡ false) × AlikeSo db s turn after before out))
 
-abbrev pub NeedsTurnThen : Database → Member → Server → NodeEvent → ℕ → Option Files → Type 0
-NeedsTurnThen db m s (events.Ask id call) now files = db.writes call ≡ Some true → is_evaluated m s now (db.writes call) ≡ true → IsSome files
-NeedsTurnThen db m s (events.Packet p) now files = NeedsHolder p.body s.waiting (IsSome files)
-NeedsTurnThen db m s events.RecoverTurn now files = Unit {0}
-NeedsTurnThen db m s events.BeaconTurn now files = Unit {0}
-
-abbrev pub NeedsTurn : Database → Member → model.Node → NodeEvent → ℕ → Option Files → Type 0
-NeedsTurn db m (model.Up s) event now files = NeedsTurnThen db m (lapsed m s now).server event now files
-NeedsTurn db m _ event now files = Unit {0}
-
--- so of an act
-abbrev pub ActNeedsTurn : Act → List Waiting → (tells : Type 0) → Type 0
-ActNeedsTurn act.Settle waiting tells = NobodyOr waiting tells
-ActNeedsTurn _ waiting tells = Unit {0}
+-- what an act comes to: an image is free only in turns
+abbrev pub ActsAlike : Database → Member → ℕ → Act → Server → (after : Server) → (before out : List Output) → Type 0
+ActsAlike db m now act.Settle s after before out = AlikeSo db s (λ at free. settled_with_turns (free_dbs db free) m at now free.short) after before out
+ActsAlike db m now other s after before out =
+    (dbs : Databases) (short : List Bool) → IsAlike (stepped_by dbs m now short s other) after before out

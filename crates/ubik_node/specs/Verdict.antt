@@ -6,12 +6,15 @@ use Rattle.ubik_types.specs.declared.versions.TheConstants.{MAX_COUNTER}
 use Rattle.ubik_types.specs.Image.{effect}
 use Rattle.ubik_types.specs.Logged.{logged, too_large}
 use Rattle.db_image.specs.Blocks.{PutSome}
+use Rattle.db_image.specs.Database.{Database}
+use Rattle.db_image.specs.declared.services.CallReply.{CallReply}
 use Rattle.cell_model.specs.declared.events.Output.{Output}
 use Rattle.cell_model.specs.declared.events.Output.TheVariants as output
 use Rattle.cell_model.specs.Durable.{Made}
 use Rattle.cell_model.specs.Node.{Server}
 use Rattle.cell_model.specs.Step.{Member, Stepped, outputs_of}
-use Rattle.cell_model.specs.Writes.{last_counter, written_in}
+use Rattle.cell_model.specs.Writes.{last_counter, turned, written_in}
+use Rattle.state_laws.specs.Over.{over}
 use Rattle.ubik_store.specs.Gaps.{CutsNoPut}
 use Rattle.server_state.specs.Plain.{IsAnswer, IsPlainReply}
 use Rattle.ubik_node.specs.declared.verdicts.Verdict.{Verdict}
@@ -45,3 +48,12 @@ Judges m s now id call image (verdict.Reply told) t = Leads t s (output.Reply id
 Judges m s now id call image verdict.NewPoll t = t ≡ last_counter m s now id
 Judges m s now id call image (verdict.Commit answer changes) t =
     IsWritten s.image image changes × (t ≡ written_in m s now id call answer image changes s.phase)
+
+-- So over an image that is not told: a reply is one over each image of its length, and what else is done is so over some image of it.
+abbrev pub JudgesSome : Database → Member → Server → (now id : ℕ) → (call : List ℕ) → CallReply → Verdict → Type 0
+JudgesSome db m s now id call given (verdict.Reply told) =
+    (old : List ℕ) → length old ≡ length s.image → (image : List ℕ) × (length old ≤ length image)
+    × Leads (turned db m (over s old) now id call image given) (over s old) (output.Reply id told ∷ []) []
+JudgesSome db m s now id call given v =
+    (old image : List ℕ) × (length old ≡ length s.image) × (length old ≤ length image)
+    × Judges m (over s old) now id call image v (turned db m (over s old) now id call image given)

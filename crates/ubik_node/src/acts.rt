@@ -21,7 +21,7 @@ use ubik_store::StoreFault;
 use ubik_types::{Bytes, Host};
 
 impl<D: Disk, V: DraftService> Node<D, V> {
-    ghost use Rattle.ubik_node.specs.Alike.{ActNeedsTurn, AlikeSo, IsAlike, NeedsHolder, free_dbs};
+    ghost use Rattle.ubik_node.specs.Alike.{ActsAlike, AlikeSo, IsAlike, free_dbs};
     ghost use Rattle.ubik_node.specs.Node.{Ends, EndsSo, held, Knows, NeedsFiles, own_member, up_server};
 
     /// A packet of a server of the cell: what is to be done is decided, and then done.
@@ -41,8 +41,8 @@ impl<D: Disk, V: DraftService> Node<D, V> {
         ensures ends { EndsSo D.Disk V.standing (NeedsFiles packet.now (IsSome (D.files self.old.store.disk)))
             (λ o. received_from (dbs_of o) (own_member self.old) (up_server self.old) now host from packet.now o.short)
             out.old out.new (held self.old) (held self.new) result }
-        ensures alike { NeedsHolder packet.now (up_server self.old).waiting (IsSome (D.files self.old.store.disk)) → OnOk result (AlikeSo V.standing.database
-            (λ free. received_from (free_dbs V.standing.database free) (own_member self.old) (up_server self.old) now host from packet.now free.short)
+        ensures alike { OnOk result (AlikeSo V.standing.database (up_server self.old)
+            (λ at free. received_from (free_dbs V.standing.database free) (own_member self.old) at now host from packet.now free.short)
             (up_server self.new) out.old out.new) }
         ensures memory { BodyTakesNoMemory packet.now → IsErrOf result StoreFault.DiskFault ⊎ IsOk result }
     {
@@ -77,8 +77,7 @@ impl<D: Disk, V: DraftService> Node<D, V> {
         ensures ends { EndsSo D.Disk V.standing (ActNeeds act.entry (Knows D.Disk self.old) (IsSome (D.files self.old.store.disk)))
             (λ o. stepped_by (dbs_of o) (own_member self.old) now o.short (up_server self.old) act.entry)
             out.old out.new (held self.old) (held self.new) result }
-        ensures alike { ActNeedsTurn act.entry (up_server self.old).waiting (IsSome (D.files self.old.store.disk)) → OnOk result (AlikeSo V.standing.database
-            (λ free. stepped_by (free_dbs V.standing.database free) (own_member self.old) now free.short (up_server self.old) act.entry)
+        ensures alike { OnOk result (ActsAlike V.standing.database (own_member self.old) now act.entry (up_server self.old)
             (up_server self.new) out.old out.new) }
         ensures memory { ¬ MayEndShort act.entry → IsErrOf result StoreFault.DiskFault ⊎ IsOk result }
         ensures fine { ¬ MayFail act.entry → IsOk result }

@@ -27,7 +27,8 @@ impl<D: Disk, V: DraftService> Node<D, V> {
     ghost use Rattle.cell_model.specs.Asks.{asked};
     ghost use Rattle.cell_model.specs.Step.{is_short};
     ghost use Rattle.cell_model.specs.Writes.{announced_image, is_free, next_version, write_turn, written_in};
-    ghost use Rattle.ubik_node.specs.Alike.{AlikeSo, ReadsAlike, free_dbs};
+    ghost use Rattle.state_laws.specs.Over.{over};
+    ghost use Rattle.ubik_node.specs.Alike.{AlikeSo, IsAlike, ReadsAlike, TurnsAlike, free_dbs};
     ghost use Rattle.ubik_node.specs.Choices.{dbs_of};
     ghost use Rattle.ubik_node.specs.Node.{Ends, EndsSo, held, own_member, up_server};
     ghost use Rattle.ubik_node.specs.Serving.{IsRepliedTo, ReadsFrom};
@@ -47,10 +48,8 @@ impl<D: Disk, V: DraftService> Node<D, V> {
             (is_evaluated (own_member self.old) (up_server self.old) now (V.standing.database.writes call.now) ≡ true → IsSome (D.files self.old.store.disk))
             (λ o. asked (dbs_of o 0) (own_member self.old) (up_server self.old) now id call.now (is_short o.short))
             out.old out.new (held self.old) (held self.new) result }
-        ensures alike { (V.standing.database.writes call.now ≡ Some true
-            → is_evaluated (own_member self.old) (up_server self.old) now (V.standing.database.writes call.now) ≡ true
-            → IsSome (D.files self.old.store.disk)) → OnOk result (AlikeSo V.standing.database
-            (λ free. asked (free_dbs V.standing.database free 0) (own_member self.old) (up_server self.old) now id call.now (is_short free.short))
+        ensures alike { OnOk result (AlikeSo V.standing.database (up_server self.old)
+            (λ at free. asked (free_dbs V.standing.database free 0) (own_member self.old) at now id call.now (is_short free.short))
             (up_server self.new) out.old out.new) }
         ensures memory { IsErrOf result StoreFault.DiskFault ⊎ IsOk result }
     {
@@ -121,6 +120,8 @@ impl<D: Disk, V: DraftService> Node<D, V> {
         ensures ends { EndsSo D.Disk V.standing (IsSome (D.files self.old.store.disk))
             (λ o. write_turn (dbs_of o 0) (own_member self.old) (up_server self.old) now id call.now (is_short o.short))
             out.old out.new (held self.old) (held self.new) result }
+        ensures alike { OnOk result (TurnsAlike V.standing.database (own_member self.old) (up_server self.old) now id call.now
+            (up_server self.new) out.old out.new) }
         ensures line { length (waiting_of self.new.state.writes) ≤ length (waiting_of self.old.state.writes) }
         ensures rests { 1 < length self.old.state.cell → OnOk result (is_free (up_server self.new) ≡ true → IsRepliedTo D.Disk out.old out.new (held self.old) (held self.new)) }
         ensures memory { IsErrOf result StoreFault.DiskFault ⊎ IsOk result }
@@ -156,6 +157,8 @@ impl<D: Disk, V: DraftService> Node<D, V> {
         ensures ends { EndsSo D.Disk V.standing (IsSome (D.files self.old.store.disk))
             (λ o. write_turn (dbs_of o 0) (own_member self.old) (up_server self.old) now id call.now false)
             out.old out.new (held self.old) (held self.new) result }
+        ensures alike { OnOk result (TurnsAlike V.standing.database (own_member self.old) (up_server self.old) now id call.now
+            (up_server self.new) out.old out.new) }
         ensures front { OnErr result (take (length out.old) out.new ≡ out.old) }
         ensures line { length (waiting_of self.new.state.writes) ≤ length (waiting_of self.old.state.writes) }
         ensures rests { 1 < length self.old.state.cell → OnOk result (is_free (up_server self.new) ≡ true → IsRepliedTo D.Disk out.old out.new (held self.old) (held self.new)) }
@@ -199,6 +202,9 @@ impl<D: Disk, V: DraftService> Node<D, V> {
         ensures ends { (now : ℕ) (call image : List ℕ) → Ends D.Disk (IsSome (D.files self.old.store.disk) × IsWritten self.old.state.image image changes.now)
             (written_in (own_member self.old) (up_server self.old) now id call answer image changes.now (up_server self.old).phase)
             out.old out.new (held self.old) (held self.new) result }
+        ensures alike { (now : ℕ) (call old image : List ℕ) → length old ≡ length self.old.state.image → IsWritten old image changes.now
+            → OnOk result (IsAlike (written_in (own_member self.old) (over (up_server self.old) old) now id call answer image changes.now
+            (up_server self.old).phase) (up_server self.new) out.old out.new) }
         ensures front { OnErr result (take (length out.old) out.new ≡ out.old) }
         ensures line { length (waiting_of self.new.state.writes) ≤ length (waiting_of self.old.state.writes) }
     {

@@ -1,8 +1,8 @@
 //! What a database makes of a call over the image of a store, or over the one before the write in flight.
-ghost use Rattle.std.specs.Prelude.{◌≡◌, ◌<◌, ◌≤◌, ◌⊎◌, false, IfOk, IfErr, IsErrOf};
+ghost use Rattle.std.specs.Prelude.{◌≡◌, ◌<◌, ◌≤◌, ◌⊎◌, ℕ, false, IfOk, IfErr, IsErrOf};
 ghost use Rattle.std.specs.Option.{option_map};
 ghost use Rattle.disk_base.specs.Runs.{OnlyReads};
-ghost use Rattle.db_image.specs.Blocks.{PutSome};
+ghost use Rattle.db_image.specs.Blocks.{LeadSome, PutSome};
 ghost use Rattle.db_image.specs.Ends.{KeepsGrammar, end_of};
 ghost use Rattle.db_image.specs.Images as images;
 ghost use Rattle.ubik_write.specs.Undo.{image_before};
@@ -38,6 +38,7 @@ fn evaluate_over<I: ImageRead, V: DraftService>(
     requires { I.size image ≤ 16777216 }
     ensures made { IfOk result.1 (IsMadeOf V.standing (I.held image) now call.now) }
     ensures len { IfOk result.1 (λ made. made.len ≡ I.size image) }
+    ensures lead { IfOk result.1 (λ made. (len : ℕ) × LeadSome V.standing.database.head V.standing.database.block (I.size image) len made.changes) }
     ensures grammar { IfOk result.1 (λ made. KeepsGrammar (V.standing.database.writes call.now) (end_of made.reply)) }
     ensures short { IfOk result.1 (λ made. IsShortReply made.reply) }
     ensures puts { IfOk result.1 (λ made. PutSome made.changes) }
@@ -78,6 +79,7 @@ pub fn evaluate<D: Disk, V: DraftService>(
     requires fresh { store.old.failed ≡ false }
     ensures made { IfOk result (IsMadeOf V.standing (image_in (D.files store.old.disk)) now call.now) }
     ensures len { IfOk result (λ made. made.len ≡ store.old.len) }
+    ensures lead { IfOk result (λ made. (len : ℕ) × LeadSome V.standing.database.head V.standing.database.block store.old.len len made.changes) }
     ensures block { 0 < V.standing.database.block }
     ensures grammar { IfOk result (λ made. KeepsGrammar (V.standing.database.writes call.now) (end_of made.reply)) }
     ensures short { IfOk result (λ made. IsShortReply made.reply) }

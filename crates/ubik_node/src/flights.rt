@@ -65,6 +65,8 @@ pub fn flight_over<D: Disk>(
 
 impl<D: Disk, V: DraftService> Node<D, V> {
     ghost use Rattle.cell_model.specs.Writes.{written_in};
+    ghost use Rattle.state_laws.specs.Over.{over};
+    ghost use Rattle.ubik_node.specs.Alike.{IsAlike};
     ghost use Rattle.ubik_node.specs.Node.{Ends, held, own_member, up_server};
     ghost use Rattle.ubik_node.specs.Verdict.{IsWritten};
 
@@ -90,6 +92,9 @@ impl<D: Disk, V: DraftService> Node<D, V> {
         ensures ends { (image : List ℕ) → Ends D.Disk (IsSome (D.files self.old.store.disk) × IsWritten self.old.state.image image changes.now)
             (written_in (own_member self.old) (up_server self.old) now id call.now answer image changes.now (up_server self.old).phase)
             out.old out.new (held self.old) (held self.new) result }
+        ensures alike { (old image : List ℕ) → length old ≡ length self.old.state.image → IsWritten old image changes.now
+            → OnOk result (IsAlike (written_in (own_member self.old) (over (up_server self.old) old) now id call.now answer image changes.now
+            (up_server self.old).phase) (up_server self.new) out.old out.new) }
         ensures writing { OnOk result (IsSome (own_of self.new.state.writes)) }
         ensures front { OnErr result (take (length out.old) out.new ≡ out.old) }
         ensures line { length (waiting_of self.new.state.writes) ≤ length (waiting_of self.old.state.writes) }

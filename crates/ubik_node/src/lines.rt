@@ -1,6 +1,5 @@
 //! The line of those that wait for the write in flight, and their turns.
-ghost use Rattle.std.specs.Prelude.{◌≡◌, ◌≤◌, ◌<◌, ◌⊎◌, [], length, false, Bool, List, IsErrOf, IsOk, IsSome, OnOk};
-ghost use Rattle.cell_model.specs.Evaluating.{Databases};
+ghost use Rattle.std.specs.Prelude.{◌≡◌, ◌≤◌, ◌<◌, ◌⊎◌, [], length, false, IsErrOf, IsOk, IsSome, OnOk};
 ghost use Rattle.cell_model.specs.Writes.{is_free, next_turns, settled_with_turns};
 ghost use Rattle.server_state.specs.Writing.{waiting_of};
 
@@ -11,7 +10,7 @@ use server_state::Outputs;
 use ubik_store::StoreFault;
 
 impl<D: Disk, V: DraftService> Node<D, V> {
-    ghost use Rattle.ubik_node.specs.Alike.{IsAlike};
+    ghost use Rattle.ubik_node.specs.Alike.{AlikeSo, free_dbs};
     ghost use Rattle.ubik_node.specs.Choices.{dbs_of};
     ghost use Rattle.ubik_node.specs.Node.{EndsSo, held, own_member, up_server};
 
@@ -26,8 +25,9 @@ impl<D: Disk, V: DraftService> Node<D, V> {
         ensures ends { EndsSo D.Disk V.standing (IsSome (D.files self.old.store.disk))
             (λ o. settled_with_turns (dbs_of o) (own_member self.old) (up_server self.old) now o.short)
             out.old out.new (held self.old) (held self.new) result }
-        ensures alike { waiting_of self.old.state.writes ≡ [] → OnOk result ((dbs : Databases) (short : List Bool)
-            → IsAlike (settled_with_turns dbs (own_member self.old) (up_server self.old) now short) (up_server self.new) out.old out.new) }
+        ensures alike { OnOk result (AlikeSo V.standing.database (up_server self.old)
+            (λ at free. settled_with_turns (free_dbs V.standing.database free) (own_member self.old) at now free.short)
+            (up_server self.new) out.old out.new) }
         ensures memory { IsErrOf result StoreFault.DiskFault ⊎ IsOk result }
     {
         self.state.settle(out);
@@ -41,9 +41,11 @@ impl<D: Disk, V: DraftService> Node<D, V> {
         ensures ends { EndsSo D.Disk V.standing (IsSome (D.files self.old.store.disk))
             (λ o. next_turns (dbs_of o) (own_member self.old) now (up_server self.old).waiting (up_server self.old) o.short)
             out.old out.new (held self.old) (held self.new) result }
+        ensures alike { OnOk result (AlikeSo V.standing.database (up_server self.old)
+            (λ at free. next_turns (free_dbs V.standing.database free) (own_member self.old) now at.waiting at free.short)
+            (up_server self.new) out.old out.new) }
         ensures memory { IsErrOf result StoreFault.DiskFault ⊎ IsOk result }
         ensures nobody { waiting_of self.old.state.writes ≡ [] → IsOk result }
-        ensures still { waiting_of self.old.state.writes ≡ [] → OnOk result ((up_server self.new ≡ up_server self.old) × (out.new ≡ out.old)) }
     {
         while self.state.is_free() {
             let Some(asked) = self.state.next_asked() else {

@@ -73,7 +73,7 @@ impl<D: Disk, V: DraftService> Node<D, V> {
     ghost use Rattle.cell_model.specs.Durable.{Durable};
     ghost use Rattle.ubik_node.specs.Disk.{StandsAs};
     ghost use Rattle.server_state.specs.Lapsing.{IsDroppedOf, returned};
-    ghost use Rattle.ubik_node.specs.Alike.{AlikeSo, NeedsHolder, NeedsTurn, NeedsTurnThen, StepsAlike, free_dbs};
+    ghost use Rattle.ubik_node.specs.Alike.{AlikeSo, StepsAlike, free_dbs};
     ghost use Rattle.ubik_node.specs.Choices.{dbs_of};
     ghost use Rattle.ubik_node.specs.Node.{BringsStates, Calls, Closes, EndsSo, held, HoldsStates, Needs, NeedsFiles, NeedsThen, Steps, StepsFreely, last_after, node_of, own_member, up_server};
 
@@ -146,8 +146,7 @@ impl<D: Disk, V: DraftService> Node<D, V> {
         ensures keeps { Needs V.standing.database (own_member self.old) (node_of self.old) event now (D.files self.old.store.disk)
             → BringsStates V.standing (own_member self.old) (node_of self.old) event now
             → HoldsStates V.standing (node_of self.old) → HoldsStates V.standing (node_of self.new) }
-        ensures alike { NeedsTurn V.standing.database (own_member self.old) (node_of self.old) event now (D.files self.old.store.disk)
-            → StepsAlike V.standing.database (own_member self.old) result event now (node_of self.old) (node_of self.new) out.new }
+        ensures alike { StepsAlike V.standing.database (own_member self.old) result event now (node_of self.old) (node_of self.new) out.new }
         ensures member { own_member self.new ≡ own_member self.old }
         ensures memory { TakesNoMemory event → result ≢ StepEnd.NoMemory }
         ensures halts { (result ≡ StepEnd.Halted) ↔ (self.new.store.failed ≡ true) }
@@ -174,8 +173,7 @@ impl<D: Disk, V: DraftService> Node<D, V> {
         ensures keeps { Needs V.standing.database (own_member self.old) (node_of self.old) event.now now (D.files self.old.store.disk)
             → BringsStates V.standing (own_member self.old) (node_of self.old) event.now now
             → HoldsStates V.standing (node_of self.old) → HoldsStates V.standing (node_of self.new) }
-        ensures alike { NeedsTurn V.standing.database (own_member self.old) (node_of self.old) event.now now (D.files self.old.store.disk)
-            → StepsAlike V.standing.database (own_member self.old) result event.now now (node_of self.old) (node_of self.new) out.new }
+        ensures alike { StepsAlike V.standing.database (own_member self.old) result event.now now (node_of self.old) (node_of self.new) out.new }
         ensures member { own_member self.new ≡ own_member self.old }
         ensures memory { TakesNoMemory event.now → result ≢ StepEnd.NoMemory }
         ensures halts { (result ≡ StepEnd.Halted) ↔ (self.new.store.failed ≡ true) }
@@ -294,8 +292,7 @@ impl<D: Disk, V: DraftService> Node<D, V> {
         ensures keeps { Needs V.standing.database (own_member self.old) (node_of self.old) event.now now (D.files self.old.store.disk)
             → BringsStates V.standing (own_member self.old) (node_of self.old) event.now now
             → HoldsStates V.standing (node_of self.old) → HoldsStates V.standing (node_of self.new) }
-        ensures alike { NeedsTurn V.standing.database (own_member self.old) (node_of self.old) event.now now (D.files self.old.store.disk)
-            → StepsAlike V.standing.database (own_member self.old) result event.now now (node_of self.old) (node_of self.new) out.new }
+        ensures alike { StepsAlike V.standing.database (own_member self.old) result event.now now (node_of self.old) (node_of self.new) out.new }
         ensures member { own_member self.new ≡ own_member self.old }
         ensures memory { TakesNoMemory event.now → result ≢ StepEnd.NoMemory }
         ensures halts { (result ≡ StepEnd.Halted) ↔ (self.new.store.failed ≡ true) }
@@ -316,9 +313,8 @@ impl<D: Disk, V: DraftService> Node<D, V> {
         requires few { length out.old ≤ 100 }
         ensures ends { EndsSo D.Disk V.standing (NeedsThen V.standing.database (own_member self.old) (up_server self.old) event.now now (D.files self.old.store.disk))
             (λ o. handled (dbs_of o) (own_member self.old) (up_server self.old) now event.now o.short) out.old out.new (held self.old) (held self.new) result }
-        ensures alike { NeedsTurnThen V.standing.database (own_member self.old) (up_server self.old) event.now now (D.files self.old.store.disk)
-            → OnOk result (AlikeSo V.standing.database
-            (λ free. handled (free_dbs V.standing.database free) (own_member self.old) (up_server self.old) now event.now free.short)
+        ensures alike { OnOk result (AlikeSo V.standing.database (up_server self.old)
+            (λ at free. handled (free_dbs V.standing.database free) (own_member self.old) at now event.now free.short)
             (up_server self.new) out.old out.new) }
         ensures memory { TakesNoMemory event.now → IsErrOf result StoreFault.DiskFault ⊎ IsOk result }
     {
@@ -371,8 +367,8 @@ impl<D: Disk, V: DraftService> Node<D, V> {
         ensures ends { EndsSo D.Disk V.standing (NeedsFiles packet.now.body (IsSome (D.files self.old.store.disk)))
             (λ o. received_packet (dbs_of o) (own_member self.old) (up_server self.old) now packet.now o.short (place_of self.old.state.cell packet.now.from))
             out.old out.new (held self.old) (held self.new) result }
-        ensures alike { NeedsHolder packet.now.body (up_server self.old).waiting (IsSome (D.files self.old.store.disk)) → OnOk result (AlikeSo V.standing.database
-            (λ free. received_packet (free_dbs V.standing.database free) (own_member self.old) (up_server self.old) now packet.now free.short
+        ensures alike { OnOk result (AlikeSo V.standing.database (up_server self.old)
+            (λ at free. received_packet (free_dbs V.standing.database free) (own_member self.old) at now packet.now free.short
             (place_of self.old.state.cell packet.now.from))
             (up_server self.new) out.old out.new) }
         ensures memory { BodyTakesNoMemory packet.now.body → IsErrOf result StoreFault.DiskFault ⊎ IsOk result }

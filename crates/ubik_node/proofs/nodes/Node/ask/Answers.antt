@@ -1,7 +1,9 @@
 use Rattle.ubik_node.specs.Alike.{Frees, free_dbs}
-use Rattle.ubik_node.proofs.Alike.{alike_same, alike_shows, made_so, none_free, on_made}
-use Rattle.std.proofs.Common.{Some, None, [], ◌∷◌, false, refl, ap}
-use Rattle.cell_model.specs.Asks.{asked_as, put_into_line}
+use Rattle.ubik_node.proofs.Alike.{alike_same, alike_shows, none_free, on_made}
+use Rattle.state_laws.proofs.Waiting.{turn_asked}
+use Rattle.ubik_node.proofs.TurnsAlike.{turn_alike}
+use Rattle.std.proofs.Common.{None, [], ◌∷◌, false, refl}
+use Rattle.cell_model.specs.Asks.{put_into_line}
 use Rattle.cell_model.specs.Node.{Flight}
 use Rattle.cell_model.specs.Step.{is_short}
 use Rattle.ubik_node.specs.Choices.{dbs_of, none_chosen}
@@ -70,39 +72,43 @@ returns-in-Write-clause-ends g c =
     (made.0, same_ends g.D.Disk turn (known_ends g.D.Disk (λ needs. needs (c.in-Write.ensures.evaluates tt)) made.1))
 
 pub returns-in_default-clause-alike : goal.returns-in_default-clause-alike
-returns-in_default-clause-alike g c = λ needs.
+returns-in_default-clause-alike g c =
     rw (← c.in_default.ensures)
-    (none_free g.V.DraftService.standing.database, alike_shows (record { server = refl; calls = refl; outputs = c.put_reply.ensures }))
+    (c.args.self.now.state.image, refl, none_free g.V.DraftService.standing.database, alike_shows (record { server = refl; calls = refl; outputs = c.put_reply.ensures }))
 
 pub returns-in-Refuse-clause-alike : goal.returns-in-Refuse-clause-alike
-returns-in-Refuse-clause-alike g c = λ needs.
+returns-in-Refuse-clause-alike g c =
     let db = g.V.DraftService.standing.database in
     rw (← c.in-Some.ensures) (
+      c.args.self.now.state.image,
+      refl,
       none_free db,
       alike_same (c.in-Refuse.ensures.turn (free_dbs db (none_free db) 0) c.args.id c.args.call.now false)
           (alike_shows (record { server = refl; calls = refl; outputs = c.put_reply-in-Refuse.ensures })),
     )
 
 pub returns-in-Read-clause-alike : goal.returns-in-Read-clause-alike
-returns-in-Read-clause-alike g c = λ needs.
+returns-in-Read-clause-alike g c =
     rw (← c.in-Some.ensures) (on_made c.read.result c.read.ensures.alike (λ so.
     let turn = c.in-Read.ensures.turn (free_dbs g.V.DraftService.standing.database so.0 0) c.args.id c.args.call.now (is_short so.0.short) in
-    (so.0, alike_same turn.1 (so.1 turn.0))))
+    (c.args.self.now.state.image, refl, so.0, alike_same turn.1 (so.1 turn.0))))
 
 pub returns-in-ReadOwn-clause-alike : goal.returns-in-ReadOwn-clause-alike
-returns-in-ReadOwn-clause-alike g c = λ needs.
+returns-in-ReadOwn-clause-alike g c =
     rw (← c.in-Some.ensures) (on_made c.read_own.result c.read_own.ensures.alike (λ so.
     let turn = c.in-ReadOwn.ensures.turn (free_dbs g.V.DraftService.standing.database so.0 0) c.args.id c.args.call.now (is_short so.0.short) in
-    (so.0, alike_same turn.1 (so.1 turn.0))))
+    (c.args.self.now.state.image, refl, so.0, alike_same turn.1 (so.1 turn.0))))
 
 pub returns-in-Wait-clause-alike : goal.returns-in-Wait-clause-alike
-returns-in-Wait-clause-alike g c = λ needs.
+returns-in-Wait-clause-alike g c =
     let st = c.args.self.now.state in
     let s = server_of st in
     let db = g.V.DraftService.standing.database in
     let line = c.put_in_line.ensures.shows in
     let free : Frees db = record (none_free db) { short = line.0 ∷ [] } in
     rw (← c.in-Some.ensures) (
+      st.image,
+      refl,
       free,
       alike_shows (line_shows s.flight (λ (f : Flight). put_into_line s c.args.id c.args.call.now line.0 f) _
           (server_of c.put_in_line.new.self) c.args.out.now c.put_in_line.new.out (in_flight_so (own_of st.writes) (c.in-Wait.ensures.writing tt))
@@ -113,9 +119,7 @@ pub returns-in-Write-clause-alike : goal.returns-in-Write-clause-alike
 returns-in-Write-clause-alike g c =
     let st = c.args.self.now.state in
     let db = g.V.DraftService.standing.database in
-    let made = c.write_turn.ensures.ends in
-    let turn = c.in-Write.ensures.turn (dbs_of made.0 0) c.args.id c.args.call.now (is_short made.0.short) in
-    rw (← c.in-Some.ensures) (λ needs. made_so g.D.Disk (λ (free : Frees db).
-    asked_as (free_dbs db free 0) (member_of st) (server_of st) c.args.now c.args.id c.args.call.now (is_short free.short) (Some c.in-Some.writes))
-    c.write_turn.result made.0 (same_ends g.D.Disk turn made.1)
-    (needs (ap Some (c.in-Write.ensures.writing_call tt)) (c.in-Write.ensures.evaluates tt)))
+    rw (← c.in-Some.ensures) (on_made c.write_turn.result c.write_turn.ensures.alike (λ so.
+    let turn = turn_alike db (member_of st) (server_of st) c.args.now c.args.id c.args.call.now so in
+    let asks = turn_asked (free_dbs db turn.2 0) (member_of st) (server_of st) c.args.now c.args.id c.args.call.now (is_short turn.2.short) turn.0 c.in-Some.writes (c.in-Write.ensures.writing_call tt) (c.in-Write.ensures.evaluates tt) in
+    (turn.0, turn.1, turn.2, alike_same asks turn.3)))

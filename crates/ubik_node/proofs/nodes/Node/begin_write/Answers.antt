@@ -19,7 +19,10 @@ use Rattle.ubik_store.specs.declared.faults.StoreFault.TheVariants.{DiskFault}
 use Rattle.ubik_store.specs.DurableCall.{Commits, IsDurable, IsNeverLong}
 use Rattle.ubik_store.specs.Gaps.{CutsNoPut}
 use Rattle.ubik_store.specs.Rewrite.Rewrite.{Changed}
+use Rattle.state_laws.specs.Over.{over}
+use Rattle.ubik_node.specs.Alike.{blank, blank_outputs}
 use Rattle.ubik_node.specs.Node.{held}
+use Rattle.ubik_node.proofs.TurnsAlike.{begun_alike, committed_long, length_before, written_long}
 use Rattle.server_state.specs.State.{announced, member_of, server_of}
 use Rattle.ubik_write.specs.Flight.{IsFlightOf}
 use Rattle.ubik_write.specs.Undo.{image_before}
@@ -30,7 +33,7 @@ use Rattle.ubik_node.proofs.Calling.{commit_ended, ended, held_as, known_call_fa
 use Rattle.ubik_node.proofs.Committing.{flown, next_is_newer, spread_to_each, undone_here, written_begun}
 use Rattle.ubik_node.proofs.Endings.{handed_ends, ok_not, told_still}
 use Rattle.ubik_node.proofs.HeldImages.{held_after, held_length, held_there}
-use Rattle.ubik_node.proofs.ShortTexts.{short_text}
+use Rattle.state_laws.proofs.Fitting.{short_text}
 use Rattle.ubik_node.proofs.Stored.{made_keeps, read_keeps, unmade_keeps}
 use Rattle.server_state.specs.Plain.{IsAnswer}
 use Rattle.server_state.proofs.Plain.{own_version}
@@ -139,6 +142,43 @@ returns-clause-ends g c = λ image.
           ∙ ap (λ (shown : List Shown). c.args.out.now ++ outputs_of shown) (spread_to_each m (length st.cell) 20 (replicate 20 false) flight.old_version st.version v flight.text (text_of given) refl of.old_version of.text)
           ∙ ap (λ (o : List Output). c.args.out.now ++ o) (sym (leads known).outputs),
     ))
+
+pub returns-clause-alike : goal.returns-clause-alike
+returns-clause-alike g c = λ old image same made.
+    let st = c.args.self.now.state in
+    let m = member_of st in
+    let v = c.next_version-next.result in
+    let given = c.args.changes.now in
+    let first = c.flight_over.new.store in
+    let later = c.commit_all.new.store in
+    let mid = c.hold_place.new.self in
+    let flight = c.in_ok-flight.flight in
+    let of : IsFlightOf c.args.id st.version v c.args.now given flight = c.in_ok-flight.ensures.flight in
+    let write = c.own_write-write.result in
+    let there = c.of-image.result in
+    let stays = c.in_ok-flight.ensures.same (λ failed. false≢true (ap is_err failed)) in
+    let own : c.args.self.now.store.len ≡ length st.image = c.args.self.now.stored.len c.requires.not_halted in
+    let len : first.len ≡ length st.image = stays.len ∙ own in
+    let done = subst (λ (k : ℕ). Commits g.D.Disk (logged k given) v first later) len c.in_ok-commit_all.ensures.done in
+    let long = written_long st.image old image there given same made (committed_long g.D.Disk first later v st.image (logged (length st.image) given) len done (c.commit_all.ensures.sound.ready done.failed) there c.of-image.ensures) in
+    let before = image_before flight.undo flight.old_len there in
+    let begun : OwnRecord = record { flight = flight_of (over (server_of st) old) c.args.now c.args.id c.args.call.now c.args.answer given; kept = write.kept } in
+    let leads = written_begun (over (server_of st) old) (announced st) st.recovery c.args.now c.args.id c.args.call.now c.args.answer image given c.requires.serving m begun v c.next_version-next.ensures (sym st.of_cell.servers) c.requires.others
+    (ap (λ (w : OwnRecord). w.kept.old_version) c.own_write-write.ensures.value ∙ of.old_version) refl in
+    record {
+      server =
+          ap blank (leads.server) ∙ begun_alike (server_of st) write flight (held_alone st.recovery m.me) st.version v v c.args.now c.args.id c.args.call.now c.args.answer old before image there given c.own_write-write.ensures.value of
+          (same ∙ sym own ∙ sym c.in_ok-flight.ensures.len ∙ sym (length_before flight.undo flight.old_len there)) long
+          ∙ ap blank (sym (c.begin_flight.ensures.after
+          ∙ ap (λ (r : RecoveryRecord). write_begun write (held_alone r mid.me) (with_database (server_of mid) v there)) c.hold_place.ensures.recovery
+          ∙ ap (λ (k : Member). write_begun write (held_alone st.recovery k.me) (with_database (server_of mid) v there)) c.hold_place.ensures.kept.member
+          ∙ ap (λ (s : Server). write_begun write (held_alone st.recovery m.me) (with_database s v there)) c.hold_place.ensures.server));
+      outputs =
+          ap blank_outputs (c.in_ok-spread_write.ensures.sent
+          ∙ ap (λ (k : Member). c.args.out.now ++ outputs_of (sends_to_each k (λ j. cond (is_marked (marked (length k.hosts) (replicate 20 false)) j) [] (write_bodies flight.old_version v flight.text)))) c.hold_place.ensures.kept.member
+          ∙ ap (λ (shown : List Shown). c.args.out.now ++ outputs_of shown) (spread_to_each m (length st.cell) 20 (replicate 20 false) flight.old_version st.version v flight.text (text_of given) refl of.old_version of.text)
+          ∙ ap (λ (o : List Output). c.args.out.now ++ o) (sym leads.outputs));
+    }
 
 pub invariant_of-self-in-Break-branch-4 : goal.invariant_of-self-in-Break-branch-4
 invariant_of-self-in-Break-branch-4 g c =

@@ -17,7 +17,11 @@ use Rattle.ubik_store.specs.DurableCall.{Commits, IsDurable, IsNeverLong}
 use Rattle.ubik_store.specs.Gaps.{CutsNoPut}
 use Rattle.cell_model.specs.Durable.{label_calls}
 use Rattle.ubik_store.specs.Rewrite.Rewrite.{Changed}
+use Rattle.state_laws.specs.Over.{over}
+use Rattle.ubik_node.specs.Alike.{blank, blank_outputs}
 use Rattle.ubik_node.specs.Node.{held}
+use Rattle.ubik_node.proofs.Alike.{blank_image}
+use Rattle.ubik_node.proofs.TurnsAlike.{committed_long, written_long}
 use Rattle.server_state.specs.State.{announced, member_of, server_of}
 use Rattle.ubik_node.proofs.Calling.{commit_ended, ended, known_call_failed, known_call_made}
 use Rattle.ubik_node.proofs.Committing.{is_alone, next_is_newer, written_alone}
@@ -75,3 +79,20 @@ returns-clause-ends g c = λ now call image.
 
 pub returns-clause-line : goal.returns-clause-line
 returns-clause-line g c = omega (arith, ap (λ (s : Server). length s.waiting) c.take_commit.ensures.after)
+
+pub returns-clause-alike : goal.returns-clause-alike
+returns-clause-alike g c = λ now call old image same made.
+    let n = c.args.self.now in
+    let st = n.state in
+    let v = c.next_version-next.result in
+    let later = c.commit_all.new.store in
+    let given = c.args.changes.now in
+    let done = subst (λ (k : ℕ). Commits g.D.Disk (logged k given) v n.store later) (n.stored.len c.requires.not_halted) c.in_ok-commit_all.ensures.done in
+    let leads = written_alone (over (server_of st) old) (announced st) st.recovery now c.args.id call c.args.answer image given c.requires.serving (member_of st) (is_alone st.cell st.me c.requires.alone st.place) v c.next_version-next.ensures (no_own _ c.requires.free) (st.of_cell.servers ∙ c.requires.alone) in
+    let long = written_long st.image old image c.of-image.result given same made (committed_long g.D.Disk n.store later v st.image (logged (length st.image) given) (n.stored.len c.requires.not_halted) done (c.commit_all.ensures.sound.ready done.failed) c.of-image.result c.of-image.ensures) in
+    record {
+      server = ap blank leads.server ∙ blank_image (recovering v (with_text (held_alone st.recovery 0) None) (with_database (server_of st) v image)) image c.of-image.result long ∙ ap blank (sym c.take_commit.ensures.after);
+      outputs =
+          ap blank_outputs (c.put_reply.ensures ∙ ap (λ (o : List Output). o ++ output.Reply c.args.id (reply.Ok c.args.answer) ∷ []) c.put.ensures
+          ∙ append_assoc c.args.out.now (output.Announce v ∷ []) (output.Reply c.args.id (reply.Ok c.args.answer) ∷ []) ∙ ap (λ (o : List Output). c.args.out.now ++ o) (sym leads.outputs));
+    }

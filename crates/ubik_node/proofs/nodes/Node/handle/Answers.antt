@@ -1,5 +1,6 @@
-use Rattle.ubik_node.proofs.Alike.{alike_shows, free_alike, none_free, on_made}
+use Rattle.ubik_node.proofs.Alike.{alike_shows, none_free, on_made}
 use Rattle.std.proofs.Common.{refl}
+use Rattle.server_state.specs.State.{server_of}
 use Rattle.ubik_node.specs.Choices.{none_chosen}
 use Rattle.ubik_node.specs.Node.{held}
 use Rattle.ubik_node.proofs.Endings.{shown_ends}
@@ -26,10 +27,10 @@ pub returns-in-Packet-clause-alike : goal.returns-in-Packet-clause-alike
 returns-in-Packet-clause-alike g c = rw c.in-Packet.is c.receive.ensures.alike
 
 pub returns-in-BeaconTurn-clause-alike : goal.returns-in-BeaconTurn-clause-alike
-returns-in-BeaconTurn-clause-alike g c = rw c.in-BeaconTurn.is (λ needs. (none_free g.V.DraftService.standing.database, alike_shows c.beacon_turn.ensures.shows))
+returns-in-BeaconTurn-clause-alike g c = rw c.in-BeaconTurn.is ((server_of c.args.self.now.state).image, refl, none_free g.V.DraftService.standing.database, alike_shows c.beacon_turn.ensures.shows)
 
 pub returns-in-RecoverTurn-clause-alike : goal.returns-in-RecoverTurn-clause-alike
-returns-in-RecoverTurn-clause-alike g c = rw c.in-RecoverTurn.is (λ needs. on_made c.recover.result c.recover.ensures.alike (free_alike g.V.DraftService.standing.database))
+returns-in-RecoverTurn-clause-alike g c = rw c.in-RecoverTurn.is (on_made c.recover.result c.recover.ensures.alike (λ made. ((server_of c.args.self.now.state).image, refl, none_free g.V.DraftService.standing.database, made)))
 
 pub returns-in-Ask-clause-alike : goal.returns-in-Ask-clause-alike
 returns-in-Ask-clause-alike g c = rw c.in-Ask.is (rw c.as_slice.ensures at c.ask.ensures.alike)

@@ -1,6 +1,6 @@
-use Rattle.server_rules.specs.Acts.{stepped_by}
-use Rattle.ubik_node.specs.Alike.{AlikeSo, Frees, free_dbs}
-use Rattle.ubik_node.proofs.Alike.{alike_same, holder_needs, on_made}
+use Rattle.cell_model.specs.NodeRule.{received_from}
+use Rattle.ubik_node.specs.Alike.{ActsAlike}
+use Rattle.ubik_node.proofs.Alike.{act_alike, on_made}
 use Rattle.std.proofs.Common.{◌∙◌, IsSome, length, ap}
 use Rattle.ubik_types.specs.declared.versions.Version.{Version}
 use Rattle.cell_model.specs.Durable.{durable}
@@ -45,12 +45,12 @@ pub perform-requires-clause-room : goal.perform-requires-clause-room
 perform-requires-clause-room g c = has_room c.in_ok-act.act (length c.args.out.now) c.requires.few
 
 pub returns-clause-alike : goal.returns-clause-alike
-returns-clause-alike g c = λ needs.
+returns-clause-alike g c =
     let says = c.in_ok-act.ensures in
     let db = g.V.DraftService.standing.database in
     let act = c.in_ok-act.act in
+    let st = c.args.self.now.state in
     let mid = c.packet_heard.new.state in
-    let made = c.perform.ensures.alike (holder_needs c.args.packet.now act (server_of c.args.self.now.state).waiting (server_of mid).waiting (IsSome (g.D.Disk.files c.args.self.now.store.disk)) says.need says.line needs) in
-    on_made c.perform.result made
-    (λ (so : AlikeSo db (λ (free : Frees db). stepped_by (free_dbs db free) (member_of mid) c.args.now free.short (server_of mid) act) (server_of c.perform.new.self.state) c.args.out.now c.perform.new.out).
-    (so.0, alike_same (says.step (free_dbs db so.0) so.0.short) so.1))
+    on_made c.perform.result c.perform.ensures.alike
+    (λ (so : ActsAlike db (member_of mid) c.args.now act (server_of mid) (server_of c.perform.new.self.state) c.args.out.now c.perform.new.out).
+    act_alike db (member_of mid) c.args.now act (server_of st) (server_of mid) (λ dbs at short. received_from dbs (member_of st) at c.args.now c.args.host c.args.from c.args.packet.now short) says.leaves.kept.image says.step says.holder so)

@@ -21,7 +21,8 @@ use Rattle.ubik_node.specs.Node.{held}
 use Rattle.server_state.specs.State.{ShowsBehind, member_of, server_of}
 use Rattle.ubik_node.proofs.Endings.{handed_ends, short_ends}
 use Rattle.ubik_node.proofs.Fetching.{first_of, held_twice}
-use Rattle.ubik_node.proofs.Relabelled.{relabel_outputs, settled_calls}
+use Rattle.state_laws.proofs.Waiting.{settled_calls}
+use Rattle.ubik_node.proofs.Relabelled.{relabel_outputs}
 use Rattle.ubik_node.proofs.TwoCalls.{both_made, first_failed, second_failed}
 use Rattle.ubik_node.proofs.nodes.Node.install_and_relabel.Goals as goal
 

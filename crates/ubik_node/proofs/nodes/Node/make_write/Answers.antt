@@ -1,10 +1,12 @@
-use Rattle.std.proofs.Common.{◌≡◌, ◌++◌, ◌∙◌, List, [], ◌∷◌, true, length, IsSome, refl, sym, ap, length-append, arith}
+use Rattle.std.proofs.Common.{◌≡◌, ◌++◌, ◌∙◌, List, [], ◌∷◌, true, false, length, IsSome, refl, sym, ap, length-append, arith}
 use Rattle.std.specs.Result.{is_err}
 use Rattle.std.proofs.lemmas.Bool.{false≢true}
 use Rattle.cell_model.specs.declared.events.Output.{Output}
 use Rattle.cell_model.specs.declared.events.Output.TheVariants as output
 use Rattle.cell_model.specs.Node.{Server}
 use Rattle.cell_model.specs.Writes.{is_free}
+use Rattle.ubik_node.proofs.Alike.{short_end}
+use Rattle.ubik_node.proofs.TurnsAlike.{commit_turn, poll_turn, replied_turn}
 use Rattle.ubik_store.proofs.Telling.{ok_map}
 use Rattle.ubik_node.specs.declared.verdicts.Verdict.TheVariants as verdict
 use Rattle.ubik_node.specs.Choices.{none_chosen}
@@ -111,3 +113,36 @@ returns-clause-rests g c = λ more.
     let last = c.begin_write.new.self in
     ok_map c.begin_write.result (IsSome (own_of last.state.writes)) (is_free (up_server last) ≡ true → IsRepliedTo g.D.Disk c.args.out.now c.begin_write.new.out (held n) (held last)) c.begin_write.ensures.writing
     (λ some free. absurd (false≢true (sym (writes_busy (up_server last).phase (own_of last.state.writes) some) ∙ free)))
+
+pub verdict_of-requires-clause-lead : goal.verdict_of-requires-clause-lead
+verdict_of-requires-clause-lead g c = rw (c.args.self.now.stored.len c.requires.not_halted) at c.in_ok-made.ensures.lead
+
+pub returns-in-Reply-clause-alike : goal.returns-in-Reply-clause-alike
+returns-in-Reply-clause-alike g c =
+    let m = member_of c.args.self.now.state in
+    let made = c.in_ok-made.ensures in
+    replied_turn g.V.DraftService.standing.database m (server_of c.args.self.now.state) c.args.now c.args.id c.args.call.now c.in_ok-made.made.reply made.grammar (short_end c.in_ok-made.made.reply made.short) c.in-Reply.reply
+    (c.in-Reply.ensures.some m c.args.now c.args.id c.args.call.now) c.put_reply.ensures
+
+pub returns-in-NewPoll-clause-alike : goal.returns-in-NewPoll-clause-alike
+returns-in-NewPoll-clause-alike g c =
+    let m = member_of c.args.self.now.state in
+    let made = c.in_ok-made.ensures in
+    poll_turn g.V.DraftService.standing.database m (server_of c.args.self.now.state) c.args.now c.args.id c.args.call.now c.in_ok-made.made.reply made.grammar (short_end c.in_ok-made.made.reply made.short)
+    (c.in-NewPoll.ensures.some m c.args.now c.args.id c.args.call.now) c.last_counter.ensures.shows
+
+pub returns-then-len-eq1-clause-alike : goal.returns-then-len-eq1-clause-alike
+returns-then-len-eq1-clause-alike g c =
+    let m = member_of c.args.self.now.state in
+    let made = c.in_ok-made.ensures in
+    commit_turn g.V.DraftService.standing.database m (server_of c.args.self.now.state) c.args.now c.args.id c.args.call.now c.in_ok-made.made.reply made.grammar (short_end c.in_ok-made.made.reply made.short) _ _ _ c.in-Commit.answer c.in-Commit.changes
+    c.commit.result (c.in-Commit.ensures.some m c.args.now c.args.id c.args.call.now) (c.commit.ensures.alike c.args.now c.args.call.now) (λ more. absurd (omega (arith, more, c.if-len-eq1.true)))
+
+pub returns-clause-alike : goal.returns-clause-alike
+returns-clause-alike g c =
+    let last = c.begin_write.new.self in
+    let m = member_of c.args.self.now.state in
+    let made = c.in_ok-made.ensures in
+    commit_turn g.V.DraftService.standing.database m (server_of c.args.self.now.state) c.args.now c.args.id c.args.call.now c.in_ok-made.made.reply made.grammar (short_end c.in_ok-made.made.reply made.short) _ _ _ c.in-Commit.answer c.in-Commit.changes
+    c.begin_write.result (c.in-Commit.ensures.some m c.args.now c.args.id c.args.call.now) c.begin_write.ensures.alike
+    (λ _. ok_map c.begin_write.result (IsSome (own_of last.state.writes)) (is_free (up_server last) ≡ false) c.begin_write.ensures.writing (writes_busy (up_server last).phase (own_of last.state.writes)))

@@ -1,9 +1,5 @@
-use Rattle.cell_model.specs.Evaluating.{Databases}
-use Rattle.server_state.specs.State.{member_of, server_of}
-use Rattle.cell_model.specs.Writes.{settled_with_turns}
-use Rattle.ubik_node.specs.Alike.{Frees, IsAlike, free_dbs}
-use Rattle.ubik_node.proofs.Alike.{alike_made, alike_shows, free_alike, made_so, none_free, on_made}
-use Rattle.std.proofs.Common.{Bool, List, [], ⊎_elim, refl, sym}
+use Rattle.ubik_node.proofs.Alike.{alike_made, alike_shows, on_made}
+use Rattle.std.proofs.Common.{refl, sym}
 use Rattle.std.proofs.lemmas.List.{append-nil}
 use Rattle.ubik_node.specs.Choices.{none_chosen}
 use Rattle.ubik_node.specs.Node.{held}
@@ -38,36 +34,27 @@ returns-in-Settle-clause-ends g c = rw c.in-Settle.is c.settle_with_turns.ensure
 
 pub returns-in-Rest-clause-alike : goal.returns-in-Rest-clause-alike
 returns-in-Rest-clause-alike g c =
-    rw c.in-Rest.is (λ needs. (none_free g.V.DraftService.standing.database, alike_shows (record { server = refl; calls = refl; outputs = sym (append-nil c.args.out.now) })))
+    rw c.in-Rest.is (λ dbs short. alike_shows (record { server = refl; calls = refl; outputs = sym (append-nil c.args.out.now) }))
 
 pub returns-in-Send-clause-alike : goal.returns-in-Send-clause-alike
 returns-in-Send-clause-alike g c =
-    rw c.in-Send.is (λ needs. (none_free g.V.DraftService.standing.database, alike_shows (record { server = refl; calls = refl; outputs = c.send.ensures.sent })))
+    rw c.in-Send.is (λ dbs short. alike_shows (record { server = refl; calls = refl; outputs = c.send.ensures.sent }))
 
 pub returns-in-SendPiece-clause-alike : goal.returns-in-SendPiece-clause-alike
-returns-in-SendPiece-clause-alike g c = rw c.in-SendPiece.is (λ needs. on_made c.send_piece.result c.send_piece.ensures.alike (free_alike g.V.DraftService.standing.database))
+returns-in-SendPiece-clause-alike g c = rw c.in-SendPiece.is (on_made c.send_piece.result c.send_piece.ensures.alike (λ made dbs short. made))
 
 pub returns-in-TakeVersion-clause-alike : goal.returns-in-TakeVersion-clause-alike
 returns-in-TakeVersion-clause-alike g c =
-    rw c.in-TakeVersion.is (λ needs. on_made c.take_version.result (c.take_version.ensures.made tt) (λ made. free_alike g.V.DraftService.standing.database (alike_made g.D.Disk made)))
+    rw c.in-TakeVersion.is (on_made c.take_version.result (c.take_version.ensures.made tt) (λ made dbs short. alike_made g.D.Disk made))
 
 pub returns-in-TakeWrite-clause-alike : goal.returns-in-TakeWrite-clause-alike
-returns-in-TakeWrite-clause-alike g c = rw c.in-TakeWrite.is (λ needs. on_made c.take_write.result c.take_write.ensures.alike (free_alike g.V.DraftService.standing.database))
+returns-in-TakeWrite-clause-alike g c = rw c.in-TakeWrite.is (on_made c.take_write.result c.take_write.ensures.alike (λ made dbs short. made))
 
 pub returns-in-EndText-clause-alike : goal.returns-in-EndText-clause-alike
-returns-in-EndText-clause-alike g c = rw c.in-EndText.is (λ needs. on_made c.end_text.result c.end_text.ensures.alike (free_alike g.V.DraftService.standing.database))
+returns-in-EndText-clause-alike g c = rw c.in-EndText.is (on_made c.end_text.result c.end_text.ensures.alike (λ made dbs short. made))
 
 pub returns-in-Relabel-clause-alike : goal.returns-in-Relabel-clause-alike
-returns-in-Relabel-clause-alike g c = rw c.in-Relabel.is (λ needs. on_made c.relabel.result c.relabel.ensures.alike (free_alike g.V.DraftService.standing.database))
+returns-in-Relabel-clause-alike g c = rw c.in-Relabel.is (on_made c.relabel.result c.relabel.ensures.alike (λ made dbs short. made))
 
 pub returns-in-Settle-clause-alike : goal.returns-in-Settle-clause-alike
-returns-in-Settle-clause-alike g c =
-    let n = c.args.self.now in
-    let db = g.V.DraftService.standing.database in
-    let ends = c.settle_with_turns.ensures.ends in
-    let t = λ (free : Frees db). settled_with_turns (free_dbs db free) (member_of n.state) (server_of n.state) c.args.now free.short in
-    rw c.in-Settle.is (λ needs. ⊎_elim
-    (λ none. on_made c.settle_with_turns.result (c.settle_with_turns.ensures.alike none)
-    (λ (so : (dbs : Databases) (short : List Bool) → IsAlike (settled_with_turns dbs (member_of n.state) (server_of n.state) c.args.now short) (server_of c.settle_with_turns.new.self.state) c.args.out.now c.settle_with_turns.new.out).
-    (none_free db, so (free_dbs db (none_free db)) [])))
-    (λ told. made_so g.D.Disk t c.settle_with_turns.result ends.0 ends.1 told) needs)
+returns-in-Settle-clause-alike g c = rw c.in-Settle.is c.settle_with_turns.ensures.alike

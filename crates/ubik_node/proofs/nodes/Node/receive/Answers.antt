@@ -18,7 +18,7 @@ returns-clause-ends g c = rw (placed _ _ _ c.index.ensures.found c.index.ensures
 pub returns-in_default-clause-alike : goal.returns-in_default-clause-alike
 returns-in_default-clause-alike g c =
     rw (placed _ _ _ c.index.ensures.found c.index.ensures.only ∙ c.in_default.is)
-    (λ needs. (none_free g.V.DraftService.standing.database, alike_shows (record { server = refl; calls = refl; outputs = sym (append-nil c.args.out.now) })))
+    (c.args.self.now.state.image, refl, none_free g.V.DraftService.standing.database, alike_shows (record { server = refl; calls = refl; outputs = sym (append-nil c.args.out.now) }))
 
 pub returns-clause-alike : goal.returns-clause-alike
 returns-clause-alike g c = rw (placed _ _ _ c.index.ensures.found c.index.ensures.only ∙ c.in-Some.is) c.heard.ensures.alike

@@ -1,6 +1,6 @@
-use Rattle.ubik_node.specs.Alike.{AlikeSo, Frees, free_dbs}
+use Rattle.ubik_node.specs.Alike.{ActsAlike}
 use Rattle.ubik_node.proofs.Alike.{alike_behind, alike_same, no_turn, on_made}
-use Rattle.std.proofs.Common.{◌∙◌, IsSome, refl, ap}
+use Rattle.std.proofs.Common.{◌∙◌, IsSome, [], refl, ap}
 use Rattle.ubik_types.specs.declared.versions.Version.{Version}
 use Rattle.cell_model.specs.Durable.{durable}
 use Rattle.server_rules.specs.Acts.{act_need, stepped_by}
@@ -45,10 +45,9 @@ returns-clause-ends g c =
 pub returns-clause-alike : goal.returns-clause-alike
 returns-clause-alike g c =
     let says = c.in_ok-act.ensures in
-    let db = g.V.DraftService.standing.database in
     let act = c.in_ok-act.act in
     let mid = c.recovery_turn.new.state in
-    on_made c.perform.result (c.perform.ensures.alike (no_turn act (server_of mid).waiting (IsSome (g.D.Disk.files c.args.self.now.store.disk)) says.need))
-    (λ (so : AlikeSo db (λ (free : Frees db). stepped_by (free_dbs db free) (member_of mid) c.args.now free.short (server_of mid) act) (server_of c.perform.new.self.state) c.recovery_turn.new.out c.perform.new.out).
-    let goes = says.step (free_dbs db so.0) so.0.short in
-    alike_same goes.step (alike_behind goes.shown goes.outputs so.1))
+    let goes = says.step (λ _. g.V.DraftService.standing.database) [] in
+    on_made c.perform.result c.perform.ensures.alike
+    (λ (so : ActsAlike g.V.DraftService.standing.database (member_of mid) c.args.now act (server_of mid) (server_of c.perform.new.self.state) c.recovery_turn.new.out c.perform.new.out).
+    alike_same goes.step (alike_behind goes.shown goes.outputs (no_turn g.V.DraftService.standing.database (member_of mid) c.args.now act (server_of mid) says.need so (λ _. g.V.DraftService.standing.database) [])))

@@ -18,7 +18,8 @@ use Rattle.server_state.specs.State.{ShowsBehind, member_of, server_of}
 use Rattle.ubik_node.proofs.Calling.{call_failed, call_made, short_ends_read, unread_ends}
 use Rattle.ubik_node.proofs.Endings.{handed_ends, ok_not}
 use Rattle.ubik_node.proofs.Stored.{read_keeps}
-use Rattle.ubik_node.proofs.Relabelled.{piece_known, relabel_outputs, settled_calls}
+use Rattle.state_laws.proofs.Waiting.{settled_calls}
+use Rattle.ubik_node.proofs.Relabelled.{piece_known, relabel_outputs}
 use Rattle.server_state.proofs.Plain.{own_version}
 use Rattle.ubik_node.proofs.nodes.Node.relabel.Goals as goal
 

@@ -1,4 +1,4 @@
-use Rattle.std.proofs.Common.{[], ◌≡◌, ◌∙◌, ◌++◌, ℕ, List, false, replicate, IsErrOf, sym, ap}
+use Rattle.std.proofs.Common.{◌≡◌, ◌∙◌, ℕ, List, length, IsErrOf, sym, ap, subst}
 use Rattle.std.specs.Result.{is_ok}
 use Rattle.std.proofs.lemmas.Bool.{false≢true}
 use Rattle.ubik_types.specs.declared.versions.Version.{Version}
@@ -10,10 +10,14 @@ use Rattle.cell_model.specs.Writes.{next_turns, settled}
 use Rattle.ubik_node.specs.Choices.{dbs_of}
 use Rattle.ubik_node.specs.Node.{durable_in, held}
 use Rattle.server_state.specs.State.{announced, member_of, server_of}
-use Rattle.ubik_node.proofs.Alike.{nobody_alike, on_made}
+use Rattle.state_laws.specs.Waiting.{short_behind}
+use Rattle.state_laws.proofs.Waiting.{settled_comes, settled_comes_over, settled_halts, settled_line}
+use Rattle.ubik_node.specs.Alike.{Frees, free_dbs}
+use Rattle.ubik_node.proofs.Alike.{alike_behind, alike_same, on_made}
+use Rattle.ubik_node.proofs.TurnsAlike.{WaitAlike}
 use Rattle.ubik_node.proofs.Endings.{behind_ends, same_ends}
 use Rattle.server_state.proofs.Polled.{ready_phase}
-use Rattle.ubik_node.proofs.Turns.{replies, settled_comes, settled_halts, settled_line, went_on}
+use Rattle.ubik_node.proofs.Turns.{went_on}
 use Rattle.ubik_node.proofs.nodes.Node.settle_with_turns.Goals as goal
 
 pub returns-clause-ends : goal.returns-clause-ends
@@ -32,20 +36,26 @@ returns-clause-ends g c =
     settled_halts m s (server_of mid) shows.server (λ rests.
     let waiting = ap (λ (x : Server). x.waiting) (sym shows.server) ∙ settled_line m s ∙ st.line (λ serves. false≢true (sym rests ∙ ready_phase (announced st) st.recovery serves)) in
     absurd (false≢true (sym (ap is_ok failed) ∙ c.take_turns.ensures.nobody waiting))) in (
-      record turns.0 { short = replicate (replies (settled m s).shown) false ++ turns.0.short },
+      record turns.0 { short = short_behind (settled m s).shown turns.0.short },
       same_ends g.D.Disk (settled_comes (dbs_of turns.0) m s (server_of mid) c.args.now turns.0.short shows.server shows.calls) (behind_ends g.D.Disk (settled m s).shown r shows.outputs
           (went_on g.D.Disk (held n) (server_of mid) (member_of mid) (held c.take_turns.new.self) r same keeps kept.member c.take_turns.ensures.memory
           (same_ends g.D.Disk (ap (λ (k : Member). next_turns (dbs_of turns.0) k c.args.now (server_of mid).waiting (server_of mid) turns.0.short) (sym kept.member)) turns.1))),
     )
 
 pub returns-clause-alike : goal.returns-clause-alike
-returns-clause-alike g c = λ none.
-    let mid = c.settle.new.self in
-    let m = member_of c.args.self.now.state in
-    let s = server_of c.args.self.now.state in
+returns-clause-alike g c =
+    let db = g.V.DraftService.standing.database in
+    let st = c.args.self.now.state in
+    let mid = server_of c.settle.new.self in
+    let m = member_of st in
+    let s = server_of st in
     let shows = c.settle.ensures.shows in
-    let line : (server_of mid).waiting ≡ [] = ap (λ (x : Server). x.waiting) (sym shows.server) ∙ settled_line m s ∙ none in
-    on_made c.take_turns.result (c.take_turns.ensures.still line)
-    (λ (still : (server_of c.take_turns.new.self.state ≡ server_of mid) × (c.take_turns.new.out ≡ c.settle.new.out)).
-    λ dbs short.
-    nobody_alike dbs m s c.args.now short (server_of mid) (server_of c.take_turns.new.self.state) c.args.out.now c.settle.new.out c.take_turns.new.out shows (settled_line m s ∙ none) still.0 still.1)
+    on_made c.take_turns.result c.take_turns.ensures.alike
+    (λ (so : WaitAlike db (member_of c.settle.new.self) c.args.now mid (server_of c.take_turns.new.self.state) c.settle.new.out c.take_turns.new.out).
+    let after = subst (λ (k : Member). WaitAlike db k c.args.now mid (server_of c.take_turns.new.self.state) c.settle.new.out c.take_turns.new.out) c.settle.ensures.kept.member so in
+    let o : Frees db = record after.2 { short = short_behind (settled m s).shown after.2.short } in (
+      after.0,
+      after.1 ∙ ap length c.settle.ensures.kept.image,
+      o,
+      alike_same (settled_comes_over (free_dbs db o) m s mid c.args.now after.2.short after.0 shows.server shows.calls) (alike_behind (settled m s).shown shows.outputs after.3),
+    ))

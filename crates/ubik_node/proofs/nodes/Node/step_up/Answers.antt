@@ -1,4 +1,5 @@
-use Rattle.ubik_node.specs.Alike.{AlikeSo, Frees, NeedsTurn, NeedsTurnThen, StepsAlike, free_dbs}
+use Rattle.state_laws.specs.Over.{over}
+use Rattle.ubik_node.specs.Alike.{AlikeSo, Frees, StepsAlike, free_dbs}
 use Rattle.ubik_node.proofs.Alike.{alike_behind, closed_alike, on_made}
 use Rattle.std.proofs.Common.{◌≡◌, ◌∙◌, ◌++◌, [], List, sym, ap, subst}
 use Rattle.cell_model.specs.Durable.{durable}
@@ -15,7 +16,9 @@ use Rattle.ubik_node.specs.Node.{HoldsStates, Needs, NeedsThen, StepsFreely, dur
 use Rattle.server_state.specs.State.{member_of, server_of}
 use Rattle.ubik_node.proofs.Closing.{closed, closed_memory, closed_step, err_map}
 use Rattle.ubik_node.proofs.Endings.{behind_ends}
-use Rattle.ubik_node.proofs.Rested.{back_keeps, back_same, lapsed_there, short_behind, step_comes}
+use Rattle.state_laws.specs.Waiting.{short_behind}
+use Rattle.state_laws.proofs.Waiting.{step_comes, step_comes_over}
+use Rattle.ubik_node.proofs.Rested.{back_keeps, back_same, lapsed_there}
 use Rattle.ubik_node.proofs.Stepping.{steps_keep, steps_meant, up_if}
 use Rattle.ubik_node.proofs.nodes.Node.step_up.Goals as goal
 
@@ -59,16 +62,14 @@ returns g c =
       step = step;
       meant = meant;
       keeps = λ needs brings holds. steps_keep g.D.Disk d keeps (member_of st) c.end.result e now (node_of n) (node_of c.end.new.self) c.end.new.out n.store.disk c.end.new.self.store.disk holds brings (meant needs holds);
-      alike = λ needs.
+      alike =
           subst (λ (x : model.Node). StepsAlike d.database (member_of st) c.end.result e now x (node_of c.end.new.self) c.end.new.out) (sym up)
-          (closed_alike g.D.Disk d.database (member_of st) (server_of st) e now shown (λ (free : Frees d.database). let u = handled (free_dbs d.database free) (member_of mid) (server_of mid) now e free.short in record { server = u.server; calls = u.calls; shown = shown ++ u.shown })
-          first (held later) (held c.end.new.self) c.handle-end.new.out c.end.new.out back c.end.result
-          (λ free. step_comes (free_dbs d.database free) (member_of st) (server_of st) (server_of mid) now e free.short shows.server shows.calls ∙ ap (λ (k : Member). let u = handled (free_dbs d.database free) k (server_of mid) now e free.short in record { server = u.server; calls = u.calls; shown = shown ++ u.shown }) (sym kept.member))
-          c.handle-end.result ends
-          (on_made c.handle-end.result (c.handle-end.ensures.alike
-          (lapsed_there (λ (k : Member) (s : model.Server). NeedsTurnThen d.database k s e now (g.D.Disk.files n.store.disk)) shows.server kept.member
-          (subst (λ (x : model.Node). NeedsTurn d.database (member_of st) x e now (g.D.Disk.files n.store.disk)) up needs)))
-          (λ (made : AlikeSo d.database (λ (free : Frees d.database). handled (free_dbs d.database free) (member_of mid) (server_of mid) now e free.short) (server_of later.state) c.lapse-given.new.out c.handle-end.new.out). (made.0, alike_behind {before = []} shown empty made.1)))
+          (closed_alike g.D.Disk d.database (member_of st) (server_of st) back e now shown (λ (x : model.Server) (free : Frees d.database). let u = handled (free_dbs d.database free) (member_of mid) x now e free.short in record { server = u.server; calls = u.calls; shown = shown ++ u.shown })
+          first (held later) (held c.end.new.self) c.handle-end.new.out c.end.new.out c.end.result
+          (λ image free. step_comes_over (free_dbs d.database free) (member_of st) (server_of st) (server_of mid) now e free.short image shows.server shows.calls ∙ ap (λ (k : Member). let u = handled (free_dbs d.database free) k (over (server_of mid) image) now e free.short in record { server = u.server; calls = u.calls; shown = shown ++ u.shown }) (sym kept.member))
+          kept.image c.handle-end.result ends
+          (on_made c.handle-end.result c.handle-end.ensures.alike
+          (λ (made : AlikeSo d.database (server_of mid) (λ x free. handled (free_dbs d.database free) (member_of mid) x now e free.short) (server_of later.state) c.lapse-given.new.out c.handle-end.new.out). (made.0, made.1, made.2, alike_behind {before = []} shown empty made.3)))
           returns (λ failed. back_keeps c.lapse-given.result later.state mid (ends.keeps failed) ∙ sym (ap model.halted_from c.lapse-given.ensures.back)) c.end.ensures);
       member = so.member ∙ kept.member;
       memory = λ none. closed_memory e (held later) (held c.end.new.self) c.handle-end.new.out c.end.new.out back c.end.result c.handle-end.result (c.handle-end.ensures.memory none) c.end.ensures;

@@ -1,5 +1,3 @@
-use Rattle.ubik_store.specs.Redo.{len_after}
-use Rattle.ubik_store.proofs.Redone.{length-effect}
 use Rattle.ubik_store.specs.Rewrite.Rewrite.{Changed}
 use Rattle.ubik_node.specs.Alike.{blank, blank_outputs}
 use Rattle.ubik_node.proofs.Alike.{blank_database}
@@ -19,7 +17,8 @@ use Rattle.ubik_node.specs.Node.{held}
 use Rattle.server_state.specs.State.{member_of, server_of}
 use Rattle.ubik_node.proofs.Calling.{call_failed, call_made, commit_ended, ended}
 use Rattle.ubik_node.proofs.Endings.{handed_ends, ok_not, reads_none}
-use Rattle.ubik_node.proofs.HeldImages.{held_after, held_length}
+use Rattle.ubik_node.proofs.HeldImages.{held_after}
+use Rattle.ubik_node.proofs.TurnsAlike.{committed_long}
 use Rattle.ubik_node.proofs.nodes.Node.take_write.Goals as goal
 
 pub returns-in_err-commit_all-clause-ends : goal.returns-in_err-commit_all-clause-ends
@@ -51,9 +50,7 @@ returns g c =
     let same : logged n.store.len c.args.changes.now ≡ kept = ap (λ (k : ℕ). logged k c.args.changes.now) (c.args.self.now.stored.len c.requires.not_halted) in
     let done : Commits g.D.Disk kept v n.store later = subst (λ (cs : List Change). Commits g.D.Disk cs v n.store later) same c.in_ok-commit_all.ensures.done in
     let told_so = c.send.ensures.sent ∙ ap (λ (m : Member). c.args.out.now ++ outputs_of (sends_to m c.args.to (body.VersionKept v))) c.take_over.ensures.place in
-    let long : length (effect st.image kept) ≡ length c.of.result =
-    length-effect st.image kept ∙ ap (λ (k : ℕ). len_after k kept) (sym (c.args.self.now.stored.len c.requires.not_halted)) ∙ sym done.len
-    ∙ sym (ap length c.of.ensures ∙ held_length g.D.Disk later (c.commit_all.ensures.sound.ready done.failed)) in
+    let long = committed_long g.D.Disk n.store later v st.image kept (c.args.self.now.stored.len c.requires.not_halted) done (c.commit_all.ensures.sound.ready done.failed) c.of.result c.of.ensures in
     record {
       ends =
           call_made g.D.Disk (held n) c.args.self.now.stored c.requires.not_halted n.store (reads_none g.D.Disk n.store.disk) (λ none. none) c.args.self.now.stored c.requires.not_halted later

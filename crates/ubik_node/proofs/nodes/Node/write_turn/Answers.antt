@@ -1,4 +1,4 @@
-use Rattle.std.proofs.Common.{◌≢◌, ◌++◌, ◌∙◌, [], ◌∷◌, None, true, ℕ, List, length, take, refl, sym, ap, length-append, arith}
+use Rattle.std.proofs.Common.{◌≢◌, ◌++◌, ◌∙◌, inl, [], ◌∷◌, None, true, ℕ, List, length, take, refl, sym, ap, length-append, arith}
 use Rattle.ubik_calls.specs.declared.replies.Reply.TheVariants as reply
 use Rattle.ubik_store.specs.declared.faults.StoreFault.TheVariants.{DiskFault}
 use Rattle.cell_model.specs.declared.events.Output.{Output}
@@ -26,6 +26,19 @@ returns-in_default-clause-ends g c =
         c.put_reply.ensures ∙ ap (λ (o : List Output). o ++ output.Reply c.args.id reply.NoMemory ∷ []) (c.cut.ensures ∙ ap (λ (k : ℕ). take k c.make_write.new.out) c.len-before.ensures ∙ c.in-Err.ensures.front),
       )),
     )
+
+pub returns-in_default-clause-alike : goal.returns-in_default-clause-alike
+returns-in_default-clause-alike g c = inl (
+  c.in-Err.ensures.ends.1.state c.in_default.not-DiskFault,
+  λ image same. (
+    record { short = true ∷ []; told = []; may = tt },
+    record {
+      server = refl;
+      calls = refl;
+      outputs = c.put_reply.ensures ∙ ap (λ (o : List Output). o ++ output.Reply c.args.id reply.NoMemory ∷ []) (c.cut.ensures ∙ ap (λ (k : ℕ). take k c.make_write.new.out) c.len-before.ensures ∙ c.in-Err.ensures.front);
+    },
+  ),
+)
 
 pub returns-in_default-clause-rests : goal.returns-in_default-clause-rests
 returns-in_default-clause-rests g c = λ more free.
