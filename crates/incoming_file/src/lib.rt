@@ -4,8 +4,10 @@
 
 mod laws;
 mod reads;
+mod texts;
 mod writes;
 
 pub use laws::{kept_file_is_open, open_file_has_one_reading, short_file_is_ignored};
 pub use reads::{Found, IncomingFault, read_incoming, reserve_incoming};
+pub use texts::RoomyText;
 pub use writes::{clear_incoming, end_incoming, keep_incoming};

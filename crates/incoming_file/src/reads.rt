@@ -106,7 +106,7 @@ fn incoming_head<D: Disk>(disk: &mut D, len: u64) -> Result<[u8; LABEL_LEN], Inc
 }
 
 /// Writes the label of a version over the front of bytes.
-fn put_label(text: &mut [u8], version: Version)
+pub(crate) fn put_label(text: &mut [u8], version: Version)
     requires { LABEL_LEN ≤ length text.old }
     ensures { text.new ≡ label version ++ drop LABEL_LEN text.old }
 {

@@ -7,6 +7,7 @@ use crate::bytes::Names;
 use crate::devices::{Device, HeldStore};
 use crate::words::{fill_of, version_of};
 use disk_base::{Fill, MemDisk, Refused, StopDisk};
+use incoming_file::RoomyText;
 use session_rows::{Fault, number_in};
 use std::alloc::Global;
 use ubik_store::{Store, StoreFault};
@@ -168,6 +169,7 @@ fn call_at_rest(
         ["commit", version, changes @ ..] => commit_all(alloc, names, held, version, changes),
         ["relabel", version] => ended(alloc, held.store.relabel(version_of(version)?)),
         ["install", bytes, version] => install(alloc, names, held, bytes, version),
+        ["give", bytes, version] => give(alloc, names, held, bytes, version),
         _ => Err(Fault::Form),
     }
 }
@@ -197,6 +199,25 @@ fn install(
 {
     let (image, version) = (names.bytes_of(bytes)?, version_of(version)?);
     ended(alloc, held.store.install(&image, version))
+}
+
+/// Installs a text that is given, and tells where another one comes back than was given.
+fn give(
+    alloc: Global,
+    names: &Names,
+    held: &mut HeldStore,
+    bytes: &str,
+    version: &str,
+) -> Result<Answer, Fault>
+    requires { held.old.store.begun ≡ None }
+{
+    let (image, version) = (names.bytes_of(bytes)?, version_of(version)?);
+    let text = RoomyText::begun(alloc, 0, &image)?;
+    match held.store.install_text(text, version) {
+        Ok(()) => Answer::text(alloc, "done"),
+        Err(refused) if refused.text.as_slice() == image.as_slice() => refusal(alloc, &refused.why),
+        Err(_) => Answer::text(alloc, "another text came back"),
+    }
 }
 
 /// Reads the image whole.

@@ -1,7 +1,8 @@
 -- How a durable call of a store ends, by how the call over its files did.
-use Rattle.std.proofs.Common.{◌≡◌, ◌≤◌, ◌⊎◌, ⊎_elim, ℕ, ◌-◌, ◌^◌, min, true, false, List, Option, Some, None, IfSome, refl, sym, ap, subst, ◌∙◌, arith}
+use Rattle.std.proofs.Common.{◌≡◌, ◌≤◌, ◌⊎◌, length, ⊎_elim, ℕ, ◌-◌, ◌^◌, min, true, false, List, Option, Some, None, IfSome, refl, sym, ap, subst, ◌∙◌, arith}
 use Rattle.std.proofs.lemmas.Bool.{false≢true}
 use Rattle.std.specs.Prelude.{Result, Ok, Err, OnOk, IfErr, IsErrOf, MatchResult}
+use Rattle.std.specs.Result.{IsErrAnd}
 use Rattle.std.specs.Option.{option_map}
 use Rattle.ubik_types.specs.declared.images.Change.{Change}
 use Rattle.ubik_types.specs.declared.limits.TheConstants.{MAX_IMAGE}
@@ -12,20 +13,21 @@ use Rattle.disk_base.specs.Crash.{LeavesOnly}
 use Rattle.disk_base.specs.Files.{Files}
 use Rattle.disk_base.specs.Runs.{OnlyReserves}
 use Rattle.disk_base.specs.Stops.{IsStopped}
-use Rattle.disk_base.proofs.Runs.{reserve_reads}
+use Rattle.disk_base.proofs.Runs.{reads_nothing, reserve_reads}
 use Rattle.page_file.specs.Label.{version_of_database}
 use Rattle.page_file.specs.Pages.{Known, AgreesIn, image_of}
 use Rattle.ubik_store.specs.declared.faults.StoreFault.{StoreFault}
 use Rattle.ubik_store.specs.declared.faults.StoreFault.TheVariants.{DiskFault, BadLabel, TooLarge, NotNewer, NoMemory}
 use Rattle.ubik_store.specs.declared.stores.Store.{Store}
 use Rattle.ubik_store.specs.Commit.{RewritesFiles, IsDurableOver}
-use Rattle.ubik_store.specs.DurableCall.{EndsAs, IsDurableIn, Rewrites}
+use Rattle.ubik_store.specs.DurableCall.{EndsAs, IsDurableIn, Refuses, Rewrites}
 use Rattle.ubik_store.specs.Files.{StandsForEither}
 use Rattle.ubik_store.specs.Gaps.{IsPlain}
 use Rattle.ubik_store.specs.Measures.{AreTooLarge}
 use Rattle.ubik_store.specs.Rest.{HasNoLog, IsAtRest, RestsAs}
 use Rattle.ubik_store.specs.Rewrite.{Rewrite, rewritten, len_rewritten, files_rewritten}
-use Rattle.ubik_store.specs.Store.{IsReady, IsSound, IsForbidden, image_in, taken_over}
+use Rattle.ubik_store.specs.Rewrite.Rewrite.{Replaced}
+use Rattle.ubik_store.specs.Store.{IsReady, IsSound, IsForbidden, IsImageForbidden, IsTooLong, image_in, taken_over}
 use Rattle.ubik_store.proofs.Applied.{no_calls, calls_as}
 use Rattle.ubik_store.proofs.Committing.{settled_at, settled_narrow, stands_at_rest, unmoved}
 use Rattle.ubik_store.proofs.Durable.{FewRewritten, KeepsPlain}
@@ -241,6 +243,54 @@ not_forbidden s v (BadLabel len head) went forbidden is = forbidden
 not_forbidden s v (TooLarge bytes) went forbidden is = forbidden
 not_forbidden s v (NotNewer own given) went forbidden is = absurd cc
 not_forbidden s v NoMemory went forbidden is = forbidden
+
+module _ {D : Type 0} (g : Ghosts D) (image : List ℕ) (v : Version) (s : Store D) where
+  refuses_itself : Refuses g s s
+  refuses_itself = record { store = record { version = refl; len = refl; begun = refl; failed = refl }; disk = reads_nothing s.disk }
+
+  forbidden_ends : (fault : StoreFault) → IsImageForbidden s (length image) v fault → EndsAs g (IsTooLong image) v s s fault
+  forbidden_ends DiskFault is = record { version = refl; len = refl; failed = is }
+  forbidden_ends (BadLabel len head) is = absurd is
+  forbidden_ends (TooLarge bytes) is = (is, refuses_itself)
+  forbidden_ends (NotNewer own given) is = (record { own_is = is.0; given_is = is.1; not_newer = is.2 }, refuses_itself)
+  forbidden_ends NoMemory is = absurd is
+
+  -- an image that is refused at once is not installed
+  pub image_refused : (r : Result (Unit {0}) StoreFault) (fault : StoreFault) → IsErrAnd r (λ x. x ≡ fault) → IsImageForbidden s (length image) v fault
+      → MatchResult r (λ _. Rewrites g (Replaced image) v s s) (EndsAs g (IsTooLong image) v s s)
+  image_refused (Ok done) fault is forbidden = absurd is
+  image_refused (Err x) fault is forbidden = forbidden_ends x (subst (IsImageForbidden s (length image) v) (sym is) forbidden)
+
+  -- so the disk of a store that had not failed is not at fault
+  pub image_not_at_disk : (fault : StoreFault) → s.failed ≡ false → IsImageForbidden s (length image) v fault → ¬ (fault ≡ DiskFault)
+  image_not_at_disk DiskFault went forbidden is = false≢true (sym went ∙ forbidden)
+  image_not_at_disk (BadLabel len head) went forbidden is = forbidden
+  image_not_at_disk (TooLarge bytes) went forbidden is = absurd cc
+  image_not_at_disk (NotNewer own given) went forbidden is = absurd cc
+  image_not_at_disk NoMemory went forbidden is = forbidden
+
+  -- the image that is there after an install
+  pub image_there : (after : Store D) (r : Result (Unit {0}) StoreFault) (Q : StoreFault → Type 0)
+      → MatchResult r (λ _. Rewrites g (Replaced image) v s after) Q → OnOk r (IfSome (g.files s.disk) (λ _. image_in (g.files after.disk) ≡ Some image))
+  image_there after (Ok done) Q ends = by (g.files s.disk) ends.image
+    where
+      by : (files : Option Files) → image_in (g.files after.disk) ≡ option_map (λ _. image) (image_in files) → IfSome files (λ _. image_in (g.files after.disk) ≡ Some image)
+      by None is = tt
+      by (Some fs) is = is
+  image_there after (Err e) Q ends = tt
+
+-- what is so where a call is done, and does not hang on how it ended
+pub on_ok : {A E P : Type 0} (r : Result A E) → P → OnOk r P
+on_ok (Ok x) so = so
+on_ok (Err e) so = tt
+
+-- a fault that is handed on
+pub handed_on : {A B E : Type 0} (r : Result A E) (e f : E) → IsErrAnd r (λ x. x ≡ e) → ◌≡◌ {A = Result B E} (Err e) (Err f) → IsErrOf r f
+handed_on {A} {B} {E} (Ok x) e f is same = absurd is
+handed_on {A} {B} {E} (Err x) e f is same = ap Err (is ∙ err_is e f same)
+  where
+    err_is : (e f : E) → ◌≡◌ {A = Result B E} (Err e) (Err f) → e ≡ f
+    err_is e f same = cc
 
 -- what is so of all changes is so of those that were begun
 pub of_all : (begun : Option (List Change)) (P : List Change → Type 0) → ((changes : List Change) → P changes) → IfSome begun P

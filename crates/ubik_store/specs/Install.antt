@@ -1,5 +1,5 @@
 -- How an open incoming file takes the place of database and log, over the pages and the files of a disk (own).
-use Rattle.std.specs.Prelude.{◌≡◌, ◌+◌, ℕ, true, List, [], Some, IfSome, length, drop}
+use Rattle.std.specs.Prelude.{◌≡◌, ◌+◌, ℕ, true, List, [], Some, IfSome, Result, Ok, Err, length, drop}
 use Rattle.std.specs.Option.{option_map}
 use Rattle.ubik_types.specs.declared.versions.Version.{Version}
 use Rattle.ubik_types.specs.Version.{zero_version, version_lt}
@@ -8,6 +8,8 @@ use Rattle.disk_base.specs.Crash.{LeavesOnly, IsSettled}
 use Rattle.disk_base.specs.Files.{three_files}
 use Rattle.page_file.specs.declared.label.TheConstants.{LABEL_LEN}
 use Rattle.page_file.specs.Pages.{Known, AgreesIn}
+use Rattle.ubik_store.specs.declared.faults.NotInstalled.{NotInstalled}
+use Rattle.ubik_store.specs.declared.faults.StoreFault.{StoreFault}
 use Rattle.ubik_store.specs.Calls.{CallsAtMost}
 use Rattle.ubik_store.specs.Files.{StandsFor}
 use Rattle.ubik_store.specs.Gaps.{IsPlain}
@@ -28,3 +30,8 @@ pub record StandsThroughout {D : Type 0} (g : Ghosts D) (text : List ℕ) (v : V
   pub moments : IfSome (g.files old) (λ _. LeavesOnly g.steps g.left_since old new (λ c. StandsFor c v (drop LABEL_LEN text)))
   pub plain : version_lt zero_version v ≡ true → IfSome (g.files old) (λ _. LeavesOnly g.steps g.left_since old new IsPlain)
   pub calls : CallsAtMost g most old new failed
+
+-- how an install of a text ended, without the text that comes back
+abbrev pub without_text : Result (Unit {0}) NotInstalled → Result (Unit {0}) StoreFault
+without_text (Ok done) = Ok done
+without_text (Err refused) = Err refused.why

@@ -108,6 +108,14 @@ IsForbidden s v (TooLarge bytes) = ⊥
 IsForbidden s v (NotNewer own given) = (own ≡ s.version) × (given ≡ v) × (s.failed ≡ false) × (version_lt s.version v ≡ false)
 IsForbidden s v NoMemory = ⊥
 
+-- so is an image of so many bytes, which may be too long
+abbrev pub IsImageForbidden : {D : Type 0} → Store D → ℕ → Version → StoreFault → Type 0
+IsImageForbidden s long v (TooLarge bytes) = (MAX_IMAGE < long) × (bytes ≡ long)
+IsImageForbidden s long v DiskFault = s.failed ≡ true
+IsImageForbidden s long v (BadLabel len head) = ⊥
+IsImageForbidden s long v (NotNewer own given) = (own ≡ s.version) × (given ≡ v) × (version_lt s.version v ≡ false)
+IsImageForbidden s long v NoMemory = ⊥
+
 -- how a store takes over the end of a durable call under this version: version and length after it, or the mark of a failure
 abbrev pub taken_over : {D : Type 0} → Version → Store D → Result (Unit {0}) StoreFault → Store D
 taken_over v s (Ok done) = record s { version = v; len = min s.pages.len (2 ^ 32 - 1); begun = None }

@@ -1,5 +1,5 @@
 //! Why a call of a store was not done.
-use incoming_file::IncomingFault;
+use incoming_file::{IncomingFault, RoomyText};
 use page_file::{LABEL_LEN, PageFault};
 use thiserror::Error;
 use ubik_log::LogFault;
@@ -25,6 +25,13 @@ pub enum StoreFault {
     /// Memory ran out.
     #[error("out of memory")]
     NoMemory,
+}
+
+/// Why a text was not installed, and the text as it was given.
+#[derive(Drop)]
+pub struct NotInstalled {
+    pub why: StoreFault,
+    pub text: RoomyText,
 }
 
 impl From<PageFault> for StoreFault {

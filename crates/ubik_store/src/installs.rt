@@ -1,11 +1,10 @@
 //! Another image in place of the one that is there: it is kept whole in the incoming file, and then takes the place of the database file.
 //! With the incoming file's gate open a crash finds all of it there; before, the database file as it was.
-ghost use Rattle.std.specs.Prelude.{◌≡◌, ◌+◌, ◌++◌, ◌≤◌, ◌⊎◌, length, take, drop, IfOk, IfErr, IfSome, IsErr, IsErrOf, OnOk};
-ghost use Rattle.ubik_types.specs.Version.{IsVersion};
+ghost use Rattle.std.specs.Prelude.{◌≡◌, ◌+◌, ◌≤◌, ◌⊎◌, length, drop, IfErr, IfSome, IsErr, IsErrOf, OnOk};
+ghost use Rattle.ubik_types.specs.declared.limits.TheConstants.{MAX_IMAGE};
 ghost use Rattle.disk_base.specs.Crash.{IsSettled, LeavesOnly};
 ghost use Rattle.disk_base.specs.Runs.{OnlyReserves};
 ghost use Rattle.incoming_file.specs.Reading.{IsText};
-ghost use Rattle.page_file.specs.Label.{label};
 ghost use Rattle.page_file.specs.Pages.{AgreesIn};
 ghost use Rattle.ubik_store.specs.Commit.{RewritesFiles, IsDurableOver};
 ghost use Rattle.ubik_store.specs.Install.{TakesPlace, StandsThroughout};
@@ -17,9 +16,8 @@ use crate::faults::StoreFault;
 use crate::redo::empty_log_file;
 use disk_base::{Disk, DiskEnd, FileNo, RoomEnd};
 use incoming_file::{end_incoming, keep_incoming, reserve_incoming};
-use page_file::{LABEL_LEN, Pages, label_bytes};
-use std::alloc::Global;
-use ubik_types::{Bytes, MAX_IMAGE, NoMemory, Version};
+use page_file::{LABEL_LEN, Pages};
+use ubik_types::{NoMemory, Version};
 
 /// How long a log of no change is, in bytes.
 const EMPTY_LOG_LEN: u64 = 16;
@@ -68,17 +66,6 @@ pub(crate) fn take_over<D: Disk>(
     }
 }
 
-/// The label of a version, and an image behind it.
-fn labelled_text(alloc: Global, image: &[u8], v: Version) -> Result<Bytes, NoMemory>
-    requires { length image.now ≤ MAX_IMAGE }
-    ensures { IfOk result (λ text. text ≡ label v ++ image.now) }
-{
-    let mut text = Vec::with_capacity(alloc, LABEL_LEN + image.len())?;
-    text.extend_from_slice(&label_bytes(v))?;
-    text.extend_from_slice(image)?;
-    Ok(Bytes::new(text))
-}
-
 /// Makes room for an install of an image of `len` bytes, and for a relabelling that comes next. For want of memory nothing changes.
 fn reserve_install<D: Disk>(disk: &mut D, pages: &mut Pages, len: u32) -> Result<(), NoMemory>
     requires agrees { AgreesIn pages.old (D.files disk.old) }
@@ -121,27 +108,24 @@ fn keep_and_take<D: Disk>(
     }
 }
 
-/// Takes another image under a version, in one durable call. All memory is taken first: for want of it nothing changes. A crash at any
-/// moment leaves files that stand for the state before or the one after.
+/// Takes the image behind a label under its version, in one durable call. All memory is taken first: for want of it nothing changes. A crash
+/// at any moment leaves files that stand for the state before or the one after.
 pub(crate) fn install_files<D: Disk>(
-    alloc: Global,
     disk: &mut D,
     pages: &mut Pages,
-    image: &[u8],
+    file: &[u8],
     v: Version,
 ) -> Result<(), StoreFault>
-    requires version { IsVersion v }
-    requires fits { length image.now ≤ MAX_IMAGE }
+    requires is_text { IsText file.now v }
     requires agrees { AgreesIn pages.old (D.files disk.old) }
     requires len { pages.old.len ≤ MAX_IMAGE }
     requires empty { IfSome (D.files disk.old) AreEmpty }
     requires settled { IsSettled (D.files disk.old) (D.may_leave disk.old) }
-    ensures done { OnOk result (RewritesFiles D.Disk (Replaced image.now) v disk.old disk.new pages.old pages.new) }
-    ensures durable { IsDurableOver D.Disk (Replaced image.now) v disk.old disk.new (IsErrOf result StoreFault.DiskFault) }
+    ensures done { OnOk result (RewritesFiles D.Disk (Replaced (drop LABEL_LEN file.now)) v disk.old disk.new pages.old pages.new) }
+    ensures durable { IsDurableOver D.Disk (Replaced (drop LABEL_LEN file.now)) v disk.old disk.new (IsErrOf result StoreFault.DiskFault) }
     ensures fault { IfErr result (λ fault. (fault ≡ StoreFault.DiskFault) ⊎ (fault ≡ StoreFault.NoMemory)) }
     ensures unchanged { IsErrOf result StoreFault.NoMemory → OnlyReserves D.Disk disk.old disk.new × (pages.new ≡ pages.old) }
 {
-    let text = labelled_text(alloc, image, v)?;
-    reserve_install(disk, pages, image.len() as u32)?;
-    keep_and_take(disk, pages, text.as_slice(), v)
+    reserve_install(disk, pages, (file.len() - LABEL_LEN) as u32)?;
+    keep_and_take(disk, pages, file, v)
 }

@@ -12,5 +12,5 @@ mod redo;
 mod stores;
 mod transactions;
 
-pub use faults::StoreFault;
+pub use faults::{NotInstalled, StoreFault};
 pub use stores::Store;

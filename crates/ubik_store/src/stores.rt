@@ -8,21 +8,24 @@ ghost use Rattle.disk_base.specs.Runs.{OnlyReads};
 ghost use Rattle.disk_base.specs.Stops.{IsStopped, armed};
 ghost use Rattle.disk_base.specs.Stops.DiskStop.{Unarmed};
 ghost use Rattle.page_file.specs.Kept.{AreKept};
+ghost use Rattle.page_file.specs.Label.{label};
 ghost use Rattle.ubik_store.specs.DurableCall.{Commits, EndsAs, HasFailed, IsDurable, IsDurableIn, IsNeverLong, Rewrites};
 ghost use Rattle.ubik_store.specs.Files.{StandsFor};
+ghost use Rattle.ubik_store.specs.Install.{without_text};
 ghost use Rattle.ubik_store.specs.Opening.{OpensIn, RefusesFiles, IsOpening};
 ghost use Rattle.ubik_store.specs.Rest.{RestsAs, CanRelabel};
 ghost use Rattle.ubik_store.specs.Rewrite.Rewrite.{Replaced};
-ghost use Rattle.ubik_store.specs.Store.{Adds, IsForbidden, IsPutRefused, IsSound, IsTooLong, SameButBegun, StaysAsItWas, changes_begun, image_in, taken_over};
+ghost use Rattle.ubik_store.specs.Store.{Adds, IsForbidden, IsImageForbidden, IsPutRefused, IsSound, IsTooLong, SameButBegun, StaysAsItWas, changes_begun, image_in, taken_over};
 
 use crate::commits::{commit_as_made, commit_changes, relabel_files};
-use crate::faults::StoreFault;
+use crate::faults::{NotInstalled, StoreFault};
 use crate::installs::install_files;
 use crate::measures::measure;
 use crate::opening::open_files;
 use crate::transactions::Transaction;
 use disk_base::{Disk, Fill, Refused, StopDisk};
-use page_file::Pages;
+use incoming_file::RoomyText;
+use page_file::{LABEL_LEN, Pages};
 use std::alloc::Global;
 use ubik_types::{Changes, MAX_IMAGE, Version};
 
@@ -279,14 +282,78 @@ impl<D: Disk> Store<D> {
             → IsDurableIn D.Disk (Replaced image.now) v self.old self.new (IsErrOf result StoreFault.DiskFault) }
         ensures rests { self.old.failed ≡ true → (self.new.disk ≡ self.old.disk) × IsErrOf result StoreFault.DiskFault }
     {
-        if !self.failed && image.len() > MAX_IMAGE {
+        self.allow_image(image.len(), v)?;
+        let text = RoomyText::begun(self.alloc, image.len() as u32, image)?;
+        match self.install_text(text, v) {
+            Ok(()) => Ok(()),
+            Err(refused) => Err(refused.why),
+        }
+    }
+
+    /// The same of a text that has room for the label, which is not copied. It comes back where it is not installed.
+    pub fn install_text(&mut self, text: RoomyText, v: Version) -> Result<(), NotInstalled>
+        requires sound { IsSound D.Disk self.old }
+        requires version { IsVersion v }
+        requires none { self.old.begun ≡ None }
+        ensures sound { IsSound D.Disk self.new }
+        ensures ended { MatchResult (without_text result) (λ _. Rewrites D.Disk (Replaced text) v self.old self.new)
+            (EndsAs D.Disk (IsTooLong text) v self.old self.new) }
+        ensures fits { OnOk result (length text ≤ MAX_IMAGE) }
+        ensures too_long { self.old.failed ≡ false → MAX_IMAGE < length text
+            → IsErrOf (without_text result) (StoreFault.TooLarge (length text)) }
+        ensures image { OnOk result (IfSome (D.files self.old.disk) (λ _. image_in (D.files self.new.disk) ≡ Some text)) }
+        ensures durable { self.old.failed ≡ false
+            → IsDurableIn D.Disk (Replaced text) v self.old self.new (IsErrOf (without_text result) StoreFault.DiskFault) }
+        ensures rests { self.old.failed ≡ true → (self.new.disk ≡ self.old.disk) × IsErrOf (without_text result) StoreFault.DiskFault }
+        ensures back { IfErr result (λ refused. refused.text ≡ text) }
+    {
+        let file = text.labelled(v);
+        match self.install_labelled(file.as_slice(), v) {
+            Ok(()) => Ok(()),
+            Err(why) => Err(NotInstalled {
+                why,
+                text: RoomyText::behind_label(file),
+            }),
+        }
+    }
+
+    /// The same of the label of the version and an image behind it.
+    fn install_labelled(&mut self, file: &[u8], v: Version) -> Result<(), StoreFault>
+        requires sound { IsSound D.Disk self.old }
+        requires version { IsVersion v }
+        requires none { self.old.begun ≡ None }
+        requires labelled { take LABEL_LEN file.now ≡ label v }
+        requires long { LABEL_LEN ≤ length file.now }
+        ensures sound { IsSound D.Disk self.new }
+        ensures ended { MatchResult result (λ _. Rewrites D.Disk (Replaced (drop LABEL_LEN file.now)) v self.old self.new)
+            (EndsAs D.Disk (IsTooLong (drop LABEL_LEN file.now)) v self.old self.new) }
+        ensures fits { OnOk result (length (drop LABEL_LEN file.now) ≤ MAX_IMAGE) }
+        ensures too_long { self.old.failed ≡ false → MAX_IMAGE < length (drop LABEL_LEN file.now)
+            → IsErrOf result (StoreFault.TooLarge (length (drop LABEL_LEN file.now))) }
+        ensures image { OnOk result (IfSome (D.files self.old.disk)
+            (λ _. image_in (D.files self.new.disk) ≡ Some (drop LABEL_LEN file.now))) }
+        ensures durable { self.old.failed ≡ false
+            → IsDurableIn D.Disk (Replaced (drop LABEL_LEN file.now)) v self.old self.new (IsErrOf result StoreFault.DiskFault) }
+        ensures rests { self.old.failed ≡ true → (self.new.disk ≡ self.old.disk) × IsErrOf result StoreFault.DiskFault }
+    {
+        self.allow_image(file.len() - LABEL_LEN, v)?;
+        let ended = install_files(&mut self.disk, &mut self.pages, file, v);
+        self.end(ended, v)
+    }
+
+    /// Refuses an image of so many bytes that is too long, a version that is not newer, and anything where the store has failed.
+    fn allow_image(&self, bytes: usize, v: Version) -> Result<(), StoreFault>
+        ensures ok { OnOk result ((self.now.failed ≡ false) × (version_lt self.now.version v ≡ true) × (bytes ≤ MAX_IMAGE)) }
+        ensures too_long { self.now.failed ≡ false → MAX_IMAGE < bytes → IsErrOf result (StoreFault.TooLarge bytes) }
+        ensures rests { self.now.failed ≡ true → IsErrOf result StoreFault.DiskFault }
+        ensures fault { IfErr result (λ fault. IsImageForbidden self.now bytes v fault) }
+    {
+        if !self.failed && bytes > MAX_IMAGE {
             return Err(StoreFault::TooLarge {
-                bytes: image.len() as u64,
+                bytes: bytes as u64,
             });
         }
-        self.allow(v)?;
-        let ended = install_files(self.alloc, &mut self.disk, &mut self.pages, image, v);
-        self.end(ended, v)
+        self.allow(v)
     }
 
     /// Refuses a version that is not newer, and anything where the store has failed.
