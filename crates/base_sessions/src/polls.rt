@@ -6,7 +6,7 @@ use crate::words::{
 };
 use session_rows::{Fault, bytes_in, number_in, told_bytes};
 use std::alloc::Global;
-use ubik_recovery::{Recovery, TextSource};
+use ubik_recovery::{CollectedText, Recovery, TextSource};
 use ubik_types::{Phase, Version};
 
 /// The phases and their words.
@@ -91,7 +91,7 @@ fn call_text(alloc: Global, poll: &mut Recovery, words: &[&str]) -> Result<Strin
     match words {
         ["source"] => source_text(alloc, poll.received_of()),
         ["text", wanted @ ..] => received_text(alloc, poll, wanted),
-        ["take"] => Ok(format!(in alloc; "{} bytes", poll.take_text().as_slice().len())?),
+        ["take"] => taken_text(alloc, poll.take_text()),
         _ => word_text(alloc, step(alloc, poll, words)?),
     }
 }
@@ -104,6 +104,15 @@ fn source_text(alloc: Global, source: Option<TextSource>) -> Result<String, Faul
         }
         None => word_text(alloc, "none"),
     }
+}
+
+/// How many bytes a text has that was given out.
+fn taken_text(alloc: Global, taken: Option<CollectedText>) -> Result<String, Fault> {
+    let bytes = match &taken {
+        Some(own) => own.text.len(),
+        None => 0,
+    };
+    Ok(format!(in alloc; "{bytes} bytes")?)
 }
 
 /// Whether the bytes received are those wanted, or which they are.

@@ -1,15 +1,15 @@
 //! What a server takes over of another one's database: a version, or an image piece by piece. All memory is taken before the disk is changed.
-ghost use Rattle.std.specs.Prelude.{◌≡◌, ◌≤◌, ◌<◌, ◌==◌, ◌&&◌, ◌↔◌, IsTrue, length, take, Some, OnOk, OnErr};
+ghost use Rattle.std.specs.Option.{option_map};
+ghost use Rattle.std.specs.Prelude.{◌≡◌, ◌≤◌, ◌==◌, ◌&&◌, ◌↔◌, IsTrue, length, None, Some, IfOk, OnOk, OnErr};
 ghost use Rattle.ubik_types.specs.declared.limits.TheConstants.{MAX_IMAGE};
 ghost use Rattle.ubik_types.specs.Version.{version_eq, version_lt};
 ghost use Rattle.ubik_recovery.specs.Record.{best_of, host_of, with_text};
-ghost use Rattle.ubik_recovery.specs.Text.{IsNext, IsWithin, received_bytes, with_piece};
-ghost use Rattle.server_state.specs.Receiving.{front_back, front_taken};
+ghost use Rattle.ubik_recovery.specs.Text.{IsNext, IsWithin, received_bytes, text_before, text_in, with_piece};
+ghost use Rattle.server_state.specs.Receiving.{IsShortBefore};
 
 use crate::state::State;
-use std::alloc::Global;
-use ubik_recovery::TextSource;
-use ubik_types::{Bytes, NoMemory, Phase, Version};
+use ubik_recovery::{CollectedText, TextBefore, TextSource};
+use ubik_types::{NoMemory, Phase, Version};
 
 impl State {
     ghost use Rattle.server_state.specs.State.{server_of, server_with, Keeps};
@@ -62,31 +62,51 @@ impl State {
         Ok(())
     }
 
-    /// Gives the text out that a piece goes on with, and nothing where the piece begins one.
-    pub fn take_front(&mut self, alloc: Global, offset: u32) -> Vec<u8>
+    /// The same, and tells how the text was before: the piece can be taken back.
+    pub fn put_piece(
+        &mut self,
+        source: TextSource,
+        offset: u32,
+        bytes: &[u8],
+    ) -> Result<TextBefore, NoMemory>
         requires next { IsNext offset self.old.recovery.text }
-        ensures front { result.items ≡ take offset (received_bytes self.old.recovery.text) }
-        ensures after { server_of self.new ≡ server_with self.old (front_taken offset self.old.recovery) }
-        ensures recovery { self.new.recovery ≡ front_taken offset self.old.recovery }
+        requires within { IsWithin source offset bytes.now }
+        requires fits { source.total ≤ MAX_IMAGE }
+        ensures after { OnOk result (server_of self.new ≡ server_with self.old (with_text self.old.recovery (Some (with_piece source offset bytes.now self.old.recovery.text)))) }
         ensures kept { Keeps self.old self.new }
+        ensures recovery { OnOk result (self.new.recovery ≡ with_text self.old.recovery (Some (with_piece source offset bytes.now self.old.recovery.text))) }
+        ensures before { IfOk result (λ before. text_before before (Some (with_piece source offset bytes.now self.old.recovery.text)) ≡ self.old.recovery.text) }
+        ensures fits { IfOk result IsShortBefore }
+        ensures err { OnErr result (self.new ≡ self.old) }
     {
-        if offset == 0 {
-            return Vec::new(alloc);
-        }
-        self.recovery.take_text().into_vec()
+        self.recovery.put_piece(source, offset, bytes)
     }
 
-    /// Takes the text that a piece was to go on with in again.
-    pub fn put_front(&mut self, source: TextSource, offset: u32, front: Vec<u8>)
-        requires { length (take offset front.items) ≤ MAX_IMAGE }
-        ensures after { server_of self.new ≡ server_with self.old (front_back source offset (take offset front.items) self.old.recovery) }
+    /// Takes a piece back: the text is as before it.
+    pub fn take_back(&mut self, before: TextBefore)
+        requires fits { IsShortBefore before }
+        ensures after { server_of self.new ≡ server_with self.old (with_text self.old.recovery (text_before before self.old.recovery.text)) }
         ensures kept { Keeps self.old self.new }
     {
-        if offset == 0 {
-            return;
-        }
-        let mut front = front;
-        front.truncate(offset as usize);
-        self.recovery.put_text(source, Bytes::new(front));
+        self.recovery.take_back(before);
+    }
+
+    /// Gives the text out, without copying it.
+    pub fn take_text(&mut self) -> Option<CollectedText>
+        ensures text { option_map text_in result ≡ self.old.recovery.text }
+        ensures after { server_of self.new ≡ server_with self.old (with_text self.old.recovery None) }
+        ensures recovery { self.new.recovery ≡ with_text self.old.recovery None }
+        ensures kept { Keeps self.old self.new }
+    {
+        self.recovery.take_text()
+    }
+
+    /// Takes a text in again that was given out.
+    pub fn put_text(&mut self, text: CollectedText)
+        requires fits { length text.text ≤ MAX_IMAGE }
+        ensures after { server_of self.new ≡ server_with self.old (with_text self.old.recovery (Some (text_in text))) }
+        ensures kept { Keeps self.old self.new }
+    {
+        self.recovery.put_text(text);
     }
 }

@@ -1,9 +1,5 @@
--- The text that a piece goes on with, given out and taken in again; and how rules end about which that is done.
-use Rattle.std.proofs.Common.{◌≡◌, ◌≢◌, ◌≤◌, ◌++◌, ◌∙◌, ⊎_elim, ℕ, Bool, true, false, cond, List, Option, Some, None, length, take, Result, Ok, Err, OnOk, OnErr, refl, sym, ap, subst, arith, length-take}
-use Rattle.std.specs.Prelude.{◌==◌}
-use Rattle.std.specs.Result.{is_err}
-use Rattle.std.proofs.lemmas.Bool.{cond_both, false≢true}
-use Rattle.std.proofs.lemmas.List.{take-append-le, take-take}
+-- The text that a last piece is taken into, and taken back from; and how rules end about which that is done.
+use Rattle.std.proofs.Common.{◌≡◌, ◌≢◌, ◌++◌, ◌∙◌, false, List, Option, Some, Ok, Err, refl, sym, ap, subst}
 use Rattle.disk_base.specs.declared.disks.Disk.{Ghosts}
 use Rattle.ubik_types.specs.declared.phases.Phase.{Phase}
 use Rattle.ubik_types.specs.declared.phases.Phase.TheVariants as phase
@@ -14,20 +10,17 @@ use Rattle.ubik_store.specs.declared.faults.StoreFault.TheVariants.{DiskFault, N
 use Rattle.cell_model.specs.declared.events.Output.{Output}
 use Rattle.cell_model.specs.Durable.{Durable, Made}
 use Rattle.cell_model.specs.Node.{Server, ReceivedText, halted_from}
-use Rattle.cell_model.specs.Recovery.{text_with}
 use Rattle.cell_model.specs.Step.{Member, Stepped, outputs_of}
-use Rattle.ubik_recovery.specs.declared.texts.TextSource.{TextSource}
+use Rattle.ubik_recovery.specs.declared.texts.TextBefore.{TextBefore}
 use Rattle.ubik_recovery.specs.Record.{RecoveryRecord, phase_record, record_in, with_text}
 use Rattle.ubik_recovery.specs.Rules.{recovering}
-use Rattle.ubik_recovery.specs.Text.{IsNext, received_bytes, text_of}
+use Rattle.ubik_recovery.specs.Text.{text_before}
 use Rattle.server_state.specs.declared.state.State.{State}
 use Rattle.ubik_node.specs.Disk.{FailsIn, Serves}
 use Rattle.ubik_node.specs.Node.{Ends, Held, IsKept, durable_in}
-use Rattle.server_state.specs.Receiving.{front_back, front_taken}
 use Rattle.server_state.specs.State.{announced, server_of, server_with}
 use Rattle.ubik_node.proofs.Decided.{decided_ends}
 use Rattle.ubik_node.proofs.Endings.{ends_as, fault_is, ok_not, short_ends}
-use Rattle.ubik_node.proofs.Received.{front_of}
 
 pub same_phase : (v : Version) (r : RecoveryRecord) (text : Option ReceivedText) → phase_record v (with_text r text) ≡ phase_record v r
 same_phase v r text = elim r.phase as (λ (p : Phase). record_in p v (with_text r text) ≡ record_in p v r) [ phase.None ↦ refl | _ ↦ refl ]
@@ -36,41 +29,19 @@ same_phase v r text = elim r.phase as (λ (p : Phase). record_in p v (with_text 
 pub text_put : (v : Version) (r : RecoveryRecord) (s : Server) (text : Option ReceivedText) → recovering v (with_text r text) s ≡ record (recovering v r s) { received = text }
 text_put v r s text = ap (λ (p : PhaseRecord). record s { phase = p; received = text }) (same_phase v r text)
 
--- the front that was given out comes back, at each server that is as the one that it was taken of
-pub front_restored : (may : Bool) (source : TextSource) (at : ℕ) (bytes front : List ℕ) (st x : State) (y : ReceivedText) → text_with may source.server source.version source.total at bytes st.recovery.text ≡ Some y
-    → server_of x ≡ server_with st (front_taken at st.recovery) → front ≡ take at (received_bytes st.recovery.text) → server_with x (front_back source at front x.recovery) ≡ server_of st
-front_restored may source at bytes front st x y takes server is =
-    cond_both (at == 0) _ _ (λ (r : RecoveryRecord). server_with x r ≡ server_of st)
-    (λ first. server ∙ ap (λ (b : Bool). server_with st (cond b st.recovery (with_text st.recovery None))) first)
-    (λ later.
-    let text : st.recovery.text ≡ Some (text_of source front) = front_of may source at bytes st.recovery.text y later takes ∙ ap (λ (xs : List ℕ). Some (text_of source xs)) (sym is) in
-    text_put (announced x) x.recovery (server_of x) (Some (text_of source front))
-    ∙ ap (λ (s : Server). record s { received = Some (text_of source front) }) (server ∙ ap (λ (b : Bool). server_with st (cond b st.recovery (with_text st.recovery None))) later)
-    ∙ sym (text_put (announced st) (with_text st.recovery None) (server_of st) (Some (text_of source front)))
-    ∙ ap (λ (t : Option ReceivedText). recovering (announced st) (with_text st.recovery t) (server_of st)) (sym text))
+-- a piece that was taken into the text is taken back, at each server that is as the one with the piece
+pub text_restored : (st x : State) (whole : ReceivedText) (before : TextBefore) → server_of x ≡ server_with st (with_text st.recovery (Some whole))
+    → text_before before (Some whole) ≡ st.recovery.text → server_with x (with_text x.recovery (text_before before x.recovery.text)) ≡ server_of st
+text_restored st x whole before server back =
+    let text = text_before before x.recovery.text in
+    let there : x.recovery.text ≡ Some whole = ap (λ (s : Server). s.received) server in
+    text_put (announced x) x.recovery (server_of x) text
+    ∙ ap (λ (s : Server). record s { received = text }) (server ∙ text_put (announced st) st.recovery (server_of st) (Some whole))
+    ∙ ap (λ (t : Option ReceivedText). record (server_of st) { received = t }) (ap (text_before before) there ∙ back)
 
--- a halted server keeps the same, whether the front is given out or not
-pub back_kept : (source : TextSource) (at : ℕ) (front : List ℕ) (x : State) → halted_from (server_with x (front_back source at front x.recovery)) ≡ halted_from (server_of x)
-back_kept source at front x = cond_both (at == 0) _ _ (λ (r : RecoveryRecord). halted_from (server_with x r) ≡ halted_from (server_of x)) (λ _. refl)
-    (λ _. ap halted_from (text_put (announced x) x.recovery (server_of x) (Some (text_of source front))))
-
-pub taken_kept : (at : ℕ) (x : State) → halted_from (server_with x (front_taken at x.recovery)) ≡ halted_from (server_of x)
-taken_kept at x = cond_both (at == 0) _ _ (λ (r : RecoveryRecord). halted_from (server_with x r) ≡ halted_from (server_of x)) (λ _. refl)
-    (λ _. ap halted_from (text_put (announced x) x.recovery (server_of x) None))
-
-pub next_within : (at : ℕ) (text : Option ReceivedText) → IsNext at text → at ≤ length (received_bytes text)
-next_within at text next = ⊎_elim (λ first. omega (arith, first)) (λ goes. omega (arith, goes)) next
-
-pub front_cut : (at : ℕ) (xs bytes : List ℕ) → at ≤ length xs → take at (take at xs ++ bytes) ≡ take at xs
-front_cut at xs bytes within = take-append-le at (take at xs) bytes (omega (arith, length-take at xs, within)) ∙ take-take at at xs (omega arith)
-
-pub on_err : {A E : Type 0} (r : Result A E) (P : Type 0) → is_err r ≡ true → OnErr r P → P
-on_err (Ok x) P failed so = absurd (false≢true failed)
-on_err (Err e) P failed so = so
-
-pub on_fine : {A E : Type 0} (r : Result A E) (P : Type 0) → is_err r ≡ false → OnOk r P → P
-on_fine (Ok x) P went so = so
-on_fine (Err e) P went so = absurd (false≢true (sym went))
+-- a halted server keeps the same with another text
+pub text_kept : (x : State) (text : Option ReceivedText) → halted_from (server_with x (with_text x.recovery text)) ≡ halted_from (server_of x)
+text_kept x text = ap halted_from (text_put (announced x) x.recovery (server_of x) text)
 
 module _ {D : Type 0} (g : Ghosts D) {knows : Type 0} {t : Stepped} {before after : List Output} (n : Held D) where
   -- memory ran out, and what was given out has come back

@@ -8,10 +8,12 @@ ghost use Rattle.cell_model.specs.Step.{followed};
 ghost use Rattle.cell_model.specs.Writes.{settled};
 ghost use Rattle.ubik_recovery.specs.Record.{polled_of};
 ghost use Rattle.server_rules.specs.Acts.{IsOver, MayTake};
+ghost use Rattle.server_state.specs.Receiving.{received_in};
 ghost use Rattle.server_state.specs.Recovering.{IsOfCell};
 
 use crate::nodes::Node;
 use crate::pieces::first_piece;
+use crate::receiver::install_received;
 use db_image::DraftService;
 use disk_base::Disk;
 use server_state::{Given, HeldImage, Outputs};
@@ -63,7 +65,6 @@ impl<D: Disk, V: DraftService> Node<D, V> {
         next: Recovery,
         new: Version,
         best: Version,
-        text: &[u8],
         out: &mut Outputs,
     ) -> Result<(), StoreFault>
         requires not_halted { self.old.store.failed ≡ false }
@@ -72,15 +73,17 @@ impl<D: Disk, V: DraftService> Node<D, V> {
         requires over { IsOver self.old.state next }
         requires new { IsVersion new }
         requires newer { version_lt best new ≡ true }
-        requires fits { length text.now ≤ MAX_IMAGE }
+        requires text { IsSome self.old.state.recovery.text }
+        requires fits { length (received_in self.old.state) ≤ MAX_IMAGE }
         ensures ends { Ends D.Disk (IsSome (D.files self.old.store.disk))
-            (followed (installed (up_server self.old) best text.now) (λ after.
+            (followed (installed (up_server self.old) best (received_in self.old.state)) (λ after.
             followed (relabelled_to (own_member self.old) after (polled_of next) new) (settled (own_member self.old))))
             out.old out.new (held self.old) (held self.new) result }
-        ensures alike { OnOk result (IsAlike (followed (installed (up_server self.old) best text.now) (λ after.
+        ensures alike { OnOk result (IsAlike (followed (installed (up_server self.old) best (received_in self.old.state)) (λ after.
             followed (relabelled_to (own_member self.old) after (polled_of next) new) (settled (own_member self.old))))
             (up_server self.new) out.old out.new) }
     {
+        let text = self.state.recovery.received();
         let first = &text[..text.len().min(MAX_PIECE)];
         let given = Given {
             poll: next.poll(),
@@ -90,7 +93,7 @@ impl<D: Disk, V: DraftService> Node<D, V> {
             piece: bytes_of(self.alloc, first)?,
         };
         self.state.give(self.alloc, &next, &given, out)?;
-        self.store.install(text, best)?;
+        install_received(&mut self.store, &mut self.state, best)?;
         self.store.relabel(new)?;
         self.state.take_over(best, HeldImage::of(&self.store));
         self.state.begin_sending(next, new);

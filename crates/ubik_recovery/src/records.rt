@@ -5,14 +5,14 @@ ghost use Rattle.cell_model.specs.Polls.{entry_at};
 ghost use Rattle.cell_model.specs.Recovery.{text_with, is_whole};
 ghost use Rattle.ubik_recovery.specs.Record.{no_recovery, poll_begun, answered_by, best_of, host_of, with_old, held_by, held_alone, in_phase, with_text, fetched_source, HasAnswer, adopted, given_out, restored};
 ghost use Rattle.ubik_types.specs.declared.phases.Phase.TheVariants as phase;
-ghost use Rattle.ubik_recovery.specs.Text.{received_bytes, source_of, text_of, is_next, with_piece, IsNext, IsWithin};
+ghost use Rattle.ubik_recovery.specs.Text.{received_bytes, source_of, text_of, is_next, text_before, text_in, with_piece, IsNext, IsWithin};
 
 use crate::answers::{answered, best_version, first_with, only_answer, only_mark};
-use crate::texts::{TextSource, piece_fits, text_begun};
+use crate::texts::{CollectedText, TextBefore, TextSource, piece_fits};
 use std::alloc::Global;
 use std::marker::Model;
 use std::mem;
-use ubik_types::{Bytes, MAXSERVERS, Marks, NoMemory, Phase, Version};
+use ubik_types::{MAXSERVERS, Marks, NoMemory, Phase, Version};
 
 /// What a server knows of the recovery of its cell: the phase that it holds, the poll with the versions that were answered,
 /// the version before its relabelling, who has the present one, and the text that it receives of another server's image
@@ -20,14 +20,14 @@ use ubik_types::{Bytes, MAXSERVERS, Marks, NoMemory, Phase, Version};
 /// seconds. The announced version is not kept here: it is the one before a write in flight, and else the own one.
 #[derive(Drop)]
 pub struct Recovery {
+    alloc: Global,
     servers: usize,
     phase: Phase,
     poll: u32,
     answers: [Option<Version>; MAXSERVERS],
     old_version: Version,
     holders: [bool; MAXSERVERS],
-    source: Option<TextSource>,
-    text: Vec<u8>,
+    text: Option<CollectedText>,
 }
 
 impl Model for Recovery {
@@ -56,6 +56,7 @@ impl Recovery {
         ensures { result ≡ no_recovery servers }
     {
         Recovery {
+            alloc,
             servers,
             phase: Phase::None,
             poll: 0,
@@ -65,8 +66,7 @@ impl Recovery {
                 counter: 0,
             },
             holders: [false; MAXSERVERS],
-            source: None,
-            text: Vec::new(alloc),
+            text: None,
         }
     }
 
@@ -188,16 +188,15 @@ impl Recovery {
     pub fn marks(&self) -> Recovery
         ensures { result ≡ with_text self.now None }
     {
-        let alloc = *self.text.allocator();
         Recovery {
+            alloc: self.alloc,
             servers: self.servers,
             phase: self.phase,
             poll: self.poll,
             answers: self.answers,
             old_version: self.old_version,
             holders: self.holders,
-            source: None,
-            text: Vec::new(alloc),
+            text: None,
         }
     }
 
@@ -242,26 +241,21 @@ impl Recovery {
         ensures after { self.new ≡ with_text self.old from.old.text }
         ensures left { from.new ≡ with_text from.old None }
     {
-        let source = from.source;
-        let text = from.take_text();
-        self.source = source;
-        self.text = text.into_vec();
+        self.text = from.take_text();
     }
 
     /// Takes a text in that was given out.
-    pub fn put_text(&mut self, source: TextSource, text: Bytes)
-        ensures { self.new ≡ with_text self.old (Some (text_of source text)) }
+    pub fn put_text(&mut self, text: CollectedText)
+        ensures { self.new ≡ with_text self.old (Some (text_in text)) }
     {
-        self.source = Some(source);
-        self.text = text.into_vec();
+        self.text = Some(text);
     }
 
     /// Forgets all: no phase is held, nobody answered, and no text is there.
     pub fn drop_all(&mut self)
         ensures { self.new ≡ no_recovery self.old.servers }
     {
-        let alloc = *self.text.allocator();
-        *self = Recovery::in_cell(alloc, self.servers);
+        *self = Recovery::in_cell(self.alloc, self.servers);
     }
 
     /// Whether the rules take a piece of another server's image: it lies within an image, and begins a text, where it may,
@@ -289,8 +283,8 @@ impl Recovery {
         if offset == 0 {
             return may_begin;
         }
-        match self.source {
-            Some(own) => own.is_same(source) && self.text.len() == offset as usize,
+        match &self.text {
+            Some(own) => own.source.is_same(source) && own.text.len() == offset as usize,
             None => false,
         }
     }
@@ -326,37 +320,70 @@ impl Recovery {
         ensures whole { IfOk result (λ whole. whole ≡ is_whole (with_piece source offset bytes.now self.old.text)) }
         ensures err { OnErr result (self.new ≡ self.old) }
     {
+        let _ = self.put_piece(source, offset, bytes)?;
+        Ok(self.received().len() == source.total as usize)
+    }
+
+    /// Takes a piece of another server's image in, and tells how the text was before. A piece at 0 begins the text anew. Where memory runs
+    /// out all is as before.
+    pub fn put_piece(
+        &mut self,
+        source: TextSource,
+        offset: u32,
+        bytes: &[u8],
+    ) -> Result<TextBefore, NoMemory>
+        requires next { IsNext offset self.old.text }
+        ensures ok { OnOk result (self.new ≡ with_text self.old (Some (with_piece source offset bytes.now self.old.text))) }
+        ensures before { IfOk result (λ before. text_before before (Some (with_piece source offset bytes.now self.old.text)) ≡ self.old.text) }
+        ensures err { OnErr result (self.new ≡ self.old) }
+    {
         if offset == 0 {
-            self.text = text_begun(*self.text.allocator(), source.total, bytes)?;
-        } else {
-            self.text.extend_from_slice(bytes)?;
+            let begun = CollectedText::begun(self.alloc, source, bytes)?;
+            return Ok(TextBefore::Other(self.text.replace(begun)));
         }
-        self.source = Some(source);
-        Ok(self.text.len() == source.total as usize)
+        match &mut self.text {
+            Some(own) => own.put(source, offset, bytes),
+            None => unreachable!(),
+        }
+    }
+
+    /// Takes a piece back that was put: the text is as before it.
+    pub fn take_back(&mut self, before: TextBefore)
+        ensures { self.new ≡ with_text self.old (text_before before self.old.text) }
+    {
+        match before {
+            TextBefore::Other(text) => self.text = text,
+            TextBefore::Shorter { source, len } => {
+                if let Some(own) = &mut self.text {
+                    own.shorten(source, len);
+                }
+            }
+        }
     }
 
     /// The bytes of the text that have come.
     pub fn received(&self) -> &[u8]
         ensures { result.now ≡ received_bytes self.now.text }
     {
-        self.text.as_slice()
+        match &self.text {
+            Some(own) => own.text.as_slice(),
+            None => &[],
+        }
     }
 
     /// Which image the text is of; none where no text has begun.
     pub fn received_of(&self) -> Option<TextSource>
         ensures { option_map source_of self.now.text ≡ result }
     {
-        self.source
+        self.text.as_ref().map(|own| own.source)
     }
 
     /// Gives the text out without copying it; none is left.
-    pub fn take_text(&mut self) -> Bytes
-        ensures bytes { result ≡ received_bytes self.old.text }
+    pub fn take_text(&mut self) -> Option<CollectedText>
+        ensures text { option_map text_in result ≡ self.old.text }
         ensures after { self.new ≡ with_text self.old None }
     {
-        let alloc = *self.text.allocator();
-        self.source = None;
-        Bytes::new(mem::replace(&mut self.text, Vec::new(alloc)))
+        self.text.take()
     }
 
     /// Empties the text and gives its memory back, as where the own version changes.

@@ -1,6 +1,5 @@
 use Rattle.std.proofs.Common.{length, subst, sym}
 use Rattle.std.proofs.lemmas.Bool.{cond_both}
-use Rattle.ubik_recovery.specs.Record.{RecoveryRecord}
 use Rattle.server_state.specs.Recovering.{IsOfCell}
 use Rattle.server_state.proofs.state.State.restore_phase.Goals as goal
 

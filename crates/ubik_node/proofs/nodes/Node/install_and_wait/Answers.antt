@@ -6,6 +6,7 @@ use Rattle.cell_model.specs.Recovery.{installed}
 use Rattle.cell_model.specs.Step.{Member, with_database, with_phase}
 use Rattle.ubik_recovery.specs.Record.{polled_of}
 use Rattle.server_state.specs.Recovering.{IsOfCell}
+use Rattle.server_state.specs.Receiving.{received_in}
 use Rattle.server_state.specs.State.{member_of, server_of}
 use Rattle.ubik_node.specs.Node.{held}
 use Rattle.ubik_node.proofs.Endings.{handed_ends}
@@ -17,16 +18,16 @@ pub returns-in_err-install-clause-ends : goal.returns-in_err-install-clause-ends
 returns-in_err-install-clause-ends g c =
     let n = c.args.self.now in
     handed_ends g.D.Disk c.from_residual.result c.in_err-install.field-0.0 c.from_residual.ensures.1
-    (fails_so g.D.Disk {t = installed (server_of n.state) c.args.version c.args.text.now} (held n) (held c.install.new.self) refl c.in_err-install.field-0.0 c.in_err-install.ensures.ends)
+    (fails_so g.D.Disk {t = installed (server_of n.state) c.args.version (received_in c.args.self.now.state)} (held n) (held c.install.new.self) refl c.in_err-install.field-0.0 c.in_err-install.ensures.ends)
 
 pub returns-clause-ends : goal.returns-clause-ends
 returns-clause-ends g c =
     let n = c.args.self.now in
     let mid = c.install.new.self in
     let last = c.wait.new.self in
-    goes_on g.D.Disk {t = installed (server_of n.state) c.args.version c.args.text.now} (held n) (held mid) refl (server_of last) (member_of last) c.wait.ensures.kept.member
+    goes_on g.D.Disk {t = installed (server_of n.state) c.args.version (received_in c.args.self.now.state)} (held n) (held mid) refl (server_of last) (member_of last) c.wait.ensures.kept.member
     (λ server. (
-      waits_at (server_of n.state) c.args.version c.args.text.now (polled_of c.args.next) mid.state c.args.next server ∙ sym c.wait.ensures.after,
+      waits_at (server_of n.state) c.args.version (received_in c.args.self.now.state) (polled_of c.args.next) mid.state c.args.next server ∙ sym c.wait.ensures.after,
       refl,
     ))
     c.in_ok-install.ensures.ends
@@ -41,7 +42,7 @@ returns-clause-alike g c =
     let poll = polled_of c.args.next in
     record {
       server =
-          blank_image (with_phase (with_database s c.args.version c.args.text.now) (Relabel poll)) c.args.text.now took.0 (sym took.1)
+          blank_image (with_phase (with_database s c.args.version (received_in c.args.self.now.state)) (Relabel poll)) (received_in c.args.self.now.state) took.0 (sym took.1)
           ∙ ap blank (waits_at s c.args.version took.0 poll c.install.new.self.state c.args.next (sym took.2) ∙ sym c.wait.ensures.after);
       outputs = refl;
     }
