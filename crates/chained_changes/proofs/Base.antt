@@ -18,6 +18,7 @@ use Rattle.prdb_entries.specs.State.{PrEntry}
 use Rattle.prdb_entries.proofs.EntryFields.{behind_name, entry_with, kind_with, length-with_fields}
 use Rattle.prdb_entries.proofs.Fields.{length-zeros}
 use Rattle.prdb_entries.proofs.LaidOut.{whole_same as entries_same}
+use Rattle.prdb_members.proofs.RecordsKeep.{zeros_len}
 use Rattle.chained_entries.specs.Places.{free_blocks, id_place, name_place}
 use Rattle.chained_entries.specs.Records.{AreChains}
 use Rattle.db_chains.specs.Visits.{Visits}
@@ -31,10 +32,6 @@ use Rattle.chained_changes.proofs.Entries.{Belongs, IsUnowned, IsWith, each_free
 use Rattle.chained_changes.proofs.Linked.{ById, ByName, Chain, IsChain, IsEntry, IsLinked, Owned, high, links_of, low, next_of, place_of}
 
 -- ---- the block of a new entry
-
-zeros_len : length (zeros 192) ≡ 192
-unfolding zeros
-zeros_len = refl
 
 pub new_len : (e : PrEntry) → IsRecord e → length (new_block e) ≡ 192
 new_len e is = length-with_fields e (zeros 192) zeros_len is.fields.name_len

@@ -26,7 +26,7 @@ use Rattle.chained_entries.proofs.Laid.{block_laid}
 use Rattle.chained_entries.proofs.Lists.{here, later, first_or_rest}
 use Rattle.chained_entries.proofs.Lookups.{same_block}
 use Rattle.chained_entries.proofs.Taken.{free_word}
-use Rattle.chained_changes.proofs.Unlinked.{place_kind}
+use Rattle.db_chains.proofs.Leaving.{place_kind}
 
 -- ---- the words of free blocks
 
@@ -84,7 +84,8 @@ right_free image w is =
     let place : mark_place l w ≡ 2112 + 192 * (w - 1) = omega (arith, one) in (
       omega (arith, names.some),
       omega (arith, names.block),
-      ap kind_of (sym (same_block image (w - 1))) ∙ block_mark 2112 (w - 1) image ∙ ap (word_at image) (sym place) ∙ (right l image w is).mark,
+      ap kind_of (sym (same_block image (w - 1))) ∙ block_mark 2112 (w - 1) image ∙ ap (word_at image) (sym place)
+          ∙ (right l image w is).mark,
     )
 
 put_form : (image : List ℕ) (n p : ℕ) → IsWhole 2112 image → 0 < n → n ≤ block_count image → kind_of (block_in image (n - 1)) ≡ 1
@@ -147,6 +148,6 @@ freed_form image n ws whole some within kind chain up =
     above_behind l image 20 n s.below s.above (omega arith) all s.less s.more in
     put_form image n (place_above l 20 n image) whole some within kind
     (⊎_elim (λ (first : place_behind l 20 s.below ≡ 20). inl (p ∙ first))
-    (λ (behind : (w : ℕ) × (place_behind l 20 s.below ≡ next_place l w) × (is_right l image w ≡ true)).
+    (λ (behind : (w : ℕ) × (place_behind l 20 s.below ≡ next_place l w) × (is_right l image w ≡ true) × Contains s.below w).
     inr (behind.0, p ∙ behind.1, behind.2))
     (place_kind l image 20 s.below s.above all))

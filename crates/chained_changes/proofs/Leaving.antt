@@ -51,13 +51,13 @@ one_chain u r (Owned a) (ById b) w of next x y = absurd (omega (arith, next))
 one_chain u r (Owned a) (Owned b) w of next x y =
     ap Owned (one_block u r a b of x.0 y.0 (sym x.1.belongs.1 ∙ y.1.belongs.1))
 
-some_word : (u : List ℕ) (c : Chain) (w : ℕ) → Belongs u c w → 0 < w
+pub some_word : (u : List ℕ) (c : Chain) (w : ℕ) → Belongs u c w → 0 < w
 some_word u (ByName a) w x = x.some
 some_word u (ById a) w x = x.some
 some_word u (Owned a) w x = x.1.some
 
 -- a group in an owner's chain has an owner
-owned_word : (u : List ℕ) (r : Registry) (c : Chain) (w : ℕ) → IsOfRegistry u r → next_of c ≡ 104 → Belongs u c w
+pub owned_word : (u : List ℕ) (r : Registry) (c : Chain) (w : ℕ) → IsOfRegistry u r → next_of c ≡ 104 → Belongs u c w
     → IsOwned (entry_in (block_in u (w - 1)))
 owned_word u r (ByName a) w of next x = absurd (omega (arith, next))
 owned_word u r (ById a) w of next x = absurd (omega (arith, next))
@@ -94,7 +94,7 @@ Unnamed u e n = Less (ById (id_key e.id)) n (Less (ByName (name_key e.name)) n (
 abbrev pub Left : (u : List ℕ) → PrEntry → (n : ℕ) → ℕ → Type 0
 Left u e n = NowAlso (ById (id_key e.id)) n (NowAlso (ByName (name_key e.name)) n (IsUnowned u))
 
-own_at : (u : List ℕ) (e : PrEntry) (k : ℕ) (P : PrEntry → Type 0) → IsEntry u k → entry_in (block_in u k) ≡ e → P e
+pub own_at : (u : List ℕ) (e : PrEntry) (k : ℕ) (P : PrEntry → Type 0) → IsEntry u k → entry_in (block_in u k) ≡ e → P e
     → IsEntryAt u P (k + 1)
 own_at u e k P entry is belongs =
     let back : k ≡ k + 1 - 1 = omega arith in record {
@@ -135,10 +135,10 @@ linked_unnamed image u r e k fs leaves l =
 
 -- ---- its owner
 
-pub owner_of : (u : List ℕ) (r : Registry) (e : PrEntry) (k : ℕ) → IsLeaving u r e k → IsOwned e → (o : ℕ) × IsOf u e.owner o
-owner_of u r e k leaves owned =
-    let of = leaves.of in
-    let there = subst (λ (x : PrEntry). r.entry x.id ≡ Some x) leaves.is (of.laid.there k leaves.entry.below leaves.entry.kind) in
+pub owner_in : (u : List ℕ) (r : Registry) (e : PrEntry) (k : ℕ) → IsOfRegistry u r → IsEntry u k → entry_in (block_in u k) ≡ e → IsOwned e
+    → (o : ℕ) × IsOf u e.owner o
+owner_in u r e k of entry is owned =
+    let there = subst (λ (x : PrEntry). r.entry x.id ≡ Some x) is (of.laid.there k entry.below entry.kind) in
     ⊎_elim
     (λ (none : e.owner ≡ pos 0). absurd (owned.1 none))
     (λ some.
@@ -149,10 +149,13 @@ owner_of u r e k leaves owned =
       record {
         entry = record { below = o.1; kind = o.2 };
         id_is = id;
-        one = λ j entry same. one_block u r j o.0 of entry record { below = o.1; kind = o.2 } (same ∙ sym id);
+        one = λ j in_j same. one_block u r j o.0 of in_j record { below = o.1; kind = o.2 } (same ∙ sym id);
       },
     ))
     (of.valid.among e.id e there).owner
+
+pub owner_of : (u : List ℕ) (r : Registry) (e : PrEntry) (k : ℕ) → IsLeaving u r e k → IsOwned e → (o : ℕ) × IsOf u e.owner o
+owner_of u r e k leaves owned = owner_in u r e k leaves.of leaves.entry leaves.is owned
 
 owner_other : (u : List ℕ) (r : Registry) (e : PrEntry) (k o : ℕ) → IsLeaving u r e k → IsOf u e.owner o → o ≢ k
 owner_other u r e k o leaves of = λ same.
@@ -229,11 +232,12 @@ left_owned image u r e k o fs leaves owned of l =
     let c = ByName (name_key e.name) in
     let d = ById (id_key e.id) in
     let mid = unnamed n e image in
-    let words = words_less u (Less c n (Belongs u)) (NowAlso c n (IsUnowned u)) d n (name_words u r e k leaves) (λ next. omega (arith, next)) in
+    let words =
+    words_less u (Less c n (Belongs u)) (NowAlso c n (IsUnowned u)) d n (name_words u r e k leaves) (λ next. omega (arith, next)) in
     let out = out_linked mid u (Unnamed u e n) (Left u e n) fs (Owned o) n (linked_unnamed image u r e k fs leaves l) words of.entry
     (in_owned u r e k o leaves owned of) in
-    linked_as (without owned_links (owned_place o) n mid) u (Less (Owned o) n (Unnamed u e n)) (Others u n) (NowAlso (Owned o) n (Left u e n))
-    (IsUnowned u) fs
+    linked_as (without owned_links (owned_place o) n mid) u (Less (Owned o) n (Unnamed u e n)) (Others u n)
+    (NowAlso (Owned o) n (Left u e n)) (IsUnowned u) fs
     (λ x w valid has. (has.0.0.0, parts u e n x w has.0 (λ next. has.1 next)))
     (λ x w valid has. (((has.0, λ next. has.1), λ next. has.1), λ next. has.1))
     (λ j below un. inl (inl (inl un)))

@@ -1,20 +1,20 @@
 -- The chains of an image by the words that they visit, and what stays of them where a word comes in.
-use Rattle.std.proofs.Common.{◌≡◌, ◌≢◌, ℕ, ◌+◌, ◌-◌, ◌*◌, ◌/◌, ◌%◌, ◌<◌, ◌≤◌, ◌⊎◌, inl, inr, ⊎_elim, true, List, [], ◌∷◌, length, refl, sym, ap, subst, ◌∙◌, arith}
+use Rattle.std.proofs.Common.{◌≡◌, ◌≢◌, ℕ, ◌+◌, ◌-◌, ◌*◌, ◌/◌, ◌%◌, ◌<◌, ◌≤◌, ◌⊎◌, inl, inr, ⊎_elim, true, List, [], length, refl, sym, ap, subst, ◌∙◌, arith}
 use Rattle.std.specs.Prelude.{◌==◌}
-use Rattle.std.specs.List.{Contains}
 use Rattle.std.proofs.lemmas.Bool.{and_from, cases_eq, cases_order, eq-eqb}
 use Rattle.db_blocks.specs.Blocks.{IsWhole, word_at}
 use Rattle.db_chains.specs.declared.links.Links.{Links}
 use Rattle.db_chains.specs.Chains.{HasChain}
-use Rattle.db_chains.specs.Changes.{IsHeadPlace, MayEnter, put_in, put_word}
+use Rattle.db_chains.specs.Changes.{IsHeadPlace, put_in, put_word}
 use Rattle.db_chains.specs.Free.{free_links}
 use Rattle.db_chains.specs.Links.{AreLinks, is_right, mark_place, names_block, next_place}
 use Rattle.db_chains.specs.Others.{AreApart, AreOtherSorts}
 use Rattle.db_chains.proofs.Apart.{blocks_apart}
 use Rattle.db_chains.proofs.Bytes.{IsApart, word_len}
-use Rattle.db_chains.proofs.Changed.{chain_put_in, next_within}
+use Rattle.db_chains.proofs.Changed.{next_within}
+use Rattle.db_chains.proofs.Entered.{put_other_visits, put_own, put_same_sort, visits_as}
 use Rattle.db_chains.proofs.Framed.{block_mark}
-use Rattle.db_chains.proofs.Others.{put_beside as word_beside, put_chains, put_sorts}
+use Rattle.db_chains.proofs.Others.{put_beside as word_beside, put_sorts}
 use Rattle.db_chains.proofs.Words.{names_from}
 use Rattle.prdb_entries.specs.Blocks.{block_count}
 use Rattle.prdb_entries.specs.Records.{block_in, block_place, kind_of}
@@ -24,7 +24,6 @@ use Rattle.chained_entries.specs.Unchained.{unchained}
 use Rattle.chained_entries.proofs.Beside.{put_beside}
 use Rattle.chained_entries.proofs.Lookups.{same_block}
 use Rattle.chained_entries.proofs.Without.{unchained_count, unchained_kind}
-use Rattle.chained_entries.proofs.Lists.{first_or_rest, here, later, not_among}
 
 -- ---- chains
 
@@ -82,12 +81,7 @@ linked_as image u M N U V fs there back less l = record {
   whole = l.whole;
   same = l.same;
   chains = λ c is.
-      let v = l.chains c is in record {
-        words = v.words;
-        chain = v.chain;
-        only = λ w has. there c w is (v.only w has);
-        each = λ w belongs. v.each w (back c w is belongs);
-      };
+      visits_as (links_of c) image (place_of c) (M c) (N c) (λ w has. there c w is has) (λ w belongs. back c w is belongs) (l.chains c is);
   unused = λ k below is. l.unused k below (less k below is);
   free = l.free;
 }
@@ -264,28 +258,15 @@ put_len l image at w in_at in_next =
 
 -- ---- a word comes in front of a chain
 
-put_own : (l : Links) (image : List ℕ) (at n : ℕ) (P : ℕ → Type 0) → AreLinks l → IsHeadPlace l at → at + 4 ≤ length image
-    → is_right l image n ≡ true → (P n → ⊥) → Visits l image at P
-    → Visits l (put_in l at n image) at (λ w. P w ⊎ (w ≡ n))
-put_own l image at n P links head within is never v =
-    let may : MayEnter l image n v.words = record { right = is; new = not_among P n v.words v.only never } in
-    record {
-      words = n ∷ v.words;
-      chain = chain_put_in l image at n [] v.words links head within v.chain may;
-      only = λ w has. ⊎_elim (λ (among : Contains v.words w). inl (v.only w among)) (λ (same : w ≡ n). inr same)
-          (first_or_rest n w v.words has);
-      each = λ w belongs. ⊎_elim (λ (old : P w). later n w v.words (v.each w old)) (λ (same : w ≡ n). here n w v.words same) belongs;
-    }
-
--- what a chain beside it has stays
-put_other : (image u : List ℕ) (M : Chain → ℕ → Type 0) (U : ℕ → Type 0) (fs : List ℕ) (c d : Chain) (n : ℕ) → IsLinked image u M U fs
+-- what a chain beside it visits stays
+put_beside_it : (image u : List ℕ) (M : Chain → ℕ → Type 0) (U : ℕ → Type 0) (fs : List ℕ) (c d : Chain) (n : ℕ) → IsLinked image u M U fs
     → IsChain u c → IsChain u d → AreBeside c d → is_right (links_of c) image n ≡ true
     → ((e : Chain) → IsChain u e → next_of e ≡ next_of c → M e n → ⊥)
-    → (v : Visits (links_of d) image (place_of d) (M d)) → HasChain (links_of d) (put_in (links_of c) (place_of c) n image) (place_of d)
-    v.words
-put_other image u M U fs c d n l is_c is_d beside right never v =
+    → Visits (links_of d) (put_in (links_of c) (place_of c) n image) (place_of d) (M d)
+put_beside_it image u M U fs c d n l is_c is_d beside right never =
     let count = linked_count image u M U fs l in
     let own = l.chains c is_c in
+    let v = l.chains d is_d in
     let at = place_of c in
     let bt = place_of d in
     let head = head_place u (next_of c) c is_c (low c) in
@@ -293,13 +274,12 @@ put_other image u M U fs c d n l is_c is_d beside right never v =
     let also = place_within u image d l.whole count is_d in
     ⊎_elim
     (λ (one : (next_of c ≡ next_of d) × AreApart at bt).
-    subst (λ (m : ℕ). HasChain (entry_links m) (put_in (links_of c) at n image) bt v.words) one.0
-    (put_chains (links_of c) image at bt n [] own.words v.words (links_are c) one.1 head (head_place u (next_of c) d is_d (low c)) within
-    also own.chain right (subst (λ (m : ℕ). HasChain (entry_links m) image bt v.words) (sym one.0) v.chain)
-    (not_among (M d) n v.words v.only (never d is_d (sym one.0)), tt)))
+    subst (λ (m : ℕ). Visits (entry_links m) (put_in (links_of c) at n image) bt (M d)) one.0
+    (put_same_sort (links_of c) image at bt n own.words (M d) (links_are c) one.1 head (head_place u (next_of c) d is_d (low c)) within also
+    right (never d is_d (sym one.0)) own.chain (subst (λ (m : ℕ). Visits (entry_links m) image bt (M d)) (sym one.0) v)))
     (λ (two : AreOtherSorts (links_of c) (links_of d) at bt).
-    put_sorts (links_of c) (links_of d) image at bt n [] own.words v.words (links_are c) (links_are d) two head within also own.chain right
-    v.chain)
+    put_other_visits (links_of c) (links_of d) image at bt n own.words (M d) (links_are c) (links_are d) two head within also right
+    own.chain v)
     beside
 
 put_visits : (image u : List ℕ) (M : Chain → ℕ → Type 0) (U : ℕ → Type 0) (fs : List ℕ) (c d : Chain) (n : ℕ) → IsLinked image u M U fs
@@ -308,26 +288,18 @@ put_visits : (image u : List ℕ) (M : Chain → ℕ → Type 0) (U : ℕ → Ty
     → Visits (links_of d) (put_in (links_of c) (place_of c) n image) (place_of d) (Also c n M d)
 put_visits image u M U fs c d n l is_c is_d right never =
     let new = put_in (links_of c) (place_of c) n image in
-    let count = linked_count image u M U fs l in
     ⊎_elim
     (λ (same : c ≡ d).
-    let v = put_own (links_of c) image (place_of c) n (M c) (links_are c) (head_place u (next_of c) c is_c (low c))
-    (place_within u image c l.whole count is_c) right (never c is_c refl) (l.chains c is_c) in
-    let own : Visits (links_of c) new (place_of c) (Also c n M c) = record {
-      words = v.words;
-      chain = v.chain;
-      only = λ w has. ⊎_elim (λ (old : M c w). inl old) (λ (is : w ≡ n). inr (refl, is)) (v.only w has);
-      each = λ w belongs. v.each w (⊎_elim (λ (old : M c w). inl old) (λ (is : (c ≡ c) × (w ≡ n)). inr is.1) belongs);
-    } in
-    subst (λ (e : Chain). Visits (links_of e) new (place_of e) (Also c n M e)) same own)
+    subst (λ (e : Chain). Visits (links_of e) new (place_of e) (Also c n M e)) same
+    (visits_as (links_of c) new (place_of c) (λ w. M c w ⊎ (w ≡ n)) (Also c n M c)
+    (λ w has. ⊎_elim (λ (old : M c w). inl old) (λ (is : w ≡ n). inr (refl, is)) has)
+    (λ w has. ⊎_elim (λ (old : M c w). inl old) (λ (is : (c ≡ c) × (w ≡ n)). inr is.1) has)
+    (put_own (links_of c) image (place_of c) n (M c) (links_are c) (head_place u (next_of c) c is_c (low c))
+    (place_within u image c l.whole (linked_count image u M U fs l) is_c) right (never c is_c refl) (l.chains c is_c))))
     (λ (beside : AreBeside c d).
-    let v = l.chains d is_d in record {
-      words = v.words;
-      chain = put_other image u M U fs c d n l is_c is_d beside right never v;
-      only = λ w has. inl (v.only w has);
-      each = λ w belongs.
-          v.each w (⊎_elim (λ (old : M d w). old) (λ (is : (d ≡ c) × (w ≡ n)). absurd (beside_differ c d beside is.0)) belongs);
-    })
+    visits_as (links_of d) new (place_of d) (M d) (Also c n M d) (λ w has. inl has)
+    (λ w has. ⊎_elim (λ (old : M d w). old) (λ (is : (d ≡ c) × (w ≡ n)). absurd (beside_differ c d beside is.0)) has)
+    (put_beside_it image u M U fs c d n l is_c is_d beside right never))
     (besides u c d is_c is_d)
 
 pub put_linked : (image u : List ℕ) (M : Chain → ℕ → Type 0) (U : ℕ → Type 0) (fs : List ℕ) (c : Chain) (n : ℕ) → IsLinked image u M U fs

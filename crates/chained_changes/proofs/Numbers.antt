@@ -82,7 +82,7 @@ entry_same image u M U fs k l is =
 abbrev Sought : (id : ℤ) → ℕ → List ℕ → Bool
 Sought id = λ w block. has_id id block
 
-block_of_word : (w : ℕ) → block_of id_links w ≡ w - 1
+pub block_of_word : (w : ℕ) → block_of id_links w ≡ w - 1
 block_of_word w =
     let one : w / 1 ≡ w = omega arith in
     omega (arith, one)

@@ -1,5 +1,5 @@
 -- What a removal says of a draft, where its bytes are told.
-use Rattle.std.proofs.Common.{◌≡◌, ℕ, ℤ, ◌+◌, ◌-◌, ◌/◌, ◌≤◌, true, false, List, Option, Some, None, IfSome, Result, Ok, Err, OnOk, refl, sym, ap, subst, ◌∙◌, arith}
+use Rattle.std.proofs.Common.{◌≡◌, ℕ, ℤ, ◌+◌, ◌-◌, ◌≤◌, true, false, List, Option, Some, None, IfSome, Result, Ok, Err, OnOk, refl, sym, ap, subst, ◌∙◌, arith}
 use Rattle.std.specs.Prelude.{IsSomeAnd}
 use Rattle.std.specs.Option.{option_map}
 use Rattle.db_image.specs.Draft.{Drafted}
@@ -28,6 +28,7 @@ use Rattle.chained_entries.proofs.Lookups.{same_block}
 use Rattle.chained_changes.specs.Changes.{after_remove, is_owned, left, number_of, owner_without, unnamed}
 use Rattle.chained_changes.specs.Ends.{HasLink, IsOwnedBy, MayGo, StandsInChains}
 use Rattle.chained_changes.proofs.InsertClauses.{on_false, on_true}
+use Rattle.chained_changes.proofs.Numbers.{block_of_word}
 use Rattle.chained_changes.proofs.Removed.{IsHeld, entry_held, free_held, held_in, holds_removed, linked_of, own_link, own_number, stands_held}
 
 -- ---- frames
@@ -132,16 +133,11 @@ abbrev pub IsLinkOf : (id : ℤ) → List ℕ → Link → Type 0
 IsLinkOf id image f =
     IsFound id_links (λ w block. has_id id block) image (stop_place id_links (λ w block. has_id id block) image (id_chain id)) (Some f)
 
-word_block : (w : ℕ) → block_of id_links w ≡ w - 1
-word_block w =
-    let one : w / 1 ≡ w = omega arith in
-    omega (arith, one)
-
-block_of_link : (image : List ℕ) (id : ℤ) (f : Link) → IsLinkOf id image f → f.block ≡ block_in image (f.word - 1)
+pub block_of_link : (image : List ℕ) (id : ℤ) (f : Link) → IsLinkOf id image f → f.block ≡ block_in image (f.word - 1)
 block_of_link image id f found =
-    found.0.block ∙ same_block image (block_of id_links f.word) ∙ ap (block_in image) (word_block f.word)
+    found.0.block ∙ same_block image (block_of id_links f.word) ∙ ap (block_in image) (block_of_word f.word)
 
-link_at : (a b : Option (List ℕ)) (image : List ℕ) (id : ℤ) (f : Link) → b ≡ option_map whole a → a ≡ Some image
+pub link_at : (a b : Option (List ℕ)) (image : List ℕ) (id : ℤ) (f : Link) → b ≡ option_map whole a → a ≡ Some image
     → IfSome b (λ i. IsLinkOf id i f) → IsLinkOf id (whole image) f
 link_at a b image id f made is found =
     subst (λ (o : Option (List ℕ)). IfSome o (λ i. IsLinkOf id i f)) (made ∙ ap (option_map whole) is) found
@@ -167,24 +163,35 @@ remove_makes None d id made = tt
 remove_makes (Some image) d id made = λ r m holds may.
     subst (λ (o : Option (List ℕ)). IsSomeAnd o (λ x. Holds x (without_entry id r) m)) (sym made) (holds_removed image r m id holds may)
 
+-- ---- faults of a change of the entry of an id
+
+-- of the walk to it, where an image of which something holds has it
+pub find_cause : (a b : Option (List ℕ)) (id : ℤ) (P : List ℕ → Type 0) (fault : RecordFault) → b ≡ option_map whole a
+    → ((image : List ℕ) → P image → HasLink id (whole image)) → HasCause b (HasSome id_links (id_chain id)) fault → HasCause a P fault
+find_cause a b id P fault made has cause =
+    cause_at a b whole P (HasSome id_links (id_chain id)) fault made (λ image one. let l = has image one in (l.0, (l.1.0, l.1.2))) cause
+
+pub same_map : (c : Option (List ℕ)) → c ≡ option_map (λ image. image) c
+same_map None = refl
+same_map (Some image) = refl
+
+-- of what is done with the link that was found
+pub link_cause : (a b c d : Option (List ℕ)) (id : ℤ) (f : Link) (g : List ℕ → List ℕ) (P Q : List ℕ → Type 0) (fault : RecordFault)
+    → b ≡ option_map whole a → c ≡ b → IfSome b (λ image. IsLinkOf id image f) → d ≡ option_map g c
+    → ((image : List ℕ) → IsLinkOf id (whole image) f → P image → Q (g (whole image))) → HasCause d Q fault → HasCause a P fault
+link_cause a b c d id f g P Q DiskFault made same found first has cause = tt
+link_cause a b c d id f g P Q NoMemory made same found first has cause = tt
+link_cause None b c d id f g P Q (BadRecord at) made same found first has cause = tt
+link_cause (Some image) b c d id f g P Q (BadRecord at) made same found first has cause = λ one.
+    (subst (λ (o : Option (List ℕ)). HasCause o Q (BadRecord at)) (first ∙ ap (option_map g) (same ∙ made)) cause)
+    (has image (link_at (Some image) b image id f made refl found) one)
+
 -- ---- faults of a removal
 
-link_held : (image : List ℕ) (id : ℤ) → HasOne id image → HasLink id (whole image)
+pub link_held : (image : List ℕ) (id : ℤ) → HasOne id image → HasLink id (whole image)
 link_held image id one =
     let o = held_in image one.0 one.1 id one.2 one.3.0 in
     own_link (whole image) (unchained (whole image)) one.0 id o.0 o.1 one.2.chains.free.words o.2 (linked_of image one.0 one.1 one.2)
-
--- of the walk
-pub find_cause : (a b : Option (List ℕ)) (id : ℤ) (fault : RecordFault) → b ≡ option_map whole a
-    → HasCause b (HasSome id_links (id_chain id)) fault → HasCause a (HasOne id) fault
-find_cause a b id fault made cause =
-    cause_at a b whole (HasOne id) (HasSome id_links (id_chain id)) fault made
-    (λ image one. let l = link_held image id one in (l.0, (l.1.0, l.1.2))) cause
-
-pub none_cause : (a b : Option (List ℕ)) (id : ℤ) (fault : RecordFault) → b ≡ option_map whole a
-    → HasCause b (HasLink id) fault → HasCause a (HasOne id) fault
-none_cause a b id fault made cause =
-    cause_at a b whole (HasOne id) (HasLink id) fault made (λ image one. link_held image id one) cause
 
 -- the number and the entry of a link
 record IsLinkHeld (image : List ℕ) (id : ℤ) (f : Link) (one : HasOne id image) : Type 0 where
@@ -227,20 +234,13 @@ free_one image id f link one =
 
 pub leave_cause : (a b c : Option (List ℕ)) (id : ℤ) (f : Link) (fault : RecordFault) → b ≡ option_map whole a → c ≡ b
     → IfSome b (λ image. IsLinkOf id image f) → HasCause c (StandsInChains f.word (entry_in f.block)) fault → HasCause a (HasOne id) fault
-leave_cause a b c id f DiskFault made same found cause = tt
-leave_cause a b c id f NoMemory made same found cause = tt
-leave_cause None b c id f (BadRecord at) made same found cause = tt
-leave_cause (Some image) b c id f (BadRecord at) made same found cause = λ one.
-    (subst (λ (o : Option (List ℕ)). HasCause o (StandsInChains f.word (entry_in f.block)) (BadRecord at)) (same ∙ made) cause)
-    (stands_one image id f (link_at (Some image) b image id f made refl found) one)
+leave_cause a b c id f fault made same found cause =
+    link_cause a b c c id f (λ image. image) (HasOne id) (StandsInChains f.word (entry_in f.block)) fault made same found (same_map c)
+    (λ image link one. stands_one image id f link one) cause
 
 pub free_cause : (a b c d : Option (List ℕ)) (id : ℤ) (f : Link) (fault : RecordFault) → b ≡ option_map whole a → c ≡ b
     → IfSome b (λ image. IsLinkOf id image f) → d ≡ option_map (left f.word (entry_in f.block)) c
     → HasCause d (HasSome (free_links free_blocks) 20) fault → HasCause a (HasOne id) fault
-free_cause a b c d id f DiskFault made same found first cause = tt
-free_cause a b c d id f NoMemory made same found first cause = tt
-free_cause None b c d id f (BadRecord at) made same found first cause = tt
-free_cause (Some image) b c d id f (BadRecord at) made same found first cause = λ one.
-    (subst (λ (o : Option (List ℕ)). HasCause o (HasSome (free_links free_blocks) 20) (BadRecord at))
-    (first ∙ ap (option_map (left f.word (entry_in f.block))) (same ∙ made)) cause)
-    (free_one image id f (link_at (Some image) b image id f made refl found) one)
+free_cause a b c d id f fault made same found first cause =
+    link_cause a b c d id f (left f.word (entry_in f.block)) (HasOne id) (HasSome (free_links free_blocks) 20) fault made same found first
+    (λ image link one. free_one image id f link one) cause

@@ -1,5 +1,5 @@
 -- The image after an entry was removed holds the registry without it.
-use Rattle.std.proofs.Common.{◌≡◌, ◌≢◌, ℕ, ℤ, ◌+◌, ◌-◌, ◌*◌, ◌/◌, ◌<◌, inr, ⊎_elim, Bool, true, false, List, Some, length, refl, sym, ap, subst, ◌∙◌, arith}
+use Rattle.std.proofs.Common.{◌≡◌, ◌≢◌, ℕ, ℤ, ◌+◌, ◌-◌, ◌*◌, ◌/◌, ◌<◌, inr, ⊎_elim, Bool, true, false, List, Some, length, sym, ap, subst, ◌∙◌, arith}
 use Rattle.std.specs.List.{Contains}
 use Rattle.std.proofs.lemmas.Bool.{cases_Bool, cases_eq}
 use Rattle.db_blocks.specs.Blocks.{IsWhole, word_at as any_word}
@@ -20,7 +20,7 @@ use Rattle.prdb_entries.proofs.LaidOut.{whole_same as entries_same, zero_kind}
 use Rattle.prdb_entries.proofs.Lookups.{id_parts}
 use Rattle.prdb_members.specs.Layout.{HoldsPairs}
 use Rattle.prdb_members.specs.Members.{Members}
-use Rattle.prdb_members.proofs.RecordsKeep.{remove_keep}
+use Rattle.prdb_members.proofs.RecordsKeep.{remove_keep, zeros_len}
 use Rattle.chained_entries.specs.Keys.{id_key}
 use Rattle.chained_entries.specs.Places.{free_blocks, id_place, name_place}
 use Rattle.chained_entries.specs.Records.{AreChains, HasIdKey, HasNameKey, Holds, IsEntryAt, IsGroupOf, IsOwned, whole}
@@ -35,13 +35,9 @@ use Rattle.chained_changes.specs.Ends.{HasLink, MayGo, StandsInChains}
 use Rattle.chained_changes.proofs.Entries.{Belongs, IsUnowned, chains_from, each_free, linked_from}
 use Rattle.chained_changes.proofs.Freed.{among_others, among_own, freed_form, none_busy}
 use Rattle.chained_changes.proofs.Inserted.{some_of}
-use Rattle.chained_changes.proofs.Leaving.{IsLeaving, IsOfRegistry, Others, entry_of, linked_left, one_block, stands_in}
+use Rattle.chained_changes.proofs.Leaving.{IsLeaving, IsOfRegistry, Others, entry_of, linked_left, one_block, some_word, stands_in}
 use Rattle.chained_changes.proofs.Linked.{ById, ByName, Chain, IsChain, IsEntry, IsLinked, Owned, entry_here, high, linked_count, links_of, low, next_of, place_of}
 use Rattle.chained_changes.proofs.Numbers.{IsAmong, IsOf, has_link, number_is}
-
-zeros_len : length (zeros 192) ≡ 192
-unfolding zeros
-zeros_len = refl
 
 -- ---- the block of an id
 
@@ -88,7 +84,7 @@ pub own_link : (image u : List ℕ) (r : Registry) (id : ℤ) (f : PrEntry) (k :
 own_link image u r id f k fs h l =
     has_link image u (Belongs u) (IsUnowned u) fs id k l (is_of u r id f k h) (among_of u r id f k h)
 
-is_false : (b : Bool) → (b ≡ true → ⊥) → b ≡ false
+pub is_false : (b : Bool) → (b ≡ true → ⊥) → b ≡ false
 is_false b never =
     ⊎_elim (λ (yes : b ≡ true). absurd (never yes)) (λ (no : b ≡ false). no) (cases_Bool b)
 
@@ -182,11 +178,6 @@ chain_was u v k (Owned j) gone is = entry_was u v k j gone is
 not_gone : (u v : List ℕ) (k : ℕ) (c : Chain) → IsWithout u v k → IsChain v c → c ≡ Owned k → ⊥
 not_gone u v k c gone is same =
     let entry : IsEntry v k = subst (IsChain v) same is in omega (arith, entry.kind, gone.kind)
-
-some_word : (u : List ℕ) (c : Chain) (w : ℕ) → Belongs u c w → 0 < w
-some_word u (ByName a) w x = x.some
-some_word u (ById a) w x = x.some
-some_word u (Owned a) w x = x.1.some
 
 word_of_block : (c : Chain) (w n : ℕ) → 0 < w → 0 < n → block_of (links_of c) w ≡ n - 1 → w ≡ n
 word_of_block c w n some_w some_n same =

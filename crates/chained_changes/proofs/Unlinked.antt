@@ -1,24 +1,25 @@
 -- What stays of the chains of an image where a word goes out of one.
-use Rattle.std.proofs.Common.{◌≡◌, ◌≢◌, ℕ, ◌+◌, ◌-◌, ◌/◌, ◌%◌, ◌<◌, ◌≤◌, ◌⊎◌, inl, inr, ⊎_elim, true, List, [], ◌∷◌, ◌++◌, length, refl, sym, ap, subst, ◌∙◌, arith}
-use Rattle.std.specs.List.{AllByRecursion, Contains}
+use Rattle.std.proofs.Common.{◌≡◌, ◌≢◌, ℕ, ◌+◌, ◌-◌, ◌/◌, ◌%◌, ◌<◌, ◌≤◌, ◌⊎◌, ⊎_elim, true, List, [], ◌∷◌, ◌++◌, length, refl, sym, ap, subst, ◌∙◌, arith}
+use Rattle.std.specs.List.{Contains}
 use Rattle.db_blocks.specs.Blocks.{word_at}
 use Rattle.db_chains.specs.declared.links.Links.{Links}
 use Rattle.db_chains.specs.Chains.{HasChain}
 use Rattle.db_chains.specs.Changes.{put_word, taken_out, without}
 use Rattle.db_chains.specs.Free.{free_links}
-use Rattle.db_chains.specs.Links.{AreLinks, is_right, next_place}
+use Rattle.db_chains.specs.Links.{is_right, next_place}
 use Rattle.db_chains.specs.Others.{AreApart, AreOtherSorts}
 use Rattle.db_chains.specs.Walks.{place_behind}
 use Rattle.db_chains.proofs.Bytes.{IsApart, word_here, word_len}
-use Rattle.db_chains.proofs.Changed.{apart_front, apart_rest, behind_free, chain_taken_out, head_free, next_within, others_of, stands_behind}
-use Rattle.db_chains.proofs.Others.{IsClear, taken_beside as word_beside, taken_chains, taken_sorts}
-use Rattle.db_chains.proofs.Stops.{word_behind}
+use Rattle.db_chains.proofs.Changed.{behind_free, head_free, next_within, stands_behind}
+use Rattle.db_chains.proofs.Entered.{visits_as}
+use Rattle.db_chains.proofs.Leaving.{Stands, all_of, in_front, place_kind, stands, take_other_sort, take_other_visits, take_own, take_same_sort}
+use Rattle.db_chains.proofs.Others.{IsClear, taken_beside as word_beside}
 use Rattle.prdb_entries.specs.Records.{block_place}
 use Rattle.chained_entries.specs.Places.{IsEntryPlace, entry_links, free_blocks}
 use Rattle.db_chains.specs.Visits.{Visits}
+use Rattle.chained_entries.specs.Unchained.{unchained}
 use Rattle.chained_entries.proofs.Beside.{next_is, taken_beside}
 use Rattle.chained_changes.proofs.Linked.{AreBeside, Chain, IsChain, IsLinked, beside_differ, besides, entry_place, free_are, free_sort, head_place, high, kinds, linked_count, links_are, links_of, low, next_clear, next_of, place_clear, place_of, place_within}
-use Rattle.chained_entries.proofs.Lists.{all_of, among_all, among_left, each_of, in_front, none_of, split}
 
 -- the words without one of a sort
 abbrev pub Less : (c : Chain) → (n : ℕ) → (Chain → ℕ → Type 0) → Chain → ℕ → Type 0
@@ -34,43 +35,7 @@ pub record AreWords (u : List ℕ) (M : Chain → ℕ → Type 0) (U : ℕ → T
   pub some : (c : Chain) (w : ℕ) → IsChain u c → M c w → 0 < w
   pub never : (c : Chain) (w : ℕ) → IsChain u c → next_of c ≡ 104 → M c w → U (w - 1) → ⊥
 
--- ---- where a word stands in its chain
-
-pub record Stands (l : Links) (image : List ℕ) (at n : ℕ) (P : ℕ → Type 0) : Type 0 where
-  pub front : List ℕ
-  pub back : List ℕ
-  pub chain : HasChain l image at (front ++ n ∷ back)
-  pub only : (w : ℕ) → Contains (front ++ n ∷ back) w → P w
-  pub each : (w : ℕ) → P w → Contains (front ++ n ∷ back) w
-  pub others : AllByRecursion (λ v. v ≢ n) (front ++ back)
-  pub out : without l at n image ≡ taken_out l (place_behind l at front) image
-
-pub stands : (l : Links) (image : List ℕ) (at n : ℕ) (P : ℕ → Type 0) → AreLinks l → Visits l image at P → P n → Stands l image at n P
-stands l image at n P links v belongs =
-    let s = split n v.words (v.each n belongs) in
-    let chain : HasChain l image at (s.front ++ n ∷ s.back) = subst (HasChain l image at) (sym s.all) v.chain in
-    let others = others_of l image at n s.front s.back links chain in
-    record {
-      front = s.front;
-      back = s.back;
-      chain = chain;
-      only = λ w among. v.only w (subst (λ (ws : List ℕ). Contains ws w) s.all among);
-      each = λ w there. subst (λ (ws : List ℕ). Contains ws w) (sym s.all) (v.each w there);
-      others = others;
-      out = ap (λ (p : ℕ). taken_out l p image)
-          (word_behind l image at n s.front s.back links.step chain (apart_front (λ v. v ≢ n) s.front s.back others));
-    }
-
--- a place of a chain is its first, or that behind one of its words
-pub place_kind : (l : Links) (image : List ℕ) (at : ℕ) (front back : List ℕ) → HasChain l image at (front ++ back)
-    → (place_behind l at front ≡ at)
-    ⊎ ((v : ℕ) × (place_behind l at front ≡ next_place l v) × (is_right l image v ≡ true))
-place_kind l image at [] back chain = inl refl
-place_kind l image at (f ∷ front) back chain =
-    ⊎_elim
-    (λ (first : place_behind l (next_place l f) front ≡ next_place l f). inr (f, first, chain.1))
-    (λ (behind : (v : ℕ) × (place_behind l (next_place l f) front ≡ next_place l v) × (is_right l image v ≡ true)). inr behind)
-    (place_kind l image (next_place l f) front back chain.2)
+-- ---- the bytes
 
 out_len : (l : Links) (image : List ℕ) (at n : ℕ) → at + 4 ≤ length image → next_place l n + 4 ≤ length image → word_at image at ≡ n
     → length (taken_out l at image) ≡ length image
@@ -92,70 +57,49 @@ out_next l image at n in_at in_next is =
 
 -- ---- a word goes out of a chain
 
-out_own : (l : Links) (image new : List ℕ) (at n : ℕ) (P : ℕ → Type 0) → (s : Stands l image at n P)
-    → HasChain l new at (s.front ++ s.back) → Visits l new at (λ w. P w × (w ≢ n))
-out_own l image new at n P s chain = record {
-  words = s.front ++ s.back;
-  chain = chain;
-  only = λ w has. (s.only w (among_all n w s.front s.back has), each_of (λ v. v ≢ n) (s.front ++ s.back) w s.others has);
-  each = λ w belongs. among_left n w s.front s.back belongs.1 (s.each w belongs.0);
-}
-
-out_other : (image u : List ℕ) (M : Chain → ℕ → Type 0) (U : ℕ → Type 0) (fs : List ℕ) (c d : Chain) (n : ℕ) → IsLinked image u M U fs
-    → AreWords u M U → IsChain u c → IsChain u d → AreBeside c d → (s : Stands (links_of c) image (place_of c) n (M c))
-    → (v : Visits (links_of d) image (place_of d) (M d))
-    → HasChain (links_of d) (taken_out (links_of c) (place_behind (links_of c) (place_of c) s.front) image) (place_of d) v.words
-out_other image u M U fs c d n l are is_c is_d beside s v =
+-- what a chain beside it visits stays
+out_beside : (image u : List ℕ) (M : Chain → ℕ → Type 0) (U : ℕ → Type 0) (fs : List ℕ) (c d : Chain) (n : ℕ) → IsLinked image u M U fs
+    → AreWords u M U → IsChain u c → IsChain u d → AreBeside c d → M c n → Stands (links_of c) image (place_of c) n (M c)
+    → Visits (links_of d) (without (links_of c) (place_of c) n image) (place_of d) (Less c n M d)
+out_beside image u M U fs c d n l are is_c is_d beside belongs s =
     let count = linked_count image u M U fs l in
     let at = place_of c in
     let bt = place_of d in
     let m = links_of c in
-    let p = place_behind m at s.front in
+    let new = without m at n image in
+    let v = l.chains d is_d in
     let head = head_place u (next_of c) c is_c (low c) in
     let within = place_within u image c l.whole count is_c in
     let also = place_within u image d l.whole count is_d in
+    let never : (w : ℕ) → next_of c ≡ next_of d → M c w → M d w → ⊥ =
+    λ w next x y. beside_differ c d beside (sym (are.one c d w is_c is_d next x y)) in
     ⊎_elim
     (λ (one : (next_of c ≡ next_of d) × AreApart at bt).
-    let all = none_of (M c) (M d) (s.front ++ n ∷ s.back) v.words s.only v.only
-    (λ w x y. beside_differ c d beside (sym (are.one c d w is_c is_d one.0 x y))) in
-    let none = λ (w : ℕ). AllByRecursion (λ x. x ≢ w) v.words in
-    subst (λ (k : ℕ). HasChain (entry_links k) (taken_out m p image) bt v.words) one.0
-    (taken_chains m image at bt n s.front s.back v.words (links_are c) one.1 head (head_place u (next_of c) d is_d (low c)) within
-    also s.chain (subst (λ (k : ℕ). HasChain (entry_links k) image bt v.words) (sym one.0) v.chain)
-    ((apart_rest none s.front (n ∷ s.back) all).0, apart_front none s.front (n ∷ s.back) all)))
+    visits_as (links_of d) new bt (λ w. M d w × (w ≢ n)) (Less c n M d) (λ w has. (has.0, λ next. has.1))
+    (λ w has. (has.0, has.1 (sym one.0)))
+    (subst (λ (k : ℕ). Visits (entry_links k) new bt (λ w. M d w × (w ≢ n))) one.0
+    (take_same_sort m image at bt n (M c) (M d) (links_are c) one.1 head (head_place u (next_of c) d is_d (low c)) within also belongs
+    (λ w x y. never w one.0 x y) s (subst (λ (k : ℕ). Visits (entry_links k) image bt (M d)) (sym one.0) v))))
     (λ (two : AreOtherSorts m (links_of d) at bt).
-    taken_sorts m (links_of d) image at bt n s.front s.back v.words (links_are c) (links_are d) two head within also s.chain v.chain)
+    visits_as (links_of d) new bt (M d) (Less c n M d) (λ w has. (has, λ next same. never n (sym next) belongs (subst (M d) same has)))
+    (λ w has. has.0)
+    (take_other_visits m (links_of d) image at bt n (M c) (M d) (links_are c) (links_are d) two head within also s v))
     beside
 
 out_visits : (image u : List ℕ) (M : Chain → ℕ → Type 0) (U : ℕ → Type 0) (fs : List ℕ) (c d : Chain) (n : ℕ) → IsLinked image u M U fs
-    → AreWords u M U → IsChain u c → IsChain u d → M c n → (s : Stands (links_of c) image (place_of c) n (M c))
-    → Visits (links_of d) (taken_out (links_of c) (place_behind (links_of c) (place_of c) s.front) image) (place_of d) (Less c n M d)
+    → AreWords u M U → IsChain u c → IsChain u d → M c n → Stands (links_of c) image (place_of c) n (M c)
+    → Visits (links_of d) (without (links_of c) (place_of c) n image) (place_of d) (Less c n M d)
 out_visits image u M U fs c d n l are is_c is_d belongs s =
-    let m = links_of c in
     let at = place_of c in
-    let new = taken_out m (place_behind m at s.front) image in
+    let new = without (links_of c) at n image in
     ⊎_elim
     (λ (same : c ≡ d).
-    let v = out_own m image new at n (M c) s
-    (chain_taken_out m image at n s.front s.back (links_are c) (head_place u (next_of c) c is_c (low c))
-    (place_within u image c l.whole (linked_count image u M U fs l) is_c) s.chain) in
-    let own : Visits (links_of c) new (place_of c) (Less c n M c) = record {
-      words = v.words;
-      chain = v.chain;
-      only = λ w has. let o = v.only w has in (o.0, λ e. o.1);
-      each = λ w belongs. v.each w (belongs.0, belongs.1 refl);
-    } in
-    subst (λ (e : Chain). Visits (links_of e) new (place_of e) (Less c n M e)) same own)
-    (λ (beside : AreBeside c d).
-    let v = l.chains d is_d in record {
-      words = v.words;
-      chain = out_other image u M U fs c d n l are is_c is_d beside s v;
-      only = λ w has. (
-        v.only w has,
-        λ e same. beside_differ c d beside (are.one d c n is_d is_c e (subst (M d) same (v.only w has)) belongs),
-      );
-      each = λ w there. v.each w there.0;
-    })
+    subst (λ (e : Chain). Visits (links_of e) new (place_of e) (Less c n M e)) same
+    (visits_as (links_of c) new at (λ w. M c w × (w ≢ n)) (Less c n M c) (λ w has. (has.0, λ next. has.1))
+    (λ w has. (has.0, has.1 refl))
+    (take_own (links_of c) image at n (M c) (links_are c) (head_place u (next_of c) c is_c (low c))
+    (place_within u image c l.whole (linked_count image u M U fs l) is_c) s)))
+    (λ (beside : AreBeside c d). out_beside image u M U fs c d n l are is_c is_d beside belongs s)
     (besides u c d is_c is_d)
 
 pub out_linked : (image u : List ℕ) (M : Chain → ℕ → Type 0) (U : ℕ → Type 0) (fs : List ℕ) (c : Chain) (n : ℕ) → IsLinked image u M U fs
@@ -167,30 +111,33 @@ out_linked image u M U fs c n l are is belongs =
     let count = linked_count image u M U fs l in
     let s = stands m image at n (M c) links (l.chains c is) belongs in
     let p = place_behind m at s.front in
-    let new = taken_out m p image in
+    let new = without m at n image in
     let head = head_place u (next_of c) c is (low c) in
     let within = place_within u image c l.whole count is in
     let there = stands_behind m image at n s.front s.back s.chain in
     let in_p = (behind_free m image at s.front (n ∷ s.back) links (head_free m image at links head within) s.chain).within in
     let in_next = (next_within m image n links there.1).0 in
-    let size = out_len m image p n in_p in_next there.0 in
+    let size : length new ≡ length image = ap length s.out ∙ out_len m image p n in_p in_next there.0 in
     let some = are.some c n is belongs in
     let one : n / 1 ≡ n = omega arith in
     let rest : n % 1 ≡ 0 = omega arith in
     let place : IsEntryPlace image p =
     ⊎_elim (λ (first : p ≡ at). subst (IsEntryPlace image) (sym first) (entry_place image u M U fs c l is))
-    (λ (behind : (v : ℕ) × (p ≡ next_place m v) × (is_right m image v ≡ true)).
+    (λ (behind : (v : ℕ) × (p ≡ next_place m v) × (is_right m image v ≡ true) × Contains s.front v).
     subst (IsEntryPlace image) (sym behind.1) (next_is (next_of c) image behind.0 (high c) (omega (arith, low c)) behind.2))
     (place_kind m image at s.front (n ∷ s.back) s.chain) in
     let clear : (k w : ℕ) → U k → M c w → IsApart (next_place m w) 4 (block_place k + 104) =
     λ k w free has. next_clear (next_of c) w k (low c) (are.some c w is has)
     (λ e same. are.never c w is e has (subst U same free)) (kinds c) in
-    let linked : IsLinked new u (Less c n M) (NowAlso c n U) fs = record {
+    record {
       whole = omega (arith, size, l.whole);
-      same = taken_beside (next_of c) image p (high c) (omega (arith, low c)) l.whole place
-          (ap (is_right m image) there.0 ∙ there.1) ∙ l.same;
+      same = ap unchained s.out
+          ∙ taken_beside (next_of c) image p (high c) (omega (arith, low c)) l.whole place (ap (is_right m image) there.0 ∙ there.1)
+          ∙ l.same;
       chains = λ d is_d. out_visits image u M U fs c d n l are is is_d belongs s;
-      unused = λ k below kept. ⊎_elim
+      unused = λ k below kept.
+          ap (λ (i : List ℕ). word_at i (block_place k + 104)) s.out
+          ∙ ⊎_elim
           (λ (was : U k).
           word_beside m m image at (block_place k + 104) n s.front s.back [] links links head within
           (omega (arith, below, count, l.whole)) s.chain (l.unused k below was)
@@ -199,12 +146,11 @@ out_linked image u M U fs c n l are is belongs =
           (λ f has. record { first = clear k f was (s.only f (in_front f s.front (n ∷ s.back) has)); words = tt })))
           (λ (now : (next_of c ≡ 104) × (k ≡ n - 1)).
           let q : block_place k + 104 ≡ next_place m n = omega (arith, now.0, now.1, one, rest) in
-          ap (word_at new) q ∙ out_next m image p n in_p in_next there.0)
+          ap (word_at (taken_out m p image)) q ∙ out_next m image p n in_p in_next there.0)
           kept;
-      free = taken_sorts m (free_links free_blocks) image at 20 n s.front s.back fs links free_are (free_sort u c is) head within
-          (omega (arith, l.whole)) s.chain l.free;
-    } in
-    subst (λ (i : List ℕ). IsLinked i u (Less c n M) (NowAlso c n U) fs) (sym s.out) linked
+      free = take_other_sort m (free_links free_blocks) image at 20 n (M c) fs links free_are (free_sort u c is) head within
+          (omega (arith, l.whole)) s l.free;
+    }
 
 -- a word of a chain stands in it
 pub word_there : (image u : List ℕ) (M : Chain → ℕ → Type 0) (U : ℕ → Type 0) (fs : List ℕ) (c : Chain) (n : ℕ) → IsLinked image u M U fs

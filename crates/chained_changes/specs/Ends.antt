@@ -1,5 +1,5 @@
 -- When a change answers a bad record.
-use Rattle.std.specs.Prelude.{ℕ, ℤ, ◌≡◌, ◌-◌, true, false, List}
+use Rattle.std.specs.Prelude.{ℕ, ℤ, ◌≡◌, ◌≢◌, ◌-◌, true, false, List}
 use Rattle.std.specs.List.{Contains}
 use Rattle.db_blocks.specs.Blocks.{IsWhole}
 use Rattle.db_chains.specs.Chains.{HasChain}
@@ -13,7 +13,7 @@ use Rattle.prdb_members.specs.Members.{Members, are_paired}
 use Rattle.chained_entries.specs.First.{named}
 use Rattle.chained_entries.specs.Keys.{id_chain, name_chain}
 use Rattle.chained_entries.specs.Places.{id_links, name_links, owned_links, owned_place}
-use Rattle.chained_changes.specs.Changes.{is_owned, number_of, unnamed}
+use Rattle.chained_changes.specs.Changes.{is_owned, name_moved, number_of, owner_left, unnamed}
 
 -- an image of a head and whole blocks has the entry of an id in the chain of the id
 abbrev pub HasLink : (id : ℤ) → List ℕ → Type 0
@@ -39,3 +39,20 @@ pub record StandsInChains (n : ℕ) (e : PrEntry) (image : List ℕ) : Type 0 wh
 -- an entry may be removed that is not fixed, owns nothing and is in no pair
 abbrev pub MayGo : (id : ℤ) → Registry → Members → Type 0
 MayGo id r m = MayBeRemoved id r × ((other : ℤ) → are_paired m id other ≡ false)
+
+-- the block of a number stands in the chain of its entry's owner, if that is a group with one
+abbrev pub HasLeft : PrEntry → (n : ℕ) → List ℕ → Type 0
+HasLeft e n image = is_owned e ≡ true → IsOwnedBy e.owner n image
+
+-- the owner of an entry is there, if that is a group with one
+abbrev pub HasEntered : PrEntry → List ℕ → Type 0
+HasEntered e image = is_owned e ≡ true → HasLink e.owner image
+
+-- the block of a number may go from the chain of one owner to that of another one
+abbrev pub HasMoved : (old new : PrEntry) → (n : ℕ) → List ℕ → Type 0
+HasMoved old new n image = old.owner ≢ new.owner → HasLeft old n image × HasEntered new (owner_left old n image)
+
+-- the block of a number may go from the chains of one entry to those of another one
+abbrev pub CanMove : (n : ℕ) → (old new : PrEntry) → List ℕ → Type 0
+CanMove n old new image =
+    HasWord name_links (name_chain old.name) n image × HasMoved old new n (name_moved old.name new.name n image)

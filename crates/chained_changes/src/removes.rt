@@ -24,7 +24,7 @@ use entry_scans::{EntryView, entry_in};
 use std::alloc::Global;
 
 /// Whether an entry is a group that has an owner.
-fn is_owned(e: &EntryView<'_>) -> bool
+pub(crate) fn is_owned(e: &EntryView<'_>) -> bool
     ensures { result ≡ is_owned (viewed e.now) }
 {
     e.id < 0 && e.owner != 0

@@ -9,20 +9,24 @@ use Rattle.db_chains.specs.Ends.{walk_cost}
 use Rattle.db_chains.specs.Free.{free_cost}
 use Rattle.db_chains.proofs.Results.{drafts_so, err_same, err_so, ok_so}
 use Rattle.chained_entries.specs.Places.{free_blocks, id_links}
+use Rattle.chained_entries.specs.Records.{whole}
 use Rattle.chained_changes.specs.Changes.{leave_cost, remove_cost}
+use Rattle.chained_changes.specs.Ends.{HasLink}
 use Rattle.chained_changes.proofs.InsertClauses.{drafts_after, looks_draft, none_fault, whole_len}
-use Rattle.chained_changes.proofs.RemoveClauses.{find_cause, free_cause, leave_cause, none_cause, remove_makes, removed}
+use Rattle.chained_changes.proofs.RemoveClauses.{HasOne, cause_at, find_cause, free_cause, leave_cause, link_held, remove_makes, removed}
 use Rattle.chained_changes.proofs.removes.remove.Goals as goal
 
 pub returns-in_err-link-clause-fault : goal.returns-in_err-link-clause-fault
 returns-in_err-link-clause-fault g c =
     let p = err_from_is_err_and c.from_residual-in_err-link.result c.from_residual-in_err-link.ensures.1 in
-    rw (p.1, p.2) (find_cause c.args.d.now.bytes c.make_whole.new.d.bytes c.args.id c.in_err-link.field-0.0
-    c.in_ok-make_whole.ensures.bytes (rw (to_z-of_z w32 c.args.id c.ranges.id) at c.in_err-link.ensures.fault))
+    rw (p.1, p.2) (find_cause c.args.d.now.bytes c.make_whole.new.d.bytes c.args.id (HasOne c.args.id) c.in_err-link.field-0.0
+    c.in_ok-make_whole.ensures.bytes (λ image one. link_held image c.args.id one)
+    (rw (to_z-of_z w32 c.args.id c.ranges.id) at c.in_err-link.ensures.fault))
 
 pub returns-in_default-clause-fault : goal.returns-in_default-clause-fault
 returns-in_default-clause-fault g c =
-    none_cause c.args.d.now.bytes c.make_whole.new.d.bytes c.args.id (BadRecord 0) c.in_ok-make_whole.ensures.bytes
+    cause_at c.args.d.now.bytes c.make_whole.new.d.bytes whole (HasOne c.args.id) (HasLink c.args.id) (BadRecord 0)
+    c.in_ok-make_whole.ensures.bytes (λ image one. link_held image c.args.id one)
     (none_fault c.make_whole.new.d.bytes c.args.id 0 c.in_ok-link.field-0 c.in_default.is
     (rw (to_z-of_z w32 c.args.id c.ranges.id) at c.in_ok-link.ensures.found))
 
@@ -51,7 +55,8 @@ returns-clause-fault g c =
     let exact = rw (to_z-of_z w32 c.args.id c.ranges.id) at c.in_ok-link.ensures.exact in
     err_so c.free_block.result _ _ (rw c.free_blocks.ensures.is at c.free_block.ensures.fault) (λ x cause.
     free_cause c.args.d.now.bytes c.make_whole.new.d.bytes c.find_link.new.d.bytes c.leave.new.d.bytes c.args.id c.in-Some.link x
-    c.in_ok-make_whole.ensures.bytes c.find_link.ensures.frame.looks.same.bytes (rw c.in-Some.is at exact) c.in_ok-leave.ensures.bytes cause)
+    c.in_ok-make_whole.ensures.bytes c.find_link.ensures.frame.looks.same.bytes (rw c.in-Some.is at exact) c.in_ok-leave.ensures.bytes
+    cause)
 
 pub returns-in_err-leave-clause-frame : goal.returns-in_err-leave-clause-frame
 returns-in_err-leave-clause-frame g c =
