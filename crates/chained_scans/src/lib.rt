@@ -1,0 +1,13 @@
+//! Passes over the blocks of the protection database's image with chains, and what such an image
+//! tells.
+#![tactic(auto)]
+
+mod first;
+mod laws;
+mod pages;
+mod scans;
+mod sought;
+
+pub use laws::{law_blocks_tell_counts, law_image_holds_one, law_image_tells_its_pairs};
+pub use pages::first_where;
+pub use scans::{has_entry, ids_where};
