@@ -50,11 +50,10 @@ named_same (w ∷ ws) at k block l old new chain is kind apart =
           (λ v has. apart v (suc has.0, omega (arith, has.1), has.2)),
     )
 
-pub free_relisted : (k : ℕ) (l : PairList) (old new : List ℕ) → IsWhole 2112 old → k < block_count old → kind_of (block_in old k) ≡ 1
-    → IsRelisted k (block_in old k) l old new → HasFreeBut old l.more → HasFree new
-free_relisted k l old new size below kind is free =
-    let block = block_in old k in
-    let len : length block ≡ 192 = block_len old k (block_count old) size below in
+-- over an entry's block
+pub free_written : (k : ℕ) (block : List ℕ) (l : PairList) (old new : List ℕ) → length block ≡ 192 → kind_of block ≡ 1
+    → kind_of (block_in old k) ≡ 1 → IsRelisted k block l old new → HasFreeBut old l.more → HasFree new
+free_written k block l old new len written kind is free =
     let count : block_count new ≡ block_count old = omega (arith, is.size) in
     record {
       words = free.words;
@@ -65,12 +64,17 @@ free_relisted k l old new size below kind is free =
       each = λ j less none. elim (fate k block l old new j is (omega (arith, less, count))) [
         | the_entry same ↦
             let one : kind_of (block_in new j) ≡ 1 =
-            ap (λ (i : ℕ). kind_of (block_in new i)) same ∙ ap kind_of is.here ∙ kind_kept block l len ∙ kind in
+            ap (λ (i : ℕ). kind_of (block_in new i)) same ∙ ap kind_of is.here ∙ kind_kept block l len ∙ written in
             absurd (omega (arith, one, none))
         | of_list other two has ↦ absurd (omega (arith, two, none))
         | untouched other not same ↦ free.each j (omega (arith, less, count)) (ap kind_of (sym same) ∙ none) not
       ];
     }
+
+pub free_relisted : (k : ℕ) (l : PairList) (old new : List ℕ) → IsWhole 2112 old → k < block_count old → kind_of (block_in old k) ≡ 1
+    → IsRelisted k (block_in old k) l old new → HasFreeBut old l.more → HasFree new
+free_relisted k l old new size below kind is free =
+    free_written k (block_in old k) l old new (block_len old k (block_count old) size below) kind kind is free
 
 -- ---- which blocks it may have
 

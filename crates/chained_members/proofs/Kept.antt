@@ -25,6 +25,16 @@ pub record KeepsEntries (old new : List ℕ) : Type 0 where
   pub words : (k offset : ℕ) → k < block_count old → kind_of (block_in old k) ≡ 1 → 96 ≤ offset → offset + 4 ≤ 112
       → word_at (block_in new k) offset ≡ word_at (block_in old k) offset
 
+-- the same where an entry may have other fields
+pub record KeepsWords (old new : List ℕ) : Type 0 where
+  pub longer : block_count old ≤ block_count new
+  pub kind : (k : ℕ) → k < block_count old → kind_of (block_in old k) ≡ 1 → kind_of (block_in new k) ≡ 1
+  pub words : (k offset : ℕ) → k < block_count old → kind_of (block_in old k) ≡ 1 → 96 ≤ offset → offset + 4 ≤ 112
+      → word_at (block_in new k) offset ≡ word_at (block_in old k) offset
+
+pub words_kept : (old new : List ℕ) → KeepsEntries old new → KeepsWords old new
+words_kept old new keeps = record { longer = keeps.longer; kind = keeps.kind; words = keeps.words }
+
 pub keeps_none : (image : List ℕ) → IsWhole 2112 image → KeepsEntries image image
 keeps_none image size = record {
   size = size;
@@ -90,7 +100,7 @@ next_is mark next w = omega arith
 
 -- ---- a chain
 
-pub chain_kept : (next : ℕ) (old new : List ℕ) (at : ℕ) (ws : List ℕ) → 96 ≤ next → next + 4 ≤ 112 → KeepsEntries old new
+pub chain_kept : (next : ℕ) (old new : List ℕ) (at : ℕ) (ws : List ℕ) → 96 ≤ next → next + 4 ≤ 112 → KeepsWords old new
     → word_at new at ≡ word_at old at → HasChain (entry_links next) old at ws → HasChain (entry_links next) new at ws
 chain_kept next old new at [] from to keeps first chain = first ∙ chain
 chain_kept next old new at (w ∷ ws) from to keeps first chain =
@@ -132,7 +142,7 @@ visits_kept : (next : ℕ) (old new : List ℕ) (at : ℕ) (P Q : PrEntry → Ty
     → Visits (entry_links next) old at (IsEntryAt old P) → Visits (entry_links next) new at (IsEntryAt new Q)
 visits_kept next old new at P Q from to keeps first there back v = record {
   words = v.words;
-  chain = chain_kept next old new at v.words from to keeps first v.chain;
+  chain = chain_kept next old new at v.words from to (words_kept old new keeps) first v.chain;
   only = λ w has. entry_there old new P Q w keeps there (v.only w has);
   each = λ w is. v.each w (entry_back old new P Q w keeps back is);
 }

@@ -13,3 +13,11 @@ pub mod Found
 pub mod Costs
 pub mod Places
 pub mod Ends
+pub mod Relists
+pub mod Renamed
+pub mod Rechained
+pub mod MoveEnds
+pub mod Grown
+pub mod InList
+pub mod MoveCosts
+pub mod OwnedOrder

@@ -126,7 +126,7 @@ fate k block l old new j is below =
     (cases_eq j k)
 
 -- the words of chains in an entry's block
-word_mid : (block : List ℕ) (l : PairList) (offset : ℕ) → length block ≡ 192 → 96 ≤ offset → offset + 4 ≤ 112
+pub word_mid : (block : List ℕ) (l : PairList) (offset : ℕ) → length block ≡ 192 → 96 ≤ offset → offset + 4 ≤ 112
     → word_at (with_list block l) offset ≡ word_at block offset
 word_mid block l offset len from to =
     let place : 32 + (offset - 32) ≡ offset = omega arith in

@@ -1,16 +1,18 @@
 -- How many bytes a call on lists of pairs asks for at most (own).
-use Rattle.std.specs.Prelude.{ℕ, ℤ, ◌≡◌, ◌+◌, ◌*◌, ◌≤◌, true, List, IfSome, IsSome, length}
+use Rattle.std.specs.Prelude.{ℕ, ℤ, ◌≡◌, ◌⊎◌, ◌+◌, ◌*◌, ◌≤◌, true, List, IfSome, IsSome, length}
+use Rattle.std.specs.List.{Contains}
 use Rattle.db_image.specs.Draft.{Drafted, put_cost}
 use Rattle.db_image.specs.declared.images.ImageRead.{Ghosts}
 use Rattle.db_image.specs.declared.services.Layout.{Layout}
 use Rattle.db_chains.specs.Chains.{HasChain}
-use Rattle.db_chains.specs.Ends.{CostsAtMost}
+use Rattle.db_chains.specs.Ends.{CostsAtMost, walk_cost}
 use Rattle.db_chains.specs.Free.{free_cost, take_cost}
 use Rattle.prdb_entries.specs.Registry.{Registry}
 use Rattle.prdb_members.specs.Changes.{blocks_for}
 use Rattle.prdb_members.specs.Layout.{PairList}
 use Rattle.prdb_members.specs.Lists.{IsListOf}
 use Rattle.prdb_members.specs.Members.{MayLeave, Members, are_paired}
+use Rattle.prdb_members.specs.Moves.{MayMove}
 use Rattle.chained_entries.specs.Keys.{id_chain}
 use Rattle.chained_entries.specs.Places.{free_blocks, id_links}
 use Rattle.chained_entries.specs.Records.{Holds, whole}
@@ -36,6 +38,20 @@ PlaceCosts g id old new =
     (λ image. (r : Registry) (lists : ℤ → PairList) (ws : List ℕ) (blocks : ℕ) → HasLists image r lists
     → HasChain id_links image (id_chain id) ws → (IsSome (r.entry id) → length (lists id).more ≤ blocks)
     → CostsAtMost g (list_cost (length ws) blocks) old new)
+
+-- ---- a list is read and written
+
+-- a list of so many continuation blocks, and the block of its entry
+abbrev pub relist_cost : Layout → (words blocks : ℕ) → ℕ
+relist_cost layout words blocks = list_cost words blocks + put_cost layout 192 * (blocks + 1)
+
+-- the list of an entry, which may not be there
+abbrev pub RelistCosts : {I : Type 0} → Ghosts I → (id : ℤ) → (old new : Drafted I) → Type 0
+RelistCosts g id old new =
+    IfSome old.bytes
+    (λ image. (r : Registry) (lists : ℤ → PairList) (ws : List ℕ) (blocks : ℕ) → HasLists image r lists
+    → HasChain id_links image (id_chain id) ws → (IsSome (r.entry id) → length (lists id).more ≤ blocks)
+    → CostsAtMost g (relist_cost old.layout (length ws) blocks) old new)
 
 -- ---- a pair more
 
@@ -79,3 +95,33 @@ PartCosts g member group old new =
     → IsListOf (λ other. are_paired m member other ≡ true) groups → IsListOf (λ other. are_paired m group other ≡ true) members
     → CostsAtMost g
     (part_cost old.layout old.len (length ws) (length vs) (blocks_for (length groups)) (blocks_for (length members))) old new)
+
+-- ---- another id
+
+-- a block goes from the chain of one id to that of another one, in an image of this length
+abbrev pub rechain_cost : Layout → (len : ℕ) → ℕ
+rechain_cost layout len = walk_cost id_links len + 2 * (4 + 2 * put_cost layout 4)
+
+-- The list of the entry is read, and its own and those of so many others are read and written. No chain of their ids has more words, and no
+-- list more continuation blocks.
+abbrev pub move_cost : Layout → (len count words blocks : ℕ) → ℕ
+move_cost layout len count words blocks =
+    list_cost words blocks + relist_cost layout words blocks * (count + 1) + rechain_cost layout len
+
+-- an entry, or one of those that it is paired with
+abbrev pub IsOneOf : (entry : ℤ) → (others : List ℤ) → ℤ → Type 0
+IsOneOf entry others id = (id ≡ entry) ⊎ Contains others id
+
+-- no chain of the ids of an entry and these others has more words, and none of their lists more continuation blocks
+pub record AreAtMost (image : List ℕ) (m : Members) (entry : ℤ) (others : List ℤ) (words blocks : ℕ) : Type 0 where
+  pub chains : (id : ℤ) → IsOneOf entry others id → (ws : List ℕ) → HasChain id_links image (id_chain id) ws → length ws ≤ words
+  pub lists : (id : ℤ) → IsOneOf entry others id → (ids : List ℤ) → IsListOf (λ other. are_paired m id other ≡ true) ids
+      → blocks_for (length ids) ≤ blocks
+
+-- where the entry may get the other id
+abbrev pub MoveCosts : {I : Type 0} → Ghosts I → (old_id new_id : ℤ) → (old new : Drafted I) → Type 0
+MoveCosts g old_id new_id old new =
+    IfSome old.bytes
+    (λ image. (r : Registry) (m : Members) (others : List ℤ) (words blocks : ℕ) → Holds image r m → MayMove old_id new_id r
+    → IsListOf (λ other. are_paired m old_id other ≡ true) others → AreAtMost image m old_id others words blocks
+    → CostsAtMost g (move_cost old.layout old.len (length others) words blocks) old new)

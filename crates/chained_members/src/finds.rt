@@ -4,7 +4,7 @@ ghost use Rattle.db_blocks.specs.Ends.{OnlyLooks};
 ghost use Rattle.prdb_entries.specs.Registry.{Registry};
 ghost use Rattle.prdb_members.specs.Found.{IsFound};
 ghost use Rattle.prdb_members.specs.Lists.{IsListOf};
-ghost use Rattle.prdb_members.specs.Members.{Members, are_paired};
+ghost use Rattle.prdb_members.specs.Members.{IsInList, Members, are_paired};
 ghost use Rattle.chained_entries.specs.Ends.{HasItsCause};
 ghost use Rattle.chained_entries.specs.Records.{Holds};
 ghost use Rattle.chained_members.specs.Costs.{ListCosts};
@@ -13,6 +13,15 @@ use crate::blocks::find_block;
 use db_image::{Draft, ImageRead, RecordFault};
 use prdb_members::{IdList, Listed, read_list};
 use std::alloc::Global;
+
+/// The id of `system:anyuser`, in which each user is.
+const ANY_USER: i32 = -101;
+
+/// The id of `system:authuser`, in which each user is but `anonymous`.
+const SIGNED_IN: i32 = -102;
+
+/// The id of `anonymous`.
+const ANONYMOUS: i32 = 32766;
 
 /// The pairs of an id; none where the draft is empty or no entry has the id.
 fn find_list<I: ImageRead>(
@@ -78,4 +87,29 @@ pub fn has_pair<I: ImageRead>(
     };
     let there = listed.ids.contains(group);
     Ok(there)
+}
+
+/// The list of ids under which an entry acts: for a user its own, its groups, and the groups in which each user is; for
+/// a group its own. It asks for what `elements` does at most, and for nothing of a group.
+pub fn cps<I: ImageRead>(alloc: Global, d: &mut Draft<I>, id: i32) -> Result<IdList, RecordFault>
+    requires { d.old.len < 2 ^ 31 }
+    ensures found { IfOk result (λ ids. IfSome d.old.bytes (λ image. (r : Registry) (m : Members) → Holds image r m
+        → IsListOf (IsInList m id) ids)) }
+    ensures fault { IfErr result (HasItsCause d.old.bytes) }
+    ensures frame { OnlyLooks I.ImageRead d.old d.new (IsErrOf result RecordFault.DiskFault) }
+    ensures cost { ListCosts I.ImageRead id d.old d.new }
+{
+    if id < 0 {
+        let none = IdList::new(alloc);
+        let own = none.with(alloc, id)?;
+        return Ok(own);
+    }
+    let groups = elements(alloc, d, id)?;
+    let in_all = groups.with(alloc, ANY_USER)?;
+    let ids = in_all.with(alloc, id)?;
+    if id == ANONYMOUS {
+        return Ok(ids);
+    }
+    let whole = ids.with(alloc, SIGNED_IN)?;
+    Ok(whole)
 }
