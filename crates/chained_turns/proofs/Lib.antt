@@ -1,0 +1,12 @@
+pub mod Refits
+pub mod Refitting
+pub mod Given
+pub mod Giving
+pub mod Found
+pub mod Fronted
+pub mod Longer
+pub mod Owned
+pub mod Passed
+pub mod Renumbered
+pub mod Steps
+pub mod Turned
