@@ -5,6 +5,7 @@ use std::net::{Ipv4Addr, Net, SocketAddr, TcpListener, TcpStream};
 use std::process::Abort;
 use std::sync::atomic::{AtomicBool, AtomicU64, Ordering};
 use std::test::Fail;
+use std::thread::Threads;
 use std::time::{Clock, Duration, Instant};
 use std::{io, thread};
 use ubik_types::Host;
@@ -13,20 +14,6 @@ use ubik_types::Host;
 const LOOPBACK: Host = Host(2_130_706_433);
 
 const FRAME: [u8; 8] = [0, 0, 0, 4, 0, 0, 0, 9];
-
-fn expect_exchange(
-    rt: &impl Abort,
-    exchange: &Exchange,
-    to: (Host, u16),
-    frame: &[u8],
-    end: (Answer, &[u8]),
-) {
-    assert_eq!(rt; exchange.host, to.0);
-    assert_eq!(rt; exchange.port, to.1);
-    assert_eq!(rt; exchange.frame.as_slice(), frame);
-    assert_eq!(rt; exchange.answer, end.0);
-    assert_eq!(rt; exchange.reply.as_slice(), end.1);
-}
 
 fn listen<N>(rt: &N) -> io::Result<(TcpListener, u16)>
 where
@@ -37,91 +24,69 @@ where
     Ok((listener, port))
 }
 
-/// Reads a frame of eight bytes, and gives it back.
-fn echo_once(stream: &mut TcpStream) -> io::Result<()> {
-    let mut frame = [0; 8];
-    stream.read_exact(&mut frame)?;
-    stream.write_all(&frame)
-}
-
-/// Answers so many asks over one connection.
-fn serve_many(listener: &TcpListener, count: u32) -> io::Result<()> {
-    let (mut stream, _) = listener.accept()?;
-    for _ in 0..count {
-        echo_once(&mut stream)?;
-    }
-    Ok(())
-}
-
-/// Answers one ask, and takes one more without an answer.
-fn serve_one(listener: &TcpListener) -> io::Result<()> {
-    let (mut stream, _) = listener.accept()?;
-    echo_once(&mut stream)?;
-    stream.read_exact(&mut [0; 8])
-}
-
-fn ask_twice<L: Link>(link: &mut L, port: u16, reply: &mut Vec<u8>) -> [Answer; 2] {
-    let first = link.ask(LOOPBACK, port, &FRAME, reply);
-    [first, link.ask(LOOPBACK, port, &FRAME, reply)]
-}
-
-#[test]
-fn asks_over_the_loopback(rt: HostRuntime) -> Result<(), Fail> {
-    let (listener, port) = listen(&rt)?;
-    let mut link = TcpLink::make(rt, rt.alloc());
-    let mut reply = Vec::new(rt.alloc());
-    let (near, peer, asked, told) = (&rt, &listener, &mut link, &mut reply);
-    let (served, answers) = thread::join(
-        near,
-        move || serve_many(peer, 2),
-        move || ask_twice(asked, port, told),
-    );
-    // The connection that the link keeps is closed from here on.
-    served?;
-    assert_eq!(rt; answers, [Answer::Got, Answer::Got]);
-    assert_eq!(rt; reply.as_slice(), FRAME.as_slice());
-    let (near, peer, asked, told) = (&rt, &listener, &mut link, &mut reply);
-    let (served, answers) = thread::join(
-        near,
-        move || serve_one(peer),
-        move || ask_twice(asked, port, told),
-    );
-    served?;
-    assert_eq!(rt; answers, [Answer::Got, Answer::NoAnswer]);
-    assert_eq!(rt; reply.as_slice(), [].as_slice());
-    drop(listener);
-    assert_eq!(rt;
-        link.ask(LOOPBACK, port, &FRAME, &mut reply),
-        Answer::NotSent
-    );
-    let kept = link.exchanges();
-    let ends = [
-        Answer::Got,
-        Answer::Got,
-        Answer::Got,
-        Answer::NoAnswer,
-        Answer::NotSent,
-    ];
-    assert_eq!(rt; kept.len(), ends.len());
-    for (exchange, end) in kept.iter().zip(&ends) {
-        let told: &[u8] = if *end == Answer::Got { &FRAME } else { &[] };
-        expect_exchange(&rt, exchange, (LOOPBACK, port), &FRAME, (*end, told));
-    }
-    Ok(())
-}
-
-/// How a server answers.
-#[derive(Clone, Copy, Debug, PartialEq, Eq)]
-enum Manner {
-    /// After a moment.
-    Late,
-    /// It closes in the middle of a frame.
-    Cut,
-    /// It claims a frame of 4 GiB, and waits for the peer to close.
-    Long,
-    /// A byte each moment, of a frame that would take a minute.
+/// What a server does with a connection.
+enum Deed {
+    /// Takes a frame of eight bytes.
+    Takes,
+    /// Takes so many frames, and gives each of them back.
+    Echoes(u32),
+    /// Waits for a moment.
+    Waits,
+    Writes(&'static [u8]),
+    /// Writes a byte each moment, a hundred times.
     Drips,
 }
+
+/// What a server does with the one connection that it takes, one deed after the other, and how each ask ends meanwhile.
+struct Row {
+    deeds: &'static [Deed],
+    answers: &'static [Answer],
+    /// Whether the server comes to its end. Else the peer closes the connection before.
+    ends: bool,
+}
+
+const ROWS: [Row; 6] = [
+    // One connection serves two asks. It is closed from here on, so the next row goes over another one.
+    Row {
+        deeds: &[Deed::Echoes(2)],
+        answers: &[Answer::Got, Answer::Got],
+        ends: true,
+    },
+    // The second frame is taken without an answer.
+    Row {
+        deeds: &[Deed::Echoes(1), Deed::Takes],
+        answers: &[Answer::Got, Answer::NoAnswer],
+        ends: true,
+    },
+    // It answers after a moment.
+    Row {
+        deeds: &[Deed::Takes, Deed::Waits, Deed::Writes(&FRAME)],
+        answers: &[Answer::Got],
+        ends: true,
+    },
+    // It closes in the middle of a frame.
+    Row {
+        deeds: &[Deed::Takes, Deed::Writes(&[0, 0, 0, 4, 0, 0])],
+        answers: &[Answer::NoAnswer],
+        ends: true,
+    },
+    // It claims a frame of 4 GiB, and waits for the peer to close.
+    Row {
+        deeds: &[
+            Deed::Takes,
+            Deed::Writes(&[255, 255, 255, 255]),
+            Deed::Takes,
+        ],
+        answers: &[Answer::NoAnswer],
+        ends: false,
+    },
+    // A frame that would take a minute.
+    Row {
+        deeds: &[Deed::Takes, Deed::Writes(&[0, 0, 4, 176]), Deed::Drips],
+        answers: &[Answer::NoAnswer],
+        ends: false,
+    },
+];
 
 /// In milliseconds, as those below.
 const MOMENT: u64 = 50;
@@ -129,11 +94,22 @@ const MOMENT: u64 = 50;
 /// How long a reply may take.
 const REPLY: u64 = 500;
 
-/// Longer than an ask takes, on a machine that has much else to do, and shorter than a hundred moments.
+/// Longer than a row takes, on a machine that has much else to do, and shorter than a hundred moments.
 const SOON: u64 = 4_000;
 
+fn take(stream: &mut TcpStream) -> io::Result<()> {
+    stream.read_exact(&mut [0; 8])
+}
+
+fn echo(stream: &mut TcpStream, count: u32) -> io::Result<()> {
+    for _ in 0..count {
+        take(stream)?;
+        stream.write_all(&FRAME)?;
+    }
+    Ok(())
+}
+
 fn drip(clock: &impl Clock, stream: &mut TcpStream) -> io::Result<()> {
-    stream.write_all(&[0, 0, 4, 176])?;
     for _ in 0..100 {
         thread::sleep(clock, Duration::from_millis(MOMENT));
         stream.write_all(&[7])?;
@@ -141,39 +117,120 @@ fn drip(clock: &impl Clock, stream: &mut TcpStream) -> io::Result<()> {
     Ok(())
 }
 
-fn serve_in(clock: &impl Clock, listener: &TcpListener, manner: Manner) -> io::Result<()> {
-    let (mut stream, _) = listener.accept()?;
-    let mut frame = [0; 8];
-    stream.read_exact(&mut frame)?;
-    match manner {
-        Manner::Late => {
+fn serve_deed(clock: &impl Clock, stream: &mut TcpStream, deed: &Deed) -> io::Result<()> {
+    match deed {
+        Deed::Takes => take(stream),
+        Deed::Echoes(count) => echo(stream, *count),
+        Deed::Waits => {
             thread::sleep(clock, Duration::from_millis(MOMENT));
-            stream.write_all(&frame)
-        }
-        Manner::Cut => stream.write_all(&frame[..6]),
-        Manner::Long => {
-            stream.write_all(&[255; 4])?;
-            let _ = stream.read(&mut frame)?;
             Ok(())
         }
-        Manner::Drips => drip(clock, &mut stream),
+        Deed::Writes(bytes) => stream.write_all(bytes),
+        Deed::Drips => drip(clock, stream),
     }
 }
 
-/// Asks once, and gives how long that took.
-fn ask_timed<L: Link>(
-    clock: &impl Clock,
-    link: &mut L,
-    port: u16,
-    reply: &mut Vec<u8>,
-) -> io::Result<(Answer, Duration)> {
-    let start = Instant::now(clock)?;
-    let answer = link.ask(LOOPBACK, port, &FRAME, reply);
-    Ok((answer, start.elapsed(clock)?))
+/// Does all deeds with the connection that comes.
+fn serve(clock: &impl Clock, listener: &TcpListener, deeds: &[Deed]) -> io::Result<()> {
+    let (mut stream, _) = listener.accept()?;
+    for deed in deeds {
+        serve_deed(clock, &mut stream, deed)?;
+    }
+    Ok(())
 }
 
+/// How many of so many asks are answered.
+fn ask_many<L: Link>(link: &mut L, port: u16, count: usize, reply: &mut Vec<u8>) -> usize {
+    let mut answered = 0usize;
+    for _ in 0..count {
+        if link.ask(LOOPBACK, port, &FRAME, reply) == Answer::Got {
+            answered = answered.saturating_add(1);
+        }
+    }
+    answered
+}
+
+/// How many of so many asks in each of so many commands are answered.
+fn ask_commands<N: Net<Stream = TcpStream> + Clock + Drop>(
+    link: &mut TcpLink<N>,
+    port: u16,
+    (commands, asks): (u32, usize),
+    reply: &mut Vec<u8>,
+) -> usize {
+    let mut answered = 0usize;
+    for _ in 0..commands {
+        link.begin_command();
+        answered = answered.saturating_add(ask_many(link, port, asks, reply));
+    }
+    answered
+}
+
+/// Asks so while a server does these deeds: how many asks are answered, and whether the server comes to its end.
+fn ask_served<R: Threads + Clock + Sync, N: Net<Stream = TcpStream> + Clock + Drop>(
+    rt: &R,
+    (listener, port): (&TcpListener, u16),
+    deeds: &[Deed],
+    link: &mut TcpLink<N>,
+    asks: (u32, usize),
+    reply: &mut Vec<u8>,
+) -> (usize, bool) {
+    let (ends, answered) = thread::join(
+        rt,
+        move || serve(rt, listener, deeds).is_ok(),
+        move || ask_commands(link, port, asks, reply),
+    );
+    (answered, ends)
+}
+
+/// What an ask that ends so hands back.
+fn reply_at(answer: Answer) -> &'static [u8] {
+    if answer == Answer::Got { &FRAME } else { &[] }
+}
+
+fn is_exchange(exchange: &Exchange, port: u16, answer: Answer) -> bool {
+    exchange.host == LOOPBACK
+        && exchange.port == port
+        && exchange.frame.as_slice() == FRAME.as_slice()
+        && exchange.answer == answer
+        && exchange.reply.as_slice() == reply_at(answer)
+}
+
+/// These are the exchanges of asks that ended so, and the reply is that of the last one.
+fn expect_exchanges(
+    rt: &impl Abort,
+    exchanges: &[Exchange],
+    port: u16,
+    answers: &[Answer],
+    reply: &[u8],
+) {
+    assert_eq!(rt; exchanges.len(), answers.len());
+    let mut last: &[u8] = &[];
+    for (exchange, answer) in exchanges.iter().zip(answers) {
+        assert!(rt; is_exchange(exchange, port, *answer), "{answer:?}");
+        last = reply_at(*answer);
+    }
+    assert_eq!(rt; reply, last);
+}
+
+fn expect_row<R: Threads + Abort + Clock + Sync, N: Net<Stream = TcpStream> + Clock + Drop>(
+    rt: &R,
+    at: (&TcpListener, u16),
+    link: &mut TcpLink<N>,
+    row: &Row,
+    reply: &mut Vec<u8>,
+) -> io::Result<()> {
+    let start = Instant::now(rt)?;
+    let (_, ends) = ask_served(rt, at, row.deeds, link, (1, row.answers.len()), reply);
+    let took = start.elapsed(rt)?;
+    assert!(rt; took < Duration::from_millis(SOON));
+    assert_eq!(rt; ends, row.ends);
+    expect_exchanges(rt, link.exchanges(), at.1, row.answers, reply.as_slice());
+    Ok(())
+}
+
+/// Servers that answer, are slow, break off, and are none.
 #[test]
-fn servers_that_are_slow_or_break_off(rt: HostRuntime) -> Result<(), Fail> {
+fn asks_over_the_loopback(rt: HostRuntime) -> Result<(), Fail> {
     let (listener, port) = listen(&rt)?;
     let waits = Waits {
         connect: Duration::from_millis(SOON),
@@ -181,42 +238,26 @@ fn servers_that_are_slow_or_break_off(rt: HostRuntime) -> Result<(), Fail> {
     };
     let mut link = TcpLink::with_waits(rt, rt.alloc(), waits);
     let mut reply = Vec::new(rt.alloc());
-    let rows = [
-        (Manner::Late, Answer::Got),
-        (Manner::Cut, Answer::NoAnswer),
-        (Manner::Long, Answer::NoAnswer),
-        (Manner::Drips, Answer::NoAnswer),
-    ];
-    for (manner, end) in rows {
-        let (near, peer, asked, told) = (&rt, &listener, &mut link, &mut reply);
-        let (_, asked) = thread::join(
-            near,
-            move || serve_in(near, peer, manner),
-            move || ask_timed(near, asked, port, told),
-        );
-        let (answer, took) = asked?;
-        assert_eq!(rt; answer, end, "{manner:?}");
-        assert!(rt;
-            took < Duration::from_millis(SOON),
-            "{manner:?} took {took:?}"
-        );
-        let got: &[u8] = if end == Answer::Got { &FRAME } else { &[] };
-        assert_eq!(rt; reply.as_slice(), got);
+    for row in &ROWS {
+        expect_row(&rt, (&listener, port), &mut link, row, &mut reply)?;
     }
+    drop(listener);
+    assert_eq!(rt; ask_commands(&mut link, port, (1, 1), &mut reply), 0);
+    expect_exchanges(&rt, link.exchanges(), port, &[Answer::NotSent], &reply);
     Ok(())
 }
 
 /// A net that counts how often a connection is tried, and over which none comes while it is down.
 #[derive(Drop)]
-struct CountedNet<R> {
-    rt: R,
+struct CountedNet {
+    rt: HostRuntime,
     down: AtomicBool,
     tries: AtomicU64,
     /// How long the last try had, in seconds.
     wait: AtomicU64,
 }
 
-impl<R: Net<Listener = TcpListener, Stream = TcpStream>> Net for CountedNet<R> {
+impl Net for CountedNet {
     type Stream = TcpStream;
 
     type Listener = TcpListener;
@@ -239,7 +280,7 @@ impl<R: Net<Listener = TcpListener, Stream = TcpStream>> Net for CountedNet<R> {
     }
 }
 
-impl<R: Clock> Clock for CountedNet<R> {
+impl Clock for CountedNet {
     fn monotonic(&self) -> io::Result<Duration> {
         self.rt.monotonic()
     }
@@ -249,18 +290,10 @@ impl<R: Clock> Clock for CountedNet<R> {
     }
 }
 
-/// How many of so many asks are answered.
-fn ask_many<L: Link>(link: &mut L, port: u16, count: u32, reply: &mut Vec<u8>) -> u32 {
-    let mut answered = 0u32;
-    for _ in 0..count {
-        if link.ask(LOOPBACK, port, &FRAME, reply) == Answer::Got {
-            answered = answered.saturating_add(1);
-        }
-    }
-    answered
-}
+/// What a server does that answers a thousand asks.
+const THOUSAND: [Deed; 1] = [Deed::Echoes(1_000)];
 
-/// A host that takes no connection is tried once a command, and one connection serves a thousand asks.
+/// A host that takes no connection is tried once a command, and one connection serves a thousand asks of two commands.
 #[test]
 fn connections_are_tried_once_and_kept(rt: HostRuntime) -> Result<(), Fail> {
     let (listener, port) = listen(&rt)?;
@@ -273,27 +306,16 @@ fn connections_are_tried_once_and_kept(rt: HostRuntime) -> Result<(), Fail> {
     let mut link = TcpLink::make(&net, rt.alloc());
     let mut reply = Vec::new(rt.alloc());
     for _ in 0..3 {
-        let answer = link.ask(LOOPBACK, port, &FRAME, &mut reply);
-        assert_eq!(rt; answer, Answer::NotSent);
+        assert_eq!(rt; ask_many(&mut link, port, 1, &mut reply), 0);
         assert_eq!(rt; net.tries.load(Ordering::SeqCst), 1);
         net.down.store(false, Ordering::SeqCst);
     }
     assert_eq!(rt; net.wait.load(Ordering::SeqCst), u64::from(CONNECT_SECONDS));
-    assert_eq!(rt; link.exchanges().len(), 3);
-    link.begin_command();
-    assert_eq!(rt; link.exchanges().len(), 0);
-    let (near, peer, asked, told) = (&rt, &listener, &mut link, &mut reply);
-    let (served, answered) = thread::join(
-        near,
-        move || serve_many(peer, 1_000),
-        move || {
-            let first = ask_many(asked, port, 500, told);
-            asked.begin_command();
-            first.saturating_add(ask_many(asked, port, 500, told))
-        },
-    );
-    served?;
-    assert_eq!(rt; answered, 1_000);
+    let answers = [Answer::NotSent, Answer::NotSent, Answer::NotSent];
+    expect_exchanges(&rt, link.exchanges(), port, &answers, &reply);
+    let at = (&listener, port);
+    let served = ask_served(&rt, at, &THOUSAND, &mut link, (2, 500), &mut reply);
+    assert_eq!(rt; served, (1_000, true));
     assert_eq!(rt; net.tries.load(Ordering::SeqCst), 2);
     assert_eq!(rt; link.exchanges().len(), 500);
     Ok(())

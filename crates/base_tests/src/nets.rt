@@ -30,51 +30,81 @@ fn frames_from(alloc: Global, peers: &[u8]) -> Result<Vec<MemFrame>, Fail> {
 /// A value of this type may go to another thread.
 fn sends<T: Send>(_value: &T) {}
 
-fn expect_sent(rt: &impl Abort, sent: &MemSent, to: (Option<Host>, u64), told: &[u8]) {
+/// What a pause and a receipt answer in a turn over a net that is closed there.
+fn told_at(peers: &[u8], turn: usize, closed: usize) -> (Paused, NetGot) {
+    if closed <= turn {
+        return (Paused::Ended, NetGot::Ended);
+    }
+    match peers.get(turn) {
+        Some(peer) => {
+            let peer = u64::from(*peer);
+            (Paused::Yes, NetGot::Frame { peer })
+        }
+        None => (Paused::Closed, NetGot::Closed),
+    }
+}
+
+/// Whether this is the frame of the peer, or nothing.
+fn is_of(frame: &[u8], got: NetGot) -> bool {
+    match got {
+        NetGot::Frame { peer } => frame == [peer.to_le_bytes()[0], 9].as_slice(),
+        _ => frame.is_empty(),
+    }
+}
+
+/// A turn: a pause and a receipt with these answers, and the turn's number is sent.
+fn expect_turn<N: Net>(
+    rt: &impl Abort,
+    net: &N,
+    turn: usize,
+    (paused, got): (Paused, NetGot),
+    frame: &mut Vec<u8>,
+) {
+    assert_eq!(rt; net.pause(3_600), paused);
+    assert_eq!(rt; net.recv(frame), got);
+    assert!(rt; is_of(frame.as_slice(), got));
+    assert_eq!(rt; net.send(SERVER, &turn.to_le_bytes()), NetPut::Sent);
+    assert_eq!(rt; net.answer(7, &[]), NetPut::Sent);
+}
+
+/// Whether a turn has sent this, at its place in all that was sent.
+fn is_sent(sent: &MemSent, at: usize) -> bool {
     match sent {
         MemSent::To { host, frame } => {
-            assert_eq!(rt; (Some(*host), 0), to);
-            assert_eq!(rt; frame.as_slice(), told);
+            let turn = (at / 2).to_le_bytes();
+            at % 2 == 0 && *host == SERVER && frame.as_slice() == turn.as_slice()
         }
         MemSent::Back { peer, frame } => {
-            assert_eq!(rt; (None, *peer), to);
-            assert_eq!(rt; frame.as_slice(), told);
+            at % 2 == 1 && *peer == 7 && frame.as_slice().is_empty()
         }
     }
 }
 
-/// Takes `takes` frames, and closes the net there where it is to be closed.
-fn expect_takes<R: Wait + Abort + Drop + Sync>(
-    rt: &R,
-    net: &MemNet<R>,
+/// Each turn over a net of these peers, which is closed at one of them, and what was sent then.
+fn expect_net<R: Wait + Abort + Drop + Send + Sync + Copy>(
+    rt: R,
+    alloc: Global,
     peers: &[u8],
-    closes: Option<usize>,
-    frame: &mut Vec<u8>,
-) {
+    closed: usize,
+) -> Result<(), Fail> {
+    let net = MemNet::new(rt, frames_from(alloc, peers)?);
+    sends(&net);
+    let mut frame = Vec::from_array(alloc, [1, 2, 3])?;
     for turn in 0..peers.len() + 2 {
-        if closes == Some(turn) {
+        if closed == turn {
             net.close();
         }
-        let has_ended = closes.is_some_and(|at| at <= turn);
-        let (paused, got, told) = match peers.get(turn) {
-            _ if has_ended => (Paused::Ended, NetGot::Ended, None),
-            Some(peer) => (
-                Paused::Yes,
-                NetGot::Frame {
-                    peer: u64::from(*peer),
-                },
-                Some(*peer),
-            ),
-            None => (Paused::Closed, NetGot::Closed, None),
-        };
-        assert_eq!(rt; net.pause(3_600), paused);
-        assert_eq!(rt; net.recv(frame), got);
-        match told {
-            Some(peer) => assert_eq!(rt; frame.as_slice(), [peer, 9].as_slice()),
-            None => assert!(rt; frame.is_empty()),
-        }
-        assert_eq!(rt; net.send(SERVER, &turn.to_le_bytes()), NetPut::Sent);
-        assert_eq!(rt; net.answer(7, &[]), NetPut::Sent);
+        expect_turn(&rt, &net, turn, told_at(peers, turn, closed), &mut frame);
+    }
+    expect_all_sent(&rt, &net.sent(), peers.len() + 2);
+    Ok(())
+}
+
+/// So many turns have sent this.
+fn expect_all_sent(rt: &impl Abort, sent: &[MemSent], turns: usize) {
+    assert_eq!(rt; (sent.len() / 2, sent.len() % 2), (turns, 0));
+    for (at, entry) in sent.iter().enumerate() {
+        assert!(rt; is_sent(entry, at));
     }
 }
 
@@ -82,25 +112,9 @@ fn expect_takes<R: Wait + Abort + Drop + Sync>(
 #[test]
 fn frames_of_a_net_in_memory(rt: HostRuntime) -> Result<(), Fail> {
     for peers in [[].as_slice(), &[4], &[4, 4], &[5, 3, 4]] {
-        for place in 0..peers.len() + 3 {
-            let closes = if place < peers.len() + 2 {
-                Some(place)
-            } else {
-                None
-            };
-            let net = MemNet::new(rt, frames_from(rt.alloc(), peers)?);
-            sends(&net);
-            let mut frame = Vec::from_array(rt.alloc(), [1, 2, 3])?;
-            expect_takes(&rt, &net, peers, closes, &mut frame);
-            let sent = net.sent();
-            assert_eq!(rt; (sent.len() / 2, sent.len() % 2), (peers.len() + 2, 0));
-            for (at, entry) in sent.iter().enumerate() {
-                if at % 2 == 0 {
-                    expect_sent(&rt, entry, (Some(SERVER), 0), &(at / 2).to_le_bytes());
-                } else {
-                    expect_sent(&rt, entry, (None, 7), &[]);
-                }
-            }
+        // At the last place it is not closed any more.
+        for closed in 0..peers.len() + 3 {
+            expect_net(rt, rt.alloc(), peers, closed)?;
         }
     }
     Ok(())
@@ -123,27 +137,36 @@ impl time::Clock for Stopped {
     }
 }
 
+/// The moments of a clock, the last of which comes again.
+fn expect_moments(rt: &impl Abort, clock: &impl Clock, told: &[u32; 3]) {
+    for turn in 0..5 {
+        assert_eq!(rt; clock.now(), told[turn.min(2)]);
+    }
+}
+
+/// The last moment that there is.
+const LAST: u32 = 2_147_483_647;
+
+/// A second of a stopped machine, and the moment of its clock.
+const MACHINES: [(Option<u64>, u32); 7] = [
+    (None, 1),
+    (Some(0), 1),
+    (Some(1), 1),
+    (Some(2), 2),
+    (Some(2_147_483_647), LAST),
+    (Some(2_147_483_648), LAST),
+    (Some(4_294_967_297), LAST),
+];
+
 /// Clocks over lists, over stopped machines, and the real one.
 #[test]
 fn moments_of_clocks(rt: HostRuntime) -> Result<(), Fail> {
-    let last = 2_147_483_647;
-    for told in [[1, 1, 1], [1, 1, last], [7, 8, 8], [last, last, last]] {
+    for told in [[1, 1, 1], [1, 1, LAST], [7, 8, 8], [LAST, LAST, LAST]] {
         let clock = ListClock::new(rt, Vec::from_array(rt.alloc(), told)?);
         sends(&clock);
-        for turn in 0..5 {
-            assert_eq!(rt; clock.now(), told[turn.min(2)]);
-        }
+        expect_moments(&rt, &clock, &told);
     }
-    let machines = [
-        (None, 1),
-        (Some(0), 1),
-        (Some(1), 1),
-        (Some(2), 2),
-        (Some(2_147_483_647), last),
-        (Some(2_147_483_648), last),
-        (Some(4_294_967_297), last),
-    ];
-    for (second, moment) in machines {
+    for (second, moment) in MACHINES {
         assert_eq!(rt; WallClock::new(Stopped(second)).now(), moment);
     }
     // The year 2023.
@@ -189,23 +212,34 @@ fn start_three<R: Threads + Wait + Sync, N: Net, S: Spawner>(
     })
 }
 
+/// The sum of the peers that have their frames back.
+fn peers_of(rt: &impl Abort, sent: &[MemSent]) -> u64 {
+    let mut sum = 0u64;
+    for entry in sent {
+        if let MemSent::Back { peer, frame } = entry {
+            assert!(rt; is_of(frame.as_slice(), NetGot::Frame { peer: *peer }));
+            sum = sum.wrapping_add(*peer);
+        }
+    }
+    sum
+}
+
+/// How many of three jobs over six frames get a thread; how many frames go back, and the sum of their peers.
+fn jobs_by<R: Threads + Wait + Abort + Drop + Sync + Copy, S: Spawner>(
+    rt: R,
+    alloc: Global,
+    spawner: &S,
+) -> Result<(usize, usize, u64), Fail> {
+    let net = MemNet::new(rt, frames_from(alloc, &[1, 2, 4, 8, 16, 32])?);
+    let started = start_three(&rt, alloc, &net, spawner);
+    let sent = net.sent();
+    Ok((started, sent.len(), peers_of(&rt, &sent)))
+}
+
 /// Jobs in threads, and jobs that get none.
 #[test]
 fn jobs_of_a_spawner(rt: HostRuntime) -> Result<(), Fail> {
-    let peers = [1, 2, 4, 8, 16, 32];
-    let net = MemNet::new(rt, frames_from(rt.alloc(), &peers)?);
-    assert_eq!(rt; start_three(&rt, rt.alloc(), &net, &ThreadSpawner), 3);
-    let mut peers_sum = 0u64;
-    for sent in net.sent() {
-        let MemSent::Back { peer, frame } = sent else {
-            continue;
-        };
-        assert_eq!(rt; frame.as_slice(), [peer.to_le_bytes()[0], 9].as_slice());
-        peers_sum = peers_sum.wrapping_add(peer);
-    }
-    assert_eq!(rt; peers_sum, 63);
-    let net = MemNet::new(rt, frames_from(rt.alloc(), &peers)?);
-    assert_eq!(rt; start_three(&rt, rt.alloc(), &net, &NoSpawner), 0);
-    assert!(rt; net.sent().is_empty());
+    assert_eq!(rt; jobs_by(rt, rt.alloc(), &ThreadSpawner)?, (3, 6, 63));
+    assert_eq!(rt; jobs_by(rt, rt.alloc(), &NoSpawner)?, (0, 0, 0));
     Ok(())
 }

@@ -1,6 +1,7 @@
 //! A write in its flight, and the image before it, over images whose reads fail.
 use db_image::{ImageRead, ReadEnd, VecImage};
 use std::alloc::Global;
+use std::process::Abort;
 use std::test::Fail;
 use ubik_types::{Change, Changes, NoMemory, Version, bytes_of};
 use ubik_write::{BeforeImage, Flight, FlightFault, text_len};
@@ -66,27 +67,31 @@ fn changes(alloc: Global) -> Result<Changes, NoMemory> {
     Ok(Changes::new(list))
 }
 
-/// An image whose reads fail fails before a write too, and where nothing of it is read there is no fault. No flight is made over it.
-#[test]
-fn reads_that_fail(rt: HostRuntime) -> Result<(), Fail> {
-    let changes = changes(rt.alloc())?;
-    assert!(rt; text_len(&changes) < 100);
-    let mut whole = VecImage::new(rt.alloc(), b"abcdefgh")?;
-    let flight = Flight::make(rt.alloc(), 5, OLD, NEW, 1076, &changes, &mut whole)?;
-    let mut before = BeforeImage {
-        image: FailingImage { faults: 0 },
-        flight: &flight,
-    };
+/// An image whose reads fail fails before a write too, and where nothing of it is read there is no fault.
+fn expect_before(rt: &impl Abort, flight: &Flight) {
+    let image = FailingImage { faults: 0 };
+    let mut before = BeforeImage { image, flight };
     let mut part = [0; 5];
     assert_eq!(rt; before.len(), 8);
     assert_eq!(rt; before.read(2, &mut part), ReadEnd::DiskFault);
     assert_eq!(rt; before.image.faults, 1);
     assert_eq!(rt; before.read(3, &mut part), ReadEnd::Done);
     assert_eq!(rt; before.image.faults, 1);
-    assert!(rt; part.as_slice() == b"\0\0fgh".as_slice());
+    assert_eq!(rt; part, *b"\0\0fgh");
+}
+
+/// No flight is made over an image whose reads fail.
+#[test]
+fn reads_that_fail(rt: HostRuntime) -> Result<(), Fail> {
+    let alloc = rt.alloc();
+    let changes = changes(alloc)?;
+    assert!(rt; text_len(&changes) < 100);
+    let mut whole = VecImage::new(alloc, b"abcdefgh")?;
+    let flight = Flight::make(alloc, 5, OLD, NEW, 1076, &changes, &mut whole)?;
+    expect_before(&rt, &flight);
     let mut image = FailingImage { faults: 0 };
-    let made = Flight::make(rt.alloc(), 5, OLD, NEW, 1076, &changes, &mut image);
-    assert!(rt; matches!(made, Err(FlightFault::DiskFault)));
+    let made = Flight::make(alloc, 5, OLD, NEW, 1076, &changes, &mut image).err();
+    assert_eq!(rt; made, Some(FlightFault::DiskFault));
     assert_eq!(rt; image.faults, 1);
     Ok(())
 }
