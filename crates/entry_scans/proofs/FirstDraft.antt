@@ -9,14 +9,14 @@ use Rattle.ubik_types.specs.Image.{changed, extended}
 use Rattle.ubik_types.specs.declared.images.Change.TheVariants.{Put}
 use Rattle.db_image.specs.declared.faults.RecordFault.{RecordFault}
 use Rattle.db_image.specs.declared.faults.RecordFault.TheVariants.{DiskFault, BadRecord, NoMemory}
-use Rattle.prdb_entries.specs.Blocks.{block_count}
-use Rattle.prdb_entries.specs.Bytes.{bits, word}
-use Rattle.prdb_entries.specs.RecordEnds.{HasCause}
-use Rattle.prdb_entries.specs.Records.{Holds, after_set_maxima, block_in, block_place, maxima_in, whole}
-use Rattle.prdb_entries.specs.Registry.{Registry, AreMaxima, first_registry, with_maxima}
-use Rattle.prdb_entries.proofs.BlockPlaces.{put_maxima}
-use Rattle.prdb_entries.proofs.FirstImage.{empty_holds}
-use Rattle.prdb_entries.proofs.Held.{holds_maxima, maxima_of}
+use Rattle.prdb_layout.specs.Blocks.{block_count}
+use Rattle.prdb_layout.specs.Bytes.{bits, word}
+use Rattle.prdb_layout.specs.RecordEnds.{HasCause}
+use Rattle.prdb_layout.specs.Records.{Holds, after_set_maxima, block_in, block_place, maxima_in, whole}
+use Rattle.prdb_layout.specs.Registry.{Registry, AreMaxima, first_registry, with_maxima}
+use Rattle.prdb_layout.proofs.BlockPlaces.{put_maxima}
+use Rattle.prdb_layout.proofs.FirstImage.{empty_holds}
+use Rattle.prdb_layout.proofs.Held.{holds_maxima, maxima_of}
 use Rattle.entry_scans.specs.First.{HasFirstBlocks, HasTheFirst}
 
 -- ---- the first image with other maxima

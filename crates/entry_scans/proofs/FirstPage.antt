@@ -7,10 +7,10 @@ use Rattle.db_image.specs.declared.faults.RecordFault.{RecordFault}
 use Rattle.db_blocks.specs.Ascending.{first_blocks, numbers_met}
 use Rattle.db_blocks.specs.Blocks.{block_in as db_block_in}
 use Rattle.db_blocks.proofs.Order.{AreApart, IsIn, IsOrder, order_behind, order_least, order_of}
-use Rattle.prdb_entries.specs.Blocks.{block_count}
-use Rattle.prdb_entries.specs.Records.{Holds, IsLaidOut, block_in, entry_in, kind_of, whole}
-use Rattle.prdb_entries.specs.Registry.{Registry, IsRegistry}
-use Rattle.prdb_entries.specs.State.{PrEntry, IsId}
+use Rattle.prdb_layout.specs.Blocks.{block_count}
+use Rattle.prdb_layout.specs.Records.{Holds, IsLaidOut, block_in, entry_in, kind_of, whole}
+use Rattle.prdb_layout.specs.Registry.{Registry, IsRegistry}
+use Rattle.prdb_layout.specs.State.{PrEntry, IsId}
 use Rattle.entry_scans.specs.Pages.{AreFirst, IsOfEntry, rank_in}
 use Rattle.entry_scans.specs.Sought.{is_sought}
 use Rattle.entry_scans.proofs.Ranks.{id_low, low_next, rank_back, rank_next, rank_same, rank_up}

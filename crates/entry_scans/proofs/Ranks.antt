@@ -2,7 +2,7 @@
 use Rattle.std.proofs.Common.{◌≡◌, ℤ, pos, negsuc, zero, suc, ◌+◌, ◌-◌, ◌≤◌, ◌+ℤ◌, refl, ap, arith}
 use Rattle.std.specs.Prelude.{◌≤ℤ◌}
 use Rattle.std.proofs.lemmas.Int.{ints}
-use Rattle.prdb_entries.specs.State.{IsId}
+use Rattle.prdb_layout.specs.State.{IsId}
 use Rattle.entry_scans.specs.Pages.{rank_of}
 
 pub rank_up : (a b : ℤ) → a ≤ℤ b → rank_of a ≤ rank_of b

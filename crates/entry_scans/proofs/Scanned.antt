@@ -7,11 +7,11 @@ use Rattle.db_image.specs.declared.faults.RecordFault.TheVariants.{DiskFault, Ba
 use Rattle.db_blocks.specs.Ascending.{AreGood, ascending, first_blocks}
 use Rattle.db_blocks.specs.Blocks.{block_in as db_block_in}
 use Rattle.db_blocks.specs.Ends.{HasCause as BlocksHaveCause}
-use Rattle.prdb_entries.specs.Blocks.{block_count}
-use Rattle.prdb_entries.specs.RecordEnds.{HasCause}
-use Rattle.prdb_entries.specs.Records.{Holds, block_in, kind_of, whole}
-use Rattle.prdb_entries.specs.Registry.{Registry}
-use Rattle.prdb_entries.proofs.LaidOut.{kind_small}
+use Rattle.prdb_layout.specs.Blocks.{block_count}
+use Rattle.prdb_layout.specs.RecordEnds.{HasCause}
+use Rattle.prdb_layout.specs.Records.{Holds, block_in, kind_of, whole}
+use Rattle.prdb_layout.specs.Registry.{Registry}
+use Rattle.prdb_layout.proofs.LaidOut.{kind_small}
 use Rattle.entry_scans.specs.First.{HasFirstBlocks}
 use Rattle.entry_scans.specs.Pages.{is_kind}
 use Rattle.entry_scans.proofs.FirstPage.{same_block}

@@ -4,11 +4,11 @@ use Rattle.std.specs.List.{Contains}
 use Rattle.std.proofs.lemmas.Bool.{cases_Bool, and_parts, and_from, eqb-true, eq-eqb}
 use Rattle.db_image.specs.Draft.{Drafted}
 use Rattle.db_image.specs.declared.images.ImageRead.{Ghosts}
-use Rattle.prdb_entries.specs.Blocks.{block_count}
-use Rattle.prdb_entries.specs.Records.{Holds, IsLaidOut, block_in, block_place, entry_in, kind_of}
-use Rattle.prdb_entries.specs.Registry.{Registry, IsRegistry}
-use Rattle.prdb_entries.specs.State.{PrEntry}
-use Rattle.prdb_entries.proofs.LaidOut.{count_is, whole_same}
+use Rattle.prdb_layout.specs.Blocks.{block_count}
+use Rattle.prdb_layout.specs.Records.{Holds, IsLaidOut, block_in, block_place, entry_in, kind_of}
+use Rattle.prdb_layout.specs.Registry.{Registry, IsRegistry}
+use Rattle.prdb_layout.specs.State.{PrEntry}
+use Rattle.prdb_layout.proofs.LaidOut.{count_is, whole_same}
 use Rattle.entry_scans.specs.Found.{IsMetAt, TellsWhether}
 use Rattle.entry_scans.specs.Lists.{IsAscending, IsListOf}
 use Rattle.entry_scans.specs.Sought.{is_sought}

@@ -1,7 +1,7 @@
 -- The entries of the first image.
 use Rattle.std.specs.Prelude.{ℕ, ℤ, ◌≡◌, ◌<◌, List, [], length}
-use Rattle.prdb_entries.specs.Records.{Holds, block_in, whole}
-use Rattle.prdb_entries.specs.Registry.{Registry, with_maxima}
+use Rattle.prdb_layout.specs.Records.{Holds, block_in, whole}
+use Rattle.prdb_layout.specs.Registry.{Registry, with_maxima}
 
 -- an image that is not empty holds what the empty one does, but for the maxima
 abbrev pub HasTheFirst : List ℕ → Type 0

@@ -1,7 +1,7 @@
 -- Which entries of a registry meet a test (own).
 use Rattle.std.specs.Prelude.{ℤ, ◌≡◌, Bool, true, false, Some}
-use Rattle.prdb_entries.specs.Registry.{Registry}
-use Rattle.prdb_entries.specs.State.{PrEntry}
+use Rattle.prdb_layout.specs.Registry.{Registry}
+use Rattle.prdb_layout.specs.State.{PrEntry}
 
 -- the entry of this id meets the test
 abbrev pub IsMetAt : (PrEntry → Bool) → Registry → ℤ → Type 0

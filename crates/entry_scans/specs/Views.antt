@@ -1,5 +1,5 @@
 -- An entry as it stands in a block.
-use Rattle.prdb_entries.specs.State.{PrEntry}
+use Rattle.prdb_layout.specs.State.{PrEntry}
 use Rattle.entry_scans.specs.declared.views.EntryView.{EntryView}
 
 -- the entry, without where its name lies in memory

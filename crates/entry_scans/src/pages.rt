@@ -3,9 +3,9 @@ ghost use Rattle.std.specs.Prelude.{◌≡◌, ◌+◌, ◌*◌, ◌<◌, ◌≤
 ghost use Rattle.std.specs.List.{AllByRecursion};
 ghost use Rattle.db_image.specs.Asked.{AsksAtMost};
 ghost use Rattle.db_blocks.specs.Ascending.{first_blocks};
-ghost use Rattle.prdb_entries.specs.RecordEnds.{HasCause, OnlyLooks};
-ghost use Rattle.prdb_entries.specs.Records.{Holds, entry_in, whole};
-ghost use Rattle.prdb_entries.specs.Registry.{Registry};
+ghost use Rattle.prdb_layout.specs.RecordEnds.{HasCause, OnlyLooks};
+ghost use Rattle.prdb_layout.specs.Records.{Holds, entry_in, whole};
+ghost use Rattle.prdb_layout.specs.Registry.{Registry};
 ghost use Rattle.entry_scans.specs.Pages.{AreFirst, IsOfEntry, least_id, rank_in, rank_of};
 ghost use Rattle.entry_scans.specs.Sought.{is_sought};
 ghost use Rattle.entry_scans.specs.declared.scans.TheConstants.{HEAD_LEN};

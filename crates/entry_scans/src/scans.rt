@@ -1,10 +1,10 @@
 //! One pass over the blocks of a draft.
 ghost use Rattle.std.specs.Prelude.{◌≡◌, ◌+◌, ◌<◌, ◌≤◌, ◌^◌, ◌↔◌, ℤ, Bool, IfSome, IfOk, IfErr, IsErrOf, IsSomeAnd, length};
 ghost use Rattle.std.specs.List.{Contains};
-ghost use Rattle.prdb_entries.specs.RecordEnds.{HasCause, OnlyLooks};
-ghost use Rattle.prdb_entries.specs.Records.{Holds, block_in, block_place, kind_of};
-ghost use Rattle.prdb_entries.specs.Registry.{Registry};
-ghost use Rattle.prdb_entries.specs.State.{PrEntry};
+ghost use Rattle.prdb_layout.specs.RecordEnds.{HasCause, OnlyLooks};
+ghost use Rattle.prdb_layout.specs.Records.{Holds, block_in, block_place, kind_of};
+ghost use Rattle.prdb_layout.specs.Registry.{Registry};
+ghost use Rattle.prdb_layout.specs.State.{PrEntry};
 ghost use Rattle.entry_scans.specs.First.{HasFirstBlocks, HasTheFirst};
 ghost use Rattle.entry_scans.specs.Found.{IsMetAt, TellsWhether};
 ghost use Rattle.entry_scans.specs.Lists.{IsAscending, IsListOf};
@@ -14,7 +14,7 @@ ghost use Rattle.entry_scans.specs.Views.{viewed};
 use crate::views::{EntryView, entry_in, kind_of};
 use db_blocks::{BLOCK_LEN, Block, block_count, block_place};
 use db_image::{Draft, ImageRead, RecordFault, VecImage};
-use prdb_entries::{draft_over, set_maxima};
+use prdb_layout::{draft_over, set_maxima};
 use std::alloc::Global;
 
 /// The length of an image's head, in bytes.
@@ -43,7 +43,7 @@ pub(crate) fn is_sought<S: Sought>(sought: &S, block: &Block) -> bool
 }
 
 /// A block of the draft, where its first word is one of a block.
-#[tactic(auto, unfolding(db_blocks::specs::Blocks::block_in, prdb_entries::specs::Records::block_in))]
+#[tactic(auto, unfolding(db_blocks::specs::Blocks::block_in, prdb_layout::specs::Records::block_in))]
 fn read_block<I: ImageRead>(d: &mut Draft<I>, number: u32) -> Result<Block, RecordFault>
     requires within { block_place number + BLOCK_LEN ≤ d.old.len }
     requires len { d.old.len < 2 ^ 31 }

@@ -1,8 +1,8 @@
 //! Entries as they stand in a block.
 ghost use Rattle.std.specs.Prelude.{◌≡◌, ◌+◌, ◌≤◌, ◌==◌, length};
 ghost use Rattle.std.specs.List.{position, position_or_len};
-ghost use Rattle.prdb_entries.specs.Blocks.{block_name};
-ghost use Rattle.prdb_entries.specs.Records.{entry_in, kind_of, signed_at};
+ghost use Rattle.prdb_layout.specs.Blocks.{block_name};
+ghost use Rattle.prdb_layout.specs.Records.{entry_in, kind_of, signed_at};
 ghost use Rattle.entry_scans.specs.Pages.{pair_count_in};
 ghost use Rattle.entry_scans.specs.Views.{viewed};
 
@@ -70,7 +70,7 @@ fn text_len(field: &[u8]) -> usize
 }
 
 /// The name in a block.
-#[tactic(auto, unfolding(prdb_entries::specs::Blocks::block_name))]
+#[tactic(auto, unfolding(prdb_layout::specs::Blocks::block_name))]
 fn block_name(block: &Block) -> &[u8]
     ensures { result.now ≡ block_name block.now }
 {

@@ -1,9 +1,2 @@
-pub mod Bytes
-pub mod Names
-pub mod State
-pub mod Meaning
-pub mod Layout
-pub mod Blocks
-pub mod Registry
-pub mod Records
-pub mod RecordEnds
+pub mod Changes
+pub mod Ends

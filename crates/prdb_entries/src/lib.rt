@@ -1,17 +1,15 @@
-//! The protection database's entries: the records over a draft.
+//! Changes of the protection database's entries over a draft, which keep its chains.
 #![tactic(auto)]
 
-mod blocks;
-mod entries;
+mod inserts;
 mod laws;
-mod names;
-mod records;
-mod scans;
+mod removes;
+mod replaces;
 
-pub use entries::initial_image;
-pub use laws::{law_empty_holds_the_first, law_image_tells_its_registry};
-pub use names::is_user_name;
-pub use records::{
-    PrEntry, draft_over, find_id, find_name, insert, maxima, remove, replace, set_maxima,
-    with_fields,
+pub use inserts::insert;
+pub use laws::{
+    law_insert_adds_the_entry, law_no_image_gets_shorter, law_remove_takes_the_entry,
+    law_replace_by_the_same_changes_nothing, law_replace_gives_the_fields,
 };
+pub use removes::remove;
+pub use replaces::replace;

@@ -1,89 +1,173 @@
--- The records of prdb_entries leave the lists of pairs: an image that holds pairs holds them after a change of one block that is no
--- continuation.
-use Rattle.std.proofs.Common.{◌≡◌, ◌≢◌, ℕ, ℤ, ◌<◌, List, [], ◌∷◌, take, drop, IsSome, sym, ap, subst, ◌∙◌, ⊎_elim}
-use Rattle.std.specs.List.{Contains}
-use Rattle.std.proofs.lemmas.Bool.{cases_eq}
-use Rattle.prdb_entries.specs.Blocks.{block_count}
-use Rattle.prdb_entries.specs.Records.{block_in, entry_in, kind_of}
-use Rattle.prdb_entries.specs.Registry.{Registry}
-use Rattle.prdb_members.specs.Layout.{AreLists, IsChain, IsDistinct, IsListed, PairList, link_to, IsSpelled}
-use Rattle.prdb_members.proofs.BlockIds.{kind_of_more}
+-- Chains of names, ids and owners where entries and their words of chains stay.
+use Rattle.std.proofs.Common.{◌≡◌, ℕ, ◌+◌, ◌-◌, ◌<◌, ◌≤◌, true, List, [], ◌∷◌, refl, sym, ap, subst, ◌∙◌, arith}
+use Rattle.db_blocks.specs.Blocks.{IsWhole}
+use Rattle.db_chains.specs.Chains.{HasChain}
+use Rattle.db_chains.specs.Links.{block_of, is_right, next_place}
+use Rattle.db_chains.specs.declared.links.Links.{Links}
+use Rattle.db_chains.specs.Visits.{Visits}
+use Rattle.db_chains.proofs.Words.{in_block, right, right_from, right_names}
+use Rattle.prdb_layout.specs.Blocks.{block_count}
+use Rattle.prdb_layout.specs.Bytes.{word_at}
+use Rattle.prdb_layout.specs.Records.{block_in, block_place, entry_in, kind_of}
+use Rattle.prdb_layout.specs.State.{PrEntry}
+use Rattle.prdb_finds.specs.Places.{entry_links, id_place, name_place, owned_place}
+use Rattle.prdb_finds.specs.Records.{AreChains, HasFree, HasIdKey, HasNameKey, IsEntryAt, IsGroupOf, IsOwned}
+use Rattle.prdb_finds.proofs.Lookups.{same_block}
 
--- the continuation blocks of an image stand in another one too
-abbrev pub KeepsMore : (old new : List ℕ) → Type 0
-KeepsMore old new = (j : ℕ) → j < block_count old → kind_of (block_in old j) ≡ 2 → (j < block_count new) × (block_in new j ≡ block_in old j)
+-- The entries and their words of chains are the same in both images, and so are the first words of the chains of names and ids.
+pub record KeepsEntries (old new : List ℕ) : Type 0 where
+  pub size : IsWhole 2112 new
+  pub longer : block_count old ≤ block_count new
+  pub head : (p : ℕ) → 64 ≤ p → p + 4 ≤ 2112 → word_at new p ≡ word_at old p
+  pub back : (k : ℕ) → k < block_count new → kind_of (block_in new k) ≡ 1 → (k < block_count old) × (kind_of (block_in old k) ≡ 1)
+  pub kind : (k : ℕ) → k < block_count old → kind_of (block_in old k) ≡ 1 → kind_of (block_in new k) ≡ 1
+  pub entry : (k : ℕ) → k < block_count old → kind_of (block_in old k) ≡ 1 → entry_in (block_in new k) ≡ entry_in (block_in old k)
+  pub words : (k offset : ℕ) → k < block_count old → kind_of (block_in old k) ≡ 1 → 96 ≤ offset → offset + 4 ≤ 112
+      → word_at (block_in new k) offset ≡ word_at (block_in old k) offset
 
-pub chain_kept : (old new : List ℕ) (entry : ℤ) (more : List ℕ) (ids : List ℤ) → KeepsMore old new → IsChain old entry more ids
-    → IsChain new entry more ids
-chain_kept old new entry [] ids same chain = chain
-chain_kept old new entry (k ∷ more) ids same chain =
-    let kind : kind_of (block_in old k) ≡ 2 = ap kind_of chain.2 ∙ kind_of_more entry (link_to more) (take 44 ids) in
-    let s = same k chain.0 kind in
-    (s.0, chain.1, s.1 ∙ chain.2, chain_kept old new entry more (drop 44 ids) same chain.3)
+-- the same where an entry may have other fields
+pub record KeepsWords (old new : List ℕ) : Type 0 where
+  pub longer : block_count old ≤ block_count new
+  pub kind : (k : ℕ) → k < block_count old → kind_of (block_in old k) ≡ 1 → kind_of (block_in new k) ≡ 1
+  pub words : (k offset : ℕ) → k < block_count old → kind_of (block_in old k) ≡ 1 → 96 ≤ offset → offset + 4 ≤ 112
+      → word_at (block_in new k) offset ≡ word_at (block_in old k) offset
 
-pub listed_kept : (old new : List ℕ) (entry : ℤ) (block : List ℕ) (l : PairList) → KeepsMore old new → IsListed old entry block l
-    → IsListed new entry block l
-listed_kept old new entry block l same is = record {
-  ascending = is.ascending;
-  fits = is.fits;
-  few = is.few;
-  front = is.front;
-  first = is.first;
-  chain = chain_kept old new entry l.more (drop 19 l.ids) same is.chain;
+pub words_kept : (old new : List ℕ) → KeepsEntries old new → KeepsWords old new
+words_kept old new keeps = record { longer = keeps.longer; kind = keeps.kind; words = keeps.words }
+
+pub keeps_none : (image : List ℕ) → IsWhole 2112 image → KeepsEntries image image
+keeps_none image size = record {
+  size = size;
+  longer = omega arith;
+  head = λ p from to. refl;
+  back = λ k below kind. (below, kind);
+  kind = λ k below kind. kind;
+  entry = λ k below kind. refl;
+  words = λ k offset below kind from to. refl;
 }
 
--- one block is another one, or a new one, and neither is a continuation
-pub record IsOneOther (old new : List ℕ) (k : ℕ) : Type 0 where
-  pub stood : (j : ℕ) → j < block_count new → j ≢ k → (j < block_count old) × (block_in new j ≡ block_in old j)
-  pub stays : (j : ℕ) → j < block_count old → j < block_count new
-  pub was : k < block_count old → kind_of (block_in old k) ≢ 2
-  pub is : kind_of (block_in new k) ≢ 2
+pub keeps_then : (a b c : List ℕ) → KeepsEntries a b → KeepsEntries b c → KeepsEntries a c
+keeps_then a b c one two = record {
+  size = two.size;
+  longer = omega (arith, one.longer, two.longer);
+  head = λ p from to. two.head p from to ∙ one.head p from to;
+  back = λ k below kind. let mid = two.back k below kind in one.back k mid.0 mid.1;
+  kind = λ k below kind. two.kind k (omega (arith, below, one.longer)) (one.kind k below kind);
+  entry = λ k below kind. two.entry k (omega (arith, below, one.longer)) (one.kind k below kind) ∙ one.entry k below kind;
+  words = λ k offset below kind from to.
+      two.words k offset (omega (arith, below, one.longer)) (one.kind k below kind) from to ∙ one.words k offset below kind from to;
+}
 
-keeps_more : (old new : List ℕ) (k : ℕ) → IsOneOther old new k → KeepsMore old new
-keeps_more old new k one j below kind =
-    ⊎_elim
-    (λ (same : j ≡ k).
-    absurd (one.was (subst (λ (n : ℕ). n < block_count old) same below) (ap (λ (n : ℕ). kind_of (block_in old n)) (sym same) ∙ kind)))
-    (λ (other : j ≢ k). let in_new = one.stays j below in (in_new, (one.stood j in_new other).1))
-    (cases_eq j k)
+-- ---- a word of a chain
 
-pub lists_kept : (old new : List ℕ) (k : ℕ) (r s : Registry) (lists made : ℤ → PairList) → AreLists old r lists → IsOneOther old new k
-    → (kind_of (block_in new k) ≡ 1 → IsListed new (entry_in (block_in new k)).id (block_in new k) (made (entry_in (block_in new k)).id))
-    → (kind_of (block_in new k) ≡ 1 → IsSpelled (block_in new k))
-    → ((j : ℕ) → j < block_count old → j ≢ k → kind_of (block_in old j) ≡ 1
-    → made (entry_in (block_in old j)).id ≡ lists (entry_in (block_in old j)).id)
-    → ((id : ℤ) (j : ℕ) → IsSome (r.entry id) → Contains (lists id).more j → IsSome (s.entry id) × (made id ≡ lists id))
-    → ((id : ℤ) → IsSome (s.entry id) → IsDistinct (made id).more)
-    → AreLists new s made
-lists_kept old new k r s lists made are one here spelled others owners once = record {
-  listed = λ j below kind.
-      ⊎_elim
-      (λ (same : j ≡ k).
-      subst (λ (n : ℕ). IsListed new (entry_in (block_in new n)).id (block_in new n) (made (entry_in (block_in new n)).id)) (sym same)
-      (here (ap (λ (n : ℕ). kind_of (block_in new n)) (sym same) ∙ kind)))
-      (λ (other : j ≢ k).
-      let stood = one.stood j below other in
-      let old_kind : kind_of (block_in old j) ≡ 1 = ap kind_of (sym stood.1) ∙ kind in
-      let listed = listed_kept old new _ _ _ (keeps_more old new k one) (are.listed j stood.0 old_kind) in
-      subst (λ (b : List ℕ). IsListed new (entry_in b).id b (made (entry_in b).id)) (sym stood.1)
-      (subst (λ (l : PairList). IsListed new (entry_in (block_in old j)).id (block_in old j) l)
-      (sym (others j stood.0 other old_kind)) listed))
-      (cases_eq j k);
-  used = λ j below kind.
-      ⊎_elim
-      (λ (same : j ≡ k). absurd (one.is (ap (λ (n : ℕ). kind_of (block_in new n)) (sym same) ∙ kind)))
-      (λ (other : j ≢ k).
-      let stood = one.stood j below other in
-      let u = are.used j stood.0 (ap kind_of (sym stood.1) ∙ kind) in
-      let o = owners u.0 j u.1 u.2 in
-      (u.0, o.0, subst (λ (l : PairList). Contains l.more j) (sym o.1) u.2))
-      (cases_eq j k);
-  once = once;
-  spelled = λ j below kind.
-      ⊎_elim
-      (λ (same : j ≡ k).
-      subst (λ (n : ℕ). IsSpelled (block_in new n)) (sym same) (spelled (ap (λ (n : ℕ). kind_of (block_in new n)) (sym same) ∙ kind)))
-      (λ (other : j ≢ k).
-      let stood = one.stood j below other in subst IsSpelled (sym stood.1) (are.spelled j stood.0 (ap kind_of (sym stood.1) ∙ kind)))
-      (cases_eq j k);
+-- the block that it names bears this mark
+pub record Names (mark : ℕ) (image : List ℕ) (w : ℕ) : Type 0 where
+  pub some : 0 < w
+  pub below : w - 1 < block_count image
+  pub kind : kind_of (block_in image (w - 1)) ≡ mark
+
+-- words that are the numbers of blocks
+abbrev pub number_links : (mark next : ℕ) → Links
+number_links mark next = record { head = 2112; mark = mark; next = next; step = 1; kinds = 1 }
+
+pub word_in : (image : List ℕ) (k offset : ℕ) → offset + 4 ≤ 192 → word_at (block_in image k) offset ≡ word_at image (block_place k + offset)
+word_in image k offset fits =
+    let size : offset + (192 - offset) ≡ 192 = omega arith in
+    ap (λ (b : List ℕ). word_at b offset) (sym (same_block image k)) ∙ in_block 2112 image k offset (192 - offset) size (omega arith)
+
+pub names_of : (mark next : ℕ) (image : List ℕ) (w : ℕ) → is_right (number_links mark next) image w ≡ true → Names mark image w
+names_of mark next image w is =
+    let n = right_names (number_links mark next) image w is in
+    let k : w - 1 ≡ block_of (number_links mark next) w = omega arith in
+    let place : block_place (block_of (number_links mark next) w) + 0 ≡ block_place (block_of (number_links mark next) w) = omega arith in
+    record {
+      some = omega (arith, n.some);
+      below = omega (arith, n.some, n.block);
+      kind = word_in image (w - 1) 0 (omega arith) ∙ ap (λ (j : ℕ). word_at image (block_place j + 0)) k ∙ ap (word_at image) place
+          ∙ (right (number_links mark next) image w is).mark;
+    }
+
+pub right_of : (mark next : ℕ) (image : List ℕ) (w : ℕ) → Names mark image w → is_right (number_links mark next) image w ≡ true
+right_of mark next image w n =
+    let k : block_of (number_links mark next) w ≡ w - 1 = omega arith in
+    let place : block_place (block_of (number_links mark next) w) ≡ block_place (block_of (number_links mark next) w) + 0 = omega arith in
+    right_from (number_links mark next) image (block_count image) w refl (omega (arith, n.some)) (omega (arith, n.some, n.below))
+    (omega arith)
+    (ap (word_at image) place ∙ ap (λ (j : ℕ). word_at image (block_place j + 0)) k ∙ sym (word_in image (w - 1) 0 (omega arith)) ∙ n.kind)
+
+pub next_is : (mark next w : ℕ) → next_place (number_links mark next) w ≡ block_place (w - 1) + next
+next_is mark next w = omega arith
+
+-- ---- a chain
+
+pub chain_kept : (next : ℕ) (old new : List ℕ) (at : ℕ) (ws : List ℕ) → 96 ≤ next → next + 4 ≤ 112 → KeepsWords old new
+    → word_at new at ≡ word_at old at → HasChain (entry_links next) old at ws → HasChain (entry_links next) new at ws
+chain_kept next old new at [] from to keeps first chain = first ∙ chain
+chain_kept next old new at (w ∷ ws) from to keeps first chain =
+    let n = names_of 1 next old w chain.1 in
+    let word : word_at new (next_place (entry_links next) w) ≡ word_at old (next_place (entry_links next) w) =
+    ap (word_at new) (next_is 1 next w) ∙ sym (word_in new (w - 1) next (omega arith))
+    ∙ keeps.words (w - 1) next n.below n.kind from to ∙ word_in old (w - 1) next (omega arith) ∙ ap (word_at old) (sym (next_is 1 next w)) in (
+      first ∙ chain.0,
+      right_of 1 next new w record {
+        some = n.some;
+        below = omega (arith, n.below, keeps.longer);
+        kind = keeps.kind (w - 1) n.below n.kind;
+      },
+      chain_kept next old new (next_place (entry_links next) w) ws from to keeps word chain.2,
+    )
+
+entry_there : (old new : List ℕ) (P Q : PrEntry → Type 0) (w : ℕ) → KeepsEntries old new → ((e : PrEntry) → P e → Q e)
+    → IsEntryAt old P w → IsEntryAt new Q w
+entry_there old new P Q w keeps so is =
+    let below : w - 1 < block_count old = omega (arith, is.some, is.within) in record {
+      some = is.some;
+      within = omega (arith, is.within, keeps.longer);
+      kind = keeps.kind (w - 1) below is.kind;
+      belongs = subst Q (sym (keeps.entry (w - 1) below is.kind)) (so (entry_in (block_in old (w - 1))) is.belongs);
+    }
+
+entry_back : (old new : List ℕ) (P Q : PrEntry → Type 0) (w : ℕ) → KeepsEntries old new → ((e : PrEntry) → Q e → P e)
+    → IsEntryAt new Q w → IsEntryAt old P w
+entry_back old new P Q w keeps so is =
+    let was = keeps.back (w - 1) (omega (arith, is.some, is.within)) is.kind in record {
+      some = is.some;
+      within = omega (arith, is.some, was.0);
+      kind = was.1;
+      belongs = so (entry_in (block_in old (w - 1))) (subst Q (keeps.entry (w - 1) was.0 was.1) is.belongs);
+    }
+
+visits_kept : (next : ℕ) (old new : List ℕ) (at : ℕ) (P Q : PrEntry → Type 0) → 96 ≤ next → next + 4 ≤ 112 → KeepsEntries old new
+    → word_at new at ≡ word_at old at → ((e : PrEntry) → P e → Q e) → ((e : PrEntry) → Q e → P e)
+    → Visits (entry_links next) old at (IsEntryAt old P) → Visits (entry_links next) new at (IsEntryAt new Q)
+visits_kept next old new at P Q from to keeps first there back v = record {
+  words = v.words;
+  chain = chain_kept next old new at v.words from to (words_kept old new keeps) first v.chain;
+  only = λ w has. entry_there old new P Q w keeps there (v.only w has);
+  each = λ w is. v.each w (entry_back old new P Q w keeps back is);
+}
+
+-- ---- all chains
+
+pub chains_kept : (old new : List ℕ) → KeepsEntries old new → AreChains old → HasFree new → AreChains new
+chains_kept old new keeps chains free = record {
+  names = λ key low.
+      visits_kept 96 old new (name_place key) (HasNameKey key) (HasNameKey key) (omega arith) (omega arith) keeps
+      (keeps.head (name_place key) (omega arith) (omega arith)) (λ e is. is) (λ e is. is) (chains.names key low);
+  ids = λ key low.
+      visits_kept 100 old new (id_place key) (HasIdKey key) (HasIdKey key) (omega arith) (omega arith) keeps
+      (keeps.head (id_place key) (omega arith) (omega arith)) (λ e is. is) (λ e is. is) (chains.ids key low);
+  owned = λ k below kind.
+      let was = keeps.back k below kind in
+      let same : (entry_in (block_in new k)).id ≡ (entry_in (block_in old k)).id =
+      ap (λ (e : PrEntry). e.id) (keeps.entry k was.0 was.1) in
+      let first : word_at new (owned_place k) ≡ word_at old (owned_place k) =
+      sym (word_in new k 108 (omega arith)) ∙ keeps.words k 108 was.0 was.1 (omega arith) (omega arith) ∙ word_in old k 108 (omega arith) in
+      visits_kept 104 old new (owned_place k) (IsGroupOf (entry_in (block_in old k)).id) (IsGroupOf (entry_in (block_in new k)).id)
+      (omega arith) (omega arith) keeps first (λ e is. (is.0, is.1 ∙ sym same)) (λ e is. (is.0, is.1 ∙ same)) (chains.owned k was.0 was.1);
+  unused = λ k below kind none.
+      let was = keeps.back k below kind in
+      keeps.words k 104 was.0 was.1 (omega arith) (omega arith)
+      ∙ chains.unused k was.0 was.1 (λ owned. none (subst IsOwned (sym (keeps.entry k was.0 was.1)) owned));
+  free = free;
 }

@@ -1,78 +1,37 @@
--- What becomes of an image when the list of an entry is another one (layout of format 1).
-use Rattle.std.specs.Prelude.{ℕ, ℤ, zero, suc, ◌+◌, ◌-◌, List, [], ◌∷◌, ◌++◌, length, take, drop, min, nat_lt, if◌then◌else◌}
-use Rattle.std.specs.Int.{div_ceil}
-use Rattle.prdb_entries.specs.Blocks.{block_count}
-use Rattle.prdb_entries.specs.Bytes.{word_at, zeros}
-use Rattle.prdb_entries.specs.Records.{block_in, first_block, has_id, next_block, whole, with_block, with_count}
-use Rattle.prdb_members.specs.Blocks.{ids_in}
-use Rattle.prdb_members.specs.Layout.{PairList, id_field, link_to, list_words, more_block}
-use Rattle.prdb_members.specs.Lists.{ids_with, ids_without}
-use Rattle.prdb_members.specs.declared.layout.TheConstants.{BLOCK_LEN, PAIR_COUNT_AT, FIRST_MORE_AT, FIRST_IDS_AT, FIRST_IDS, NEXT_AT, MORE_IDS_AT, MORE_IDS}
-
--- ---- the list that an image tells of an entry
-
--- how many continuation blocks so many ids need
-abbrev pub blocks_for : ℕ → ℕ
-blocks_for count = div_ceil (count - FIRST_IDS) MORE_IDS
-
--- so many continuation blocks, each of which names the next one
-unfoldable pub chain_in : List ℕ → (count link : ℕ) → List ℕ
-chain_in image zero link = []
-chain_in image (suc count) link = (link - 1) ∷ chain_in image count (word_at (block_in image (link - 1)) NEXT_AT)
-
--- so many ids in these continuation blocks
-unfoldable pub ids_behind : List ℕ → (more : List ℕ) → (count : ℕ) → List ℤ
-ids_behind image [] count = []
-ids_behind image (k ∷ more) count = ids_in (block_in image k) MORE_IDS_AT (min count MORE_IDS) ++ ids_behind image more (count - MORE_IDS)
-
--- the list that begins in an entry's block
-unfoldable pub list_in : List ℕ → (block : List ℕ) → PairList
-list_in image block =
-    let count = word_at block PAIR_COUNT_AT in
-    let more = chain_in image (blocks_for count) (word_at block FIRST_MORE_AT) in
-    record { ids = ids_in block FIRST_IDS_AT (min count FIRST_IDS) ++ ids_behind image more (count - FIRST_IDS); more = more }
+-- What becomes of an image with chains when the list of an entry is another one (layout of format 1).
+use Rattle.std.specs.Prelude.{ℕ, ℤ, ◌+◌, ◌-◌, List, [], ◌∷◌, ◌++◌, length, take, drop, nat_lt, if◌then◌else◌}
+use Rattle.db_chains.specs.Free.{next_number, with_freed as with_free_block, with_taken}
+use Rattle.prdb_layout.specs.Bytes.{zeros}
+use Rattle.prdb_layout.specs.Records.{block_in}
+use Rattle.prdb_lists.specs.Changes.{blocks_for, list_in, place_in, relisted}
+use Rattle.prdb_lists.specs.Layout.{PairList}
+use Rattle.prdb_lists.specs.Lists.{ids_with, ids_without}
+use Rattle.prdb_finds.specs.Places.{free_blocks}
+use Rattle.prdb_finds.specs.Records.{whole}
+use Rattle.prdb_layout.specs.declared.blocks.TheConstants.{BLOCK_LEN}
 
 -- ---- another list
 
--- an entry's block with another list of pairs
-unfoldable pub with_list : List ℕ → PairList → List ℕ
-with_list block l =
-    take 24 block ++ list_words l ++ take 80 (drop 32 block) ++ id_field 80 (take 19 l.ids)
-
--- the continuation blocks of an entry with these ids in them, one after the other
-unfoldable pub with_more : (entry : ℤ) → List ℕ → List ℤ → List ℕ → List ℕ
-with_more entry [] ids image = image
-with_more entry (k ∷ more) ids image =
-    with_more entry more (drop 44 ids) (with_block k (more_block entry (link_to more) (take 44 ids)) image)
-
--- an entry in a block, with another list in place of its own
-abbrev pub relisted : (k : ℕ) → (entry : ℤ) → (block : List ℕ) → PairList → List ℕ → List ℕ
-relisted k entry block l image = with_block k (with_list block l) (with_more entry l.more (drop FIRST_IDS l.ids) image)
-
--- with a free block, which is a new one at the end where there is none
-unfoldable pub with_free : List ℕ → List ℕ
-with_free image =
-    if nat_lt (next_block image) (block_count image) then image
-    else with_count (block_count image + 1) (with_block (block_count image) (zeros BLOCK_LEN) image)
-
--- the blocks of a list of so many ids; the lowest free block is one more behind them, where one is needed
+-- the blocks of a list of so many ids; the first free block, or one more at the end, is one more behind them where one is needed
 abbrev pub more_for : (count : ℕ) → List ℕ → List ℕ → List ℕ
-more_for count more image = if nat_lt (length more) (blocks_for count) then more ++ next_block image ∷ [] else more
+more_for count more image =
+    if nat_lt (length more) (blocks_for count) then more ++ (next_number free_blocks image - 1) ∷ [] else more
 
--- the image in which it is free
-abbrev pub free_for : (count : ℕ) → List ℕ → List ℕ → List ℕ
-free_for count more image = if nat_lt (length more) (blocks_for count) then with_free image else image
+-- the image in which it is out of the chain of the free ones
+abbrev pub taken_for : (count : ℕ) → List ℕ → List ℕ → List ℕ
+taken_for count more image =
+    if nat_lt (length more) (blocks_for count) then with_taken free_blocks (zeros BLOCK_LEN) image else image
 
--- the first of these blocks is free, and zero
+-- the first of these blocks is free, and at its ascending place in the chain
 abbrev pub with_freed : List ℕ → List ℕ → List ℕ
 with_freed [] image = image
-with_freed (k ∷ more) image = with_block k (zeros BLOCK_LEN) image
+with_freed (k ∷ more) image = with_free_block free_blocks (k + 1) image
 
 -- with an id more in the list of an entry in a block
 abbrev pub gained : (k : ℕ) → (entry : ℤ) → (block : List ℕ) → PairList → (id : ℤ) → List ℕ → List ℕ
 gained k entry block l id image =
     let ids = ids_with id l.ids in
-    relisted k entry block (record { ids = ids; more = more_for (length ids) l.more image }) (free_for (length ids) l.more image)
+    relisted k entry block (record { ids = ids; more = more_for (length ids) l.more image }) (taken_for (length ids) l.more image)
 
 -- with an id less
 abbrev pub lost : (k : ℕ) → (entry : ℤ) → (block : List ℕ) → PairList → (id : ℤ) → List ℕ → List ℕ
@@ -82,10 +41,6 @@ lost k entry block l id image =
     relisted k entry block (record { ids = ids; more = take count l.more }) (with_freed (drop count l.more) image)
 
 -- ---- one side of a pair
-
--- the block of an entry
-abbrev pub place_in : List ℕ → ℤ → ℕ
-place_in image entry = first_block (has_id entry) image
 
 abbrev pub with_id : (entry id : ℤ) → List ℕ → List ℕ
 with_id entry id image =

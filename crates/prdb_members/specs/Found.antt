@@ -1,10 +1,13 @@
--- The list of pairs that is found of an id.
-use Rattle.std.specs.Prelude.{ℤ, ◌≡◌, true, false, Option, Some, None}
-use Rattle.prdb_members.specs.Lists.{IsListOf}
-use Rattle.prdb_members.specs.Members.{Members, are_paired}
-use Rattle.prdb_members.specs.declared.listed.Listed.{Listed}
+-- The block that is found of an id.
+use Rattle.std.specs.Prelude.{ℕ, ℤ, ◌≡◌, ◌<◌, true, List, Option, Some, None}
+use Rattle.db_blocks.specs.declared.scans.Found.{Found}
+use Rattle.prdb_layout.specs.Blocks.{block_count}
+use Rattle.prdb_layout.specs.Records.{block_in, has_id}
+use Rattle.prdb_finds.specs.Keys.{id_chain}
+use Rattle.prdb_finds.specs.Places.{id_links}
+use Rattle.prdb_finds.specs.Sought.{IsRead}
 
--- the id is in no pair, or this is the list of those that it is paired with
-abbrev pub IsFound : Members → ℤ → Option Listed → Type 0
-IsFound m id None = (other : ℤ) → are_paired m id other ≡ false
-IsFound m id (Some l) = IsListOf (λ other. are_paired m id other ≡ true) l.ids
+-- it is that of an entry with the id, or there is none in the chain of the id
+abbrev pub IsBlockOf : (id : ℤ) → List ℕ → Option Found → Type 0
+IsBlockOf id image None = IsRead id_links (λ w block. has_id id block) (id_chain id) image None
+IsBlockOf id image (Some f) = (f.number < block_count image) × (f.block ≡ block_in image f.number) × (has_id id f.block ≡ true)

@@ -1,10 +1,7 @@
-pub mod Found
-pub mod Blocks
-pub mod Members
-pub mod Lists
-pub mod Layout
-pub mod Ends
-pub mod Sought
 pub mod Changes
+pub mod Costs
+pub mod Ends
+pub mod Found
 pub mod Moves
+pub mod Owned
 pub mod Sides

@@ -1,87 +1,51 @@
--- What becomes of an image, of a registry and of a set of pairs when an entry gets another id (layout of format 1).
-use Rattle.std.specs.Prelude.{ℕ, ℤ, pos, ◌≡◌, ◌≢◌, ◌+◌, int_lt, Bool, true, false, List, [], ◌∷◌, ◌++◌, take, drop, Option, Some, None, IsSome, option_map, option_and_then, if◌then◌else◌}
+-- What becomes of an image with chains when an entry gets another id.
+use Rattle.std.specs.Prelude.{ℕ, ℤ, ◌≡◌, ◌+◌, ◌<◌, true, List, Option, Some, IfSome, IsSome, IsSomeAnd}
 use Rattle.std.specs.List.{Contains}
-use Rattle.std.specs.Ordering.{int_eq}
-use Rattle.prdb_entries.specs.Bytes.{bits, word}
-use Rattle.prdb_entries.specs.Records.{block_in, whole}
-use Rattle.prdb_entries.specs.Registry.{Registry, IsFixedId}
-use Rattle.prdb_entries.specs.State.{IsId, PrEntry}
-use Rattle.prdb_members.specs.Changes.{list_in, place_in, relisted}
-use Rattle.prdb_members.specs.Layout.{PairList}
-use Rattle.prdb_members.specs.Lists.{IsListOf, ids_with, ids_without}
-use Rattle.prdb_members.specs.Members.{Members, are_paired}
+use Rattle.db_image.specs.Draft.{Drafted}
+use Rattle.db_chains.specs.Chains.{HasChain}
+use Rattle.db_chains.specs.Changes.{put_in, without}
+use Rattle.prdb_layout.specs.Blocks.{block_count}
+use Rattle.prdb_layout.specs.Records.{block_in, kind_of}
+use Rattle.prdb_layout.specs.Registry.{Registry}
+use Rattle.prdb_lists.specs.Changes.{place_in}
+use Rattle.prdb_lists.specs.Layout.{PairList}
+use Rattle.prdb_lists.specs.Lists.{IsListOf}
+use Rattle.prdb_lists.specs.Members.{Members, are_paired}
+use Rattle.prdb_lists.specs.Moves.{MayMove, after_put_id, after_relists, moved_members, moved_registry}
+use Rattle.prdb_finds.specs.Keys.{id_chain}
+use Rattle.prdb_finds.specs.Places.{id_links, name_links, name_place, owned_links, owned_place}
+use Rattle.prdb_finds.specs.Records.{Holds, whole}
 use Rattle.prdb_members.specs.Sides.{HasLists}
-use Rattle.prdb_members.specs.declared.layout.TheConstants.{ID_AT}
 
--- ---- of an image
+-- the block of a number out of the chain of an id, and then in front of that of another one
+abbrev pub rechained : (old new : ℤ) → (n : ℕ) → List ℕ → List ℕ
+rechained old new n image = put_in id_links (id_chain new) n (without id_links (id_chain old) n image)
 
--- an id in place of another one in an ascending list
-abbrev pub ids_moved : (old new : ℤ) → List ℤ → List ℤ
-ids_moved old new ids = ids_with new (ids_without old ids)
-
--- the list of an entry has an id in place of another one, and keeps its blocks
-abbrev pub after_relist : (old new entry : ℤ) → List ℕ → List ℕ
-after_relist old new entry image =
-    let k = place_in image entry in
-    let l = list_in image (block_in image k) in
-    relisted k entry (block_in image k) (record { ids = ids_moved old new l.ids; more = l.more }) image
-
--- the lists of these entries have it
-abbrev pub after_relists : (old new : ℤ) → (entries : List ℤ) → List ℕ → List ℕ
-after_relists old new [] image = image
-after_relists old new (entry ∷ entries) image = after_relists old new entries (after_relist old new entry image)
-
--- a block with another id
-unfoldable pub with_id_word : ℤ → List ℕ → List ℕ
-with_id_word id block = take ID_AT block ++ word (bits id) ++ drop (ID_AT + 4) block
-
--- an entry's own blocks have another id, and keep its list
-abbrev pub after_put_id : (old new : ℤ) → List ℕ → List ℕ
-after_put_id old new image =
-    let k = place_in image old in
-    let block = block_in image k in
-    relisted k new (with_id_word new block) (list_in image block) image
-
--- an entry that is paired with others has another id, in their lists and in its own blocks
+-- An entry that is paired with others has another id: in their lists, then in its own blocks, and then its block goes from the chain of the
+-- one id to that of the other. It owns no groups, and stays in the chains of its name and its owner.
 unfoldable pub after_move : (old new : ℤ) → (others : List ℤ) → List ℕ → List ℕ
-after_move old new others image = after_put_id old new (after_relists old new others (whole image))
-
--- ---- of a state
-
--- the id that stood there before
-abbrev pub before : (old new : ℤ) → ℤ → Option ℤ
-before old new id = if int_eq id new then Some old else if int_eq id old then None else Some id
-
--- an entry where one id took the place of another
-abbrev pub with_moved_id : (old new : ℤ) → PrEntry → PrEntry
-with_moved_id old new e = record e { id = if int_eq e.id old then new else e.id }
-
--- a registry in which an entry has another id
-abbrev pub moved_registry : (old new : ℤ) → Registry → Registry
-moved_registry old new r = record r { entry = λ id. option_map (with_moved_id old new) (option_and_then r.entry (before old new id)) }
-
-abbrev pub both_have : Members → Option ℤ → Option ℤ → Bool
-both_have m None group = false
-both_have m (Some member) None = false
-both_have m (Some member) (Some group) = m.has member group
-
--- the pairs of the entry, under its other id
-abbrev pub moved_members : (old new : ℤ) → Members → Members
-moved_members old new m = record { has = λ member group. both_have m (before old new member) (before old new group) }
-
--- an entry may get another id: that is of its own kind and new, and nothing is owned by the old one, which is not fixed
-pub record MayMove (old new : ℤ) (r : Registry) : Type 0 where
-  pub there : IsSome (r.entry old)
-  pub new_id : r.entry new ≡ None
-  pub good : IsId new
-  pub kind : int_lt new (pos 0) ≡ int_lt old (pos 0)
-  pub not_fixed : ¬ IsFixedId old
-  pub owns_nothing : (other : ℤ) (f : PrEntry) → r.entry other ≡ Some f → f.owner ≢ old
+after_move old new others image =
+    let listed = after_relists old new others (whole image) in
+    rechained old new (place_in listed old + 1) (after_put_id old new listed)
 
 -- the bytes are those of an image in which an entry, paired with these others, has another id
 abbrev pub IsMoved : (old new : ℤ) → Members → List ℕ → Option (List ℕ) → Type 0
 IsMoved old new m image behind =
     (others : List ℤ) → IsListOf (λ other. are_paired m old other ≡ true) others → behind ≡ Some (after_move old new others image)
+
+-- where the old bytes hold an entry that may get another id, the new ones hold it and its pairs under that id
+abbrev pub MakesMove : {I : Type 0} → (old_id new_id : ℤ) → (old new : Drafted I) → Type 0
+MakesMove old_id new_id old new =
+    IfSome old.bytes
+    (λ image. (r : Registry) (m : Members) → Holds image r m → MayMove old_id new_id r
+    → IsSomeAnd new.bytes (λ after. Holds after (moved_registry old_id new_id r) (moved_members old_id new_id m)))
+
+-- the chain of each name's key, and that of what each entry owns, has the words that it had, in their order
+pub record KeepsOrder (image after : List ℕ) : Type 0 where
+  pub names : (key : ℕ) → key < 256 → (ws : List ℕ) → HasChain name_links image (name_place key) ws
+      → HasChain name_links after (name_place key) ws
+  pub owned : (k : ℕ) → k < block_count image → kind_of (block_in image k) ≡ 1 → (ws : List ℕ)
+      → HasChain owned_links image (owned_place k) ws → HasChain owned_links after (owned_place k) ws
 
 -- ---- between the steps
 

@@ -1,79 +1,37 @@
-//! Blocks that tell pairs, as they are read.
-ghost use Rattle.std.specs.Prelude.{◌≡◌, ◌+◌, ◌*◌, ◌<◌, ◌≤◌, ◌^◌, ◌==◌, ◌&&◌, ◌++◌, ℕ, ℤ, true, false, Bool, IfOk, IfErr, IfSome, IsErrOf, OnErr, length, map};
-ghost use Rattle.std.specs.List.{range_with_len};
-ghost use Rattle.std.specs.Ordering.{int_eq};
-ghost use Rattle.db_blocks.specs.Blocks.{IsFirst, block_place};
-ghost use Rattle.prdb_entries.specs.Records.{kind_of, signed_at};
-ghost use Rattle.prdb_members.specs.Blocks.{ids_in, is_more_of};
-ghost use Rattle.prdb_members.specs.Lists.{IsAscending};
+//! The block of an entry, found by the one chain of its id.
+ghost use Rattle.std.specs.Prelude.{◌≡◌, ◌+◌, ◌*◌, ◌<◌, ◌≤◌, ◌^◌, ℕ, List, IfSome, IfOk, IfErr, IsErrOf, length};
+ghost use Rattle.db_blocks.specs.Blocks.{block_place};
+ghost use Rattle.db_blocks.specs.Ends.{HasCause, OnlyLooks};
+ghost use Rattle.db_blocks.specs.declared.blocks.TheConstants.{BLOCK_LEN};
+ghost use Rattle.db_chains.specs.Chains.{HasChain};
+ghost use Rattle.db_chains.specs.Ends.{CostsAtMost, HasSome};
+ghost use Rattle.prdb_finds.specs.Keys.{id_chain};
+ghost use Rattle.prdb_finds.specs.Places.{id_links};
+ghost use Rattle.prdb_finds.specs.declared.places.TheConstants.{HEAD_LEN};
+ghost use Rattle.prdb_members.specs.Found.{IsBlockOf};
 
-use crate::id_lists::IdList;
-use crate::layout::{ENTRY, FREE, ID_AT, MORE, MORE_ENTRY_AT};
-use db_blocks::{Block, Wanted, word_at};
-use std::alloc::AllocError;
+use prdb_finds::find_link;
+use db_blocks::Found;
+use db_image::{Draft, ImageRead, RecordFault};
 use ubik_types::WORD_LEN;
 
-/// What a scan looks for.
-#[derive(Clone, Copy)]
-pub(crate) enum Sought {
-    /// The entry of an id.
-    Entry(i32),
-    /// A free block.
-    Free,
-}
-
-impl Wanted for Sought {
-    ghost use Rattle.prdb_members.specs.Sought.{is_sought};
-
-    ghost test = { is_sought };
-
-    fn is_met(&self, block: &Block) -> bool {
-        match *self {
-            Sought::Entry(id) => kind_of(block) == ENTRY && signed_at(block, ID_AT) == id,
-            Sought::Free => kind_of(block) == FREE,
-        }
-    }
-}
-
-/// What a block is, by its first word.
-fn kind_of(block: &Block) -> u32
-    ensures { result ≡ kind_of block.now }
+/// The block of the entry of an id, and its number, the first being 0. The draft is not empty.
+pub(crate) fn find_block<I: ImageRead>(
+    d: &mut Draft<I>,
+    id: i32,
+) -> Result<Option<Found>, RecordFault>
+    requires { d.old.len < 2 ^ 31 + 2 ^ 20 }
+    ensures found { IfOk result (λ found. IfSome d.old.bytes (λ image. IsBlockOf id image found)) }
+    ensures within { IfOk result (λ found. IfSome found (λ f. block_place HEAD_LEN f.number + BLOCK_LEN ≤ d.old.len)) }
+    ensures fault { IfErr result (HasCause d.old.bytes (HasSome id_links (id_chain id))) }
+    ensures frame { OnlyLooks I.ImageRead d.old d.new (IsErrOf result RecordFault.DiskFault) }
+    ensures cost { IfSome d.old.bytes (λ image. (ws : List ℕ) → HasChain id_links image (id_chain id) ws
+        → CostsAtMost I.ImageRead (WORD_LEN + BLOCK_LEN * length ws) d.old d.new) }
 {
-    word_at(block, 0)
-}
-
-/// The signed number at a place.
-fn signed_at(bytes: &[u8], at: usize) -> i32
-    requires { at + WORD_LEN ≤ length bytes.now }
-    ensures { result ≡ signed_at bytes.now at }
-{
-    word_at(bytes, at).cast_signed()
-}
-
-/// Whether a block is a continuation of an entry.
-pub(crate) fn is_more_of(block: &Block, entry: i32) -> bool
-    ensures { result ≡ is_more_of entry block.now }
-{
-    kind_of(block) == MORE && signed_at(block, MORE_ENTRY_AT) == entry
-}
-
-/// Reads so many ids of a block, from a place on, behind those of a list. False, where they do not ascend.
-pub(crate) fn read_ids(
-    ids: &mut IdList,
-    block: &Block,
-    at: usize,
-    count: usize,
-) -> Result<bool, AllocError>
-    requires { at + WORD_LEN * count ≤ length block.now }
-    ensures read { IfOk result (λ ascend. ascend ≡ true → ids.new ≡ ids.old ++ ids_in block.now at count) }
-    ensures not { IfOk result (λ ascend. ascend ≡ false → ¬ IsAscending (ids.old ++ ids_in block.now at count)) }
-{
-    for i in 0..count {
-        let id = signed_at(block, at + WORD_LEN * i);
-        if !ids.is_below(id) {
-            return Ok(false);
-        }
-        ids.push(id)?;
-    }
-    Ok(true)
+    let Some(link) = find_link(d, id)? else {
+        return Ok(None);
+    };
+    let number = link.word - 1;
+    let block = link.block;
+    Ok(Some(Found { number, block }))
 }

@@ -1,18 +1,17 @@
-//! What is found of pairs and owners.
+//! What is found of pairs.
 ghost use Rattle.std.specs.Prelude.{◌≡◌, ◌<◌, ◌^◌, true, IfOk, IfErr, IfSome, IsErrOf};
 ghost use Rattle.db_blocks.specs.Ends.{OnlyLooks};
-ghost use Rattle.prdb_entries.specs.RecordEnds.{HasCause};
-ghost use Rattle.prdb_entries.specs.Records.{Holds};
-ghost use Rattle.prdb_entries.specs.Registry.{Registry};
-ghost use Rattle.prdb_members.specs.Ends.{HasItsCause};
-ghost use Rattle.prdb_members.specs.Layout.{HoldsPairs};
-ghost use Rattle.prdb_members.specs.Lists.{IsListOf};
-ghost use Rattle.prdb_members.specs.Members.{Members, IsInList, IsOwned, are_paired};
+ghost use Rattle.prdb_layout.specs.Registry.{Registry};
+ghost use Rattle.prdb_lists.specs.Found.{IsFound};
+ghost use Rattle.prdb_lists.specs.Lists.{IsListOf};
+ghost use Rattle.prdb_lists.specs.Members.{IsInList, Members, are_paired};
+ghost use Rattle.prdb_finds.specs.Ends.{HasItsCause};
+ghost use Rattle.prdb_finds.specs.Records.{Holds};
+ghost use Rattle.prdb_members.specs.Costs.{ListCosts};
 
-use crate::id_lists::IdList;
-use crate::listed::find_list;
+use crate::blocks::find_block;
 use db_image::{Draft, ImageRead, RecordFault};
-use entry_scans::{EntryView, Sought, ids_where};
+use prdb_lists::{IdList, Listed, read_list};
 use std::alloc::Global;
 
 /// The id of `system:anyuser`, in which each user is.
@@ -24,17 +23,41 @@ const SIGNED_IN: i32 = -102;
 /// The id of `anonymous`.
 const ANONYMOUS: i32 = 32766;
 
-/// The groups of a user or the members of a group; none of an id that is no entry's.
+/// The pairs of an id; none where the draft is empty or no entry has the id.
+fn find_list<I: ImageRead>(
+    alloc: Global,
+    d: &mut Draft<I>,
+    id: i32,
+) -> Result<Option<Listed>, RecordFault>
+    requires { d.old.len < 2 ^ 31 }
+    ensures found { IfOk result (λ found. IfSome d.old.bytes (λ image. (r : Registry) (m : Members) → Holds image r m → IsFound m id found)) }
+    ensures fault { IfErr result (HasItsCause d.old.bytes) }
+    ensures frame { OnlyLooks I.ImageRead d.old d.new (IsErrOf result RecordFault.DiskFault) }
+    ensures cost { ListCosts I.ImageRead id d.old d.new }
+{
+    if d.len() == 0 {
+        return Ok(None);
+    }
+    let Some(found) = find_block(d, id)? else {
+        return Ok(None);
+    };
+    let listed = read_list(alloc, d, id, &found)?;
+    Ok(Some(listed))
+}
+
+/// The groups of a user or the members of a group; none of an id that is no entry's. It asks for a word, the blocks of the one chain of the
+/// id, and the continuation blocks of the entry at most.
 pub fn elements<I: ImageRead>(
     alloc: Global,
     d: &mut Draft<I>,
     id: i32,
 ) -> Result<IdList, RecordFault>
     requires { d.old.len < 2 ^ 31 }
-    ensures found { IfOk result (λ ids. IfSome d.old.bytes (λ image. (r : Registry) (m : Members) → HoldsPairs image r m
+    ensures found { IfOk result (λ ids. IfSome d.old.bytes (λ image. (r : Registry) (m : Members) → Holds image r m
         → IsListOf (λ other. are_paired m id other ≡ true) ids)) }
     ensures fault { IfErr result (HasItsCause d.old.bytes) }
     ensures frame { OnlyLooks I.ImageRead d.old d.new (IsErrOf result RecordFault.DiskFault) }
+    ensures cost { ListCosts I.ImageRead id d.old d.new }
 {
     let Some(listed) = find_list(alloc, d, id)? else {
         return Ok(IdList::new(alloc));
@@ -42,7 +65,7 @@ pub fn elements<I: ImageRead>(
     Ok(listed.ids)
 }
 
-/// Whether a pair is there.
+/// Whether a pair is there. It asks for what the list of the member does at most.
 pub fn has_pair<I: ImageRead>(
     alloc: Global,
     d: &mut Draft<I>,
@@ -50,10 +73,11 @@ pub fn has_pair<I: ImageRead>(
     group: i32,
 ) -> Result<bool, RecordFault>
     requires { d.old.len < 2 ^ 31 }
-    ensures found { IfOk result (λ there. IfSome d.old.bytes (λ image. (r : Registry) (m : Members) → HoldsPairs image r m
+    ensures found { IfOk result (λ there. IfSome d.old.bytes (λ image. (r : Registry) (m : Members) → Holds image r m
         → there ≡ m.has member group)) }
     ensures fault { IfErr result (HasItsCause d.old.bytes) }
     ensures frame { OnlyLooks I.ImageRead d.old d.new (IsErrOf result RecordFault.DiskFault) }
+    ensures cost { ListCosts I.ImageRead member d.old d.new }
 {
     if member < 0 {
         return Ok(false);
@@ -65,40 +89,15 @@ pub fn has_pair<I: ImageRead>(
     Ok(there)
 }
 
-/// The groups with this owner.
-#[derive(Clone, Copy)]
-struct OwnedBy(i32);
-
-impl Sought for OwnedBy {
-    ghost use Rattle.std.specs.Prelude.{◌&&◌, int_lt, pos};
-    ghost use Rattle.std.specs.Ordering.{int_eq};
-
-    ghost test = { λ s e. int_lt e.id (pos 0) && int_eq e.owner s.0 };
-
-    fn is_met(&self, e: EntryView<'_>) -> bool {
-        e.id < 0 && e.owner == self.0
-    }
-}
-
-/// The groups that an id owns; those without owner where it is 0.
-pub fn owned<I: ImageRead>(alloc: Global, d: &mut Draft<I>, id: i32) -> Result<IdList, RecordFault>
-    requires { d.old.len < 2 ^ 31 }
-    ensures found { IfOk result (λ ids. IfSome d.old.bytes (λ image. (r : Registry) → Holds image r → IsListOf (IsOwned r id) ids)) }
-    ensures fault { IfErr result (HasCause d.old.bytes Holds) }
-    ensures frame { OnlyLooks I.ImageRead d.old d.new (IsErrOf result RecordFault.DiskFault) }
-{
-    let ids = ids_where(alloc, d, &OwnedBy(id))?;
-    Ok(IdList::of_ascending(ids))
-}
-
 /// The list of ids under which an entry acts: for a user its own, its groups, and the groups in which each user is; for
-/// a group its own.
+/// a group its own. It asks for what `elements` does at most, and for nothing of a group.
 pub fn cps<I: ImageRead>(alloc: Global, d: &mut Draft<I>, id: i32) -> Result<IdList, RecordFault>
     requires { d.old.len < 2 ^ 31 }
-    ensures found { IfOk result (λ ids. IfSome d.old.bytes (λ image. (r : Registry) (m : Members) → HoldsPairs image r m
+    ensures found { IfOk result (λ ids. IfSome d.old.bytes (λ image. (r : Registry) (m : Members) → Holds image r m
         → IsListOf (IsInList m id) ids)) }
     ensures fault { IfErr result (HasItsCause d.old.bytes) }
     ensures frame { OnlyLooks I.ImageRead d.old d.new (IsErrOf result RecordFault.DiskFault) }
+    ensures cost { ListCosts I.ImageRead id d.old d.new }
 {
     if id < 0 {
         let none = IdList::new(alloc);

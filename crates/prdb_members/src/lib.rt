@@ -1,25 +1,19 @@
-//! The protection database's pairs: who is in which group, over a draft.
+//! The protection database's pairs over a draft, in lists of entries that are found by the chains of their ids.
 #![tactic(auto)]
 
 mod blocks;
 mod changes;
 mod finds;
-mod id_lists;
 mod laws;
-mod layout;
-mod listed;
 mod moves;
+mod owned;
 mod sides;
-mod writes;
 
 pub use changes::{add_pair, remove_pair};
-pub use finds::{cps, elements, has_pair, owned};
-pub use id_lists::IdList;
+pub use finds::{cps, elements, has_pair};
 pub use laws::{
-    law_empty_holds_no_pairs, law_insert_keeps_pairs, law_join_adds_the_pair, law_move_keeps_pairs,
-    law_part_takes_the_pair, law_remove_keeps_pairs, law_replace_keeps_pairs,
-    law_set_maxima_keeps_pairs,
+    law_join_adds_the_pair, law_move_keeps_the_order, law_move_keeps_the_pairs,
+    law_no_change_shortens, law_part_takes_the_pair,
 };
-pub use listed::{Listed, read_list};
 pub use moves::move_id;
-pub use sides::{Place, blocks_for, write_list};
+pub use owned::owned_in_order;

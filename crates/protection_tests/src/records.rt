@@ -1,10 +1,10 @@
 //! Entries that are not there: no call of the service replaces or removes one.
 ghost use Rattle.std.specs.Prelude.{IfOk};
-ghost use Rattle.prdb_entries.specs.RecordEnds.{seen};
-ghost use Rattle.prdb_entries.specs.Registry.{IsRecord};
+ghost use Rattle.prdb_layout.specs.RecordEnds.{seen};
+ghost use Rattle.prdb_layout.specs.Registry.{IsRecord};
 
 use db_image::{ImageRead, RecordFault, VecImage};
-use prdb_entries::{PrEntry, draft_over, is_user_name, remove, replace};
+use prdb_layout::{PrEntry, draft_over, is_user_name, remove, replace};
 use std::alloc::Global;
 use std::process::Abort;
 use std::test::Fail;

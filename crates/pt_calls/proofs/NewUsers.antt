@@ -4,11 +4,11 @@ use Rattle.std.specs.Prelude.{is_some, IsSomeAnd}
 use Rattle.std.specs.Option.{option_map}
 use Rattle.db_image.specs.declared.faults.RecordFault.{RecordFault}
 use Rattle.db_image.specs.declared.faults.RecordFault.TheVariants as fault
-use Rattle.prdb_entries.specs.RecordEnds.{HasCause, seen}
-use Rattle.prdb_entries.specs.Records.{Holds}
-use Rattle.prdb_entries.specs.Registry.{Registry, IsNamed, MayBeAdded, with_entry}
-use Rattle.prdb_entries.specs.State.{PrEntry}
-use Rattle.prdb_entries.specs.declared.records.PrEntry.{PrEntry as CodeEntry}
+use Rattle.prdb_layout.specs.RecordEnds.{HasCause, seen}
+use Rattle.prdb_layout.specs.Records.{Holds}
+use Rattle.prdb_layout.specs.Registry.{Registry, IsNamed, MayBeAdded, with_entry}
+use Rattle.prdb_layout.specs.State.{PrEntry}
+use Rattle.prdb_layout.specs.declared.records.PrEntry.{PrEntry as CodeEntry}
 use Rattle.pt_calls.specs.Meaning.{id_named}
 use Rattle.pt_calls.specs.NameLaws.{named_is}
 use Rattle.pt_calls.proofs.Steps.{Held}

@@ -6,10 +6,10 @@ use Rattle.std.proofs.Math.Seq.{take-suc}
 use Rattle.std.proofs.lemmas.List.{length-append, map_push, take_all}
 use Rattle.db_image.specs.Draft.{Drafted}
 use Rattle.db_image.specs.declared.images.ImageRead.{Ghosts}
-use Rattle.prdb_entries.specs.RecordEnds.{OnlyLooks}
-use Rattle.prdb_entries.specs.Records.{Holds}
-use Rattle.prdb_entries.specs.Registry.{Registry}
-use Rattle.prdb_entries.proofs.Scanned.{looks_none, looks_then, looks_so}
+use Rattle.prdb_layout.specs.RecordEnds.{OnlyLooks}
+use Rattle.prdb_layout.specs.Records.{Holds}
+use Rattle.prdb_layout.specs.Registry.{Registry}
+use Rattle.prdb_layout.proofs.Scanned.{looks_none, looks_then, looks_so}
 use Rattle.call_grammar.specs.Items.{xdr_text}
 use Rattle.call_grammar.specs.Lists.{listed}
 use Rattle.pt_calls.specs.Meaning.{id_or_anonymous}

@@ -2,9 +2,9 @@
 use Rattle.std.specs.Prelude.{ℕ, ℤ, pos, negsuc, Bool, false, unwrap_or, List, ◌++◌, map, Option, Some, None}
 use Rattle.std.specs.List.{find, range_with_len}
 use Rattle.std.specs.Str.{bytes_eq}
-use Rattle.prdb_entries.specs.Names.{lowered}
-use Rattle.prdb_entries.specs.Registry.{Registry}
-use Rattle.prdb_entries.specs.State.{PrEntry, anonymous}
+use Rattle.prdb_layout.specs.Names.{lowered}
+use Rattle.prdb_layout.specs.Registry.{Registry}
+use Rattle.prdb_layout.specs.State.{PrEntry, anonymous}
 
 -- the ids up to a number: the users', and the groups'
 unfoldable pub ids_to : ℕ → List ℤ

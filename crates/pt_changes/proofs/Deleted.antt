@@ -6,11 +6,11 @@ use Rattle.db_image.specs.Ends.{end_of}
 use Rattle.db_image.specs.declared.draft_services.CallEnd.{CallEnd}
 use Rattle.db_image.specs.declared.faults.RecordFault.{RecordFault}
 use Rattle.db_image.specs.declared.faults.RecordFault.TheVariants.{DiskFault, BadRecord, NoMemory}
-use Rattle.prdb_entries.specs.RecordEnds.{HasCause}
-use Rattle.prdb_entries.specs.Records.{Holds, after_remove}
-use Rattle.prdb_entries.specs.Registry.{Registry, IsRegistry, MayBeRemoved}
-use Rattle.prdb_entries.specs.State.{PrEntry}
-use Rattle.prdb_members.specs.Ends.{HasItsCause}
+use Rattle.prdb_layout.specs.RecordEnds.{HasCause}
+use Rattle.prdb_layout.specs.Records.{Holds, after_remove}
+use Rattle.prdb_layout.specs.Registry.{Registry, IsRegistry, MayBeRemoved}
+use Rattle.prdb_layout.specs.State.{PrEntry}
+use Rattle.prdb_lists.specs.Ends.{HasItsCause}
 use Rattle.pt_calls.specs.declared.answers.PtAnswer.TheVariants as answer
 use Rattle.pt_service.specs.Meaning.{Answers, Leave, Makes as Changes, Refuses, leaves, of_entry, reply_by}
 use Rattle.pt_service.specs.State.{State, elements}

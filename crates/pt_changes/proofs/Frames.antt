@@ -2,8 +2,8 @@
 use Rattle.db_image.specs.Draft.{Drafted}
 use Rattle.db_image.specs.declared.images.ImageRead.{Ghosts}
 use Rattle.db_blocks.specs.Ends.{OnlyDrafts as BlockDrafts}
-use Rattle.prdb_entries.specs.RecordEnds.{OnlyDrafts, OnlyLooks}
-use Rattle.prdb_entries.proofs.Scanned.{drafts_after, drafts_then, looks_then}
+use Rattle.prdb_layout.specs.RecordEnds.{OnlyDrafts, OnlyLooks}
+use Rattle.prdb_layout.proofs.Scanned.{drafts_after, drafts_then, looks_then}
 use Rattle.pt_service.proofs.Frames.{drafted, drafts_so, looked}
 
 pub looked_two : {I : Type 0} (g : Ghosts I) (a b c : Drafted I) (first second failed : Type 0) → OnlyLooks g a b first

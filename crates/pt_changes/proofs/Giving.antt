@@ -7,12 +7,12 @@ use Rattle.db_image.specs.Draft.{Drafted}
 use Rattle.db_image.specs.declared.faults.RecordFault.{RecordFault}
 use Rattle.db_image.specs.declared.faults.RecordFault.TheVariants.{DiskFault, BadRecord, NoMemory}
 use Rattle.db_image.specs.declared.images.ImageRead.{Ghosts}
-use Rattle.prdb_entries.specs.RecordEnds.{HasCause, OnlyDrafts}
-use Rattle.prdb_entries.specs.Records.{Holds, after_replace}
-use Rattle.prdb_entries.specs.Registry.{Registry, IsOwner, MayReplace}
-use Rattle.prdb_entries.specs.State.{PrEntry}
-use Rattle.prdb_entries.proofs.Scanned.{drafts_then, looks_none}
-use Rattle.prdb_members.specs.Ends.{HasItsCause}
+use Rattle.prdb_layout.specs.RecordEnds.{HasCause, OnlyDrafts}
+use Rattle.prdb_layout.specs.Records.{Holds, after_replace}
+use Rattle.prdb_layout.specs.Registry.{Registry, IsOwner, MayReplace}
+use Rattle.prdb_layout.specs.State.{PrEntry}
+use Rattle.prdb_layout.proofs.Scanned.{drafts_then, looks_none}
+use Rattle.prdb_lists.specs.Ends.{HasItsCause}
 use Rattle.pt_service.specs.State.{State}
 use Rattle.pt_service.proofs.Frames.{looked}
 use Rattle.pt_database.specs.States.{HoldsState, OfStates, members_of}

@@ -8,12 +8,12 @@ use Rattle.std.proofs.lemmas.Bool.Decides.{Decides-int_eq}
 use Rattle.std.proofs.lemmas.Int.{ints}
 use Rattle.std.proofs.lemmas.List.Elements.{All-weaker, filter_passes, recursion_from_All}
 use mathlib.Core.Path.{fun_ext}
-use Rattle.prdb_entries.specs.Records.{after_remove}
-use Rattle.prdb_entries.specs.Registry.{Registry, IsRegistry, MayBeRemoved, without_entry}
-use Rattle.prdb_entries.specs.State.{PrEntry, IsId}
-use Rattle.prdb_entries.proofs.Changed.{some_same}
-use Rattle.prdb_members.proofs.Both.{part_holds}
-use Rattle.prdb_members.proofs.RecordsKeep.{remove_keep}
+use Rattle.prdb_layout.specs.Records.{after_remove}
+use Rattle.prdb_layout.specs.Registry.{Registry, IsRegistry, MayBeRemoved, without_entry}
+use Rattle.prdb_layout.specs.State.{PrEntry, IsId}
+use Rattle.prdb_layout.proofs.Changed.{some_same}
+use Rattle.prdb_lists.proofs.Both.{part_holds}
+use Rattle.prdb_lists.proofs.RecordsKeep.{remove_keep}
 use Rattle.pt_service.specs.Meaning.{disowned, without}
 use Rattle.pt_service.specs.State.{State, elements, ids}
 use Rattle.pt_service.specs.Turning.{is_fixed}

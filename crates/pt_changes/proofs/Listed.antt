@@ -6,9 +6,9 @@ use Rattle.std.specs.Ordering.{int_eq}
 use Rattle.std.proofs.lemmas.Bool.Decides.{Decides-int_eq}
 use Rattle.std.proofs.lemmas.Int.{ints}
 use Rattle.std.proofs.lemmas.List.Elements.{All-contains, filter_passes}
-use Rattle.prdb_entries.specs.Registry.{IsFixedId}
-use Rattle.prdb_entries.specs.State.{PrEntry, fixed_entries}
-use Rattle.prdb_entries.proofs.Changed.{by_id}
+use Rattle.prdb_layout.specs.Registry.{IsFixedId}
+use Rattle.prdb_layout.specs.State.{PrEntry, fixed_entries}
+use Rattle.prdb_layout.proofs.Changed.{by_id}
 use Rattle.pt_service.specs.State.{ids, least_id, numbers_from}
 use Rattle.pt_service.specs.Turning.{is_fixed}
 use Rattle.pt_database.proofs.Ordered.{InRange, Rises}

@@ -4,9 +4,9 @@ use Rattle.std.specs.Ordering.{int_eq}
 use Rattle.db_image.specs.declared.faults.RecordFault.{RecordFault}
 use Rattle.entry_scans.specs.Found.{IsMetAt}
 use Rattle.entry_scans.specs.Lists.{IsListOf}
-use Rattle.prdb_entries.specs.Records.{Holds}
-use Rattle.prdb_entries.specs.Registry.{Registry, IsRegistry}
-use Rattle.prdb_entries.specs.State.{PrEntry}
+use Rattle.prdb_layout.specs.Records.{Holds}
+use Rattle.prdb_layout.specs.Registry.{Registry, IsRegistry}
+use Rattle.prdb_layout.specs.State.{PrEntry}
 use Rattle.pt_database.specs.States.{OfStates}
 use Rattle.pt_database.proofs.Ordered.{list_is}
 use Rattle.pt_database.proofs.Pairs.{entry_range, is_there}

@@ -6,12 +6,12 @@ use Rattle.std.specs.List.{AllByRecursion, list_any}
 use Rattle.std.specs.Ordering.{int_eq}
 use Rattle.std.proofs.lemmas.Bool.Decides.{Decides-int_eq}
 use mathlib.Core.Path.{fun_ext}
-use Rattle.prdb_entries.specs.Records.{after_replace}
-use Rattle.prdb_entries.specs.Registry.{Registry, IsOwner, IsRecord, IsRegistry, MayReplace, with_entry}
-use Rattle.prdb_entries.specs.State.{PrEntry, IsId, fixed_entries}
-use Rattle.prdb_entries.proofs.Changed.{by_id, some_same, under_other, under_same}
-use Rattle.prdb_entries.proofs.Lengths.{fits_id}
-use Rattle.prdb_members.proofs.RecordsKeep.{replace_keep}
+use Rattle.prdb_layout.specs.Records.{after_replace}
+use Rattle.prdb_layout.specs.Registry.{Registry, IsOwner, IsRecord, IsRegistry, MayReplace, with_entry}
+use Rattle.prdb_layout.specs.State.{PrEntry, IsId, fixed_entries}
+use Rattle.prdb_layout.proofs.Changed.{by_id, some_same, under_other, under_same}
+use Rattle.prdb_layout.proofs.Lengths.{fits_id}
+use Rattle.prdb_lists.proofs.RecordsKeep.{replace_keep}
 use Rattle.pt_service.specs.State.{State}
 use Rattle.pt_service.proofs.Refitted.{some_with}
 use Rattle.pt_database.specs.States.{HoldsState, members_of}

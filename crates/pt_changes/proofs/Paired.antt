@@ -7,12 +7,12 @@ use Rattle.db_image.specs.Ends.{end_of}
 use Rattle.db_image.specs.declared.draft_services.CallEnd.{CallEnd}
 use Rattle.db_image.specs.declared.faults.RecordFault.{RecordFault}
 use Rattle.db_image.specs.declared.faults.RecordFault.TheVariants.{DiskFault, BadRecord, NoMemory}
-use Rattle.prdb_entries.specs.Registry.{Registry, IsRegistry}
-use Rattle.prdb_entries.specs.State.{IsId, PrEntry}
-use Rattle.prdb_members.specs.Changes.{after_join, after_part}
-use Rattle.prdb_members.specs.Ends.{HasItsCause, HasPairCause}
-use Rattle.prdb_members.specs.Layout.{HoldsPairs}
-use Rattle.prdb_members.specs.Members.{MayJoin, MayLeave, Members}
+use Rattle.prdb_layout.specs.Registry.{Registry, IsRegistry}
+use Rattle.prdb_layout.specs.State.{IsId, PrEntry}
+use Rattle.prdb_lists.specs.Changes.{after_join, after_part}
+use Rattle.prdb_lists.specs.Ends.{HasItsCause, HasPairCause}
+use Rattle.prdb_lists.specs.Layout.{HoldsPairs}
+use Rattle.prdb_lists.specs.Members.{MayJoin, MayLeave, Members}
 use Rattle.pt_calls.specs.declared.answers.PtAnswer.TheVariants as answer
 use Rattle.pt_service.specs.Meaning.{Answers, Join, Makes, NoCall, Part, Refuses, Verdict, joins, of_pair, parts, reply_by}
 use Rattle.pt_service.specs.State.{State, is_group}

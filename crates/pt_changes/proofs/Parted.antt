@@ -7,11 +7,11 @@ use Rattle.std.proofs.lemmas.Bool.{false_from_ne_true}
 use Rattle.std.proofs.lemmas.Bool.Decides.{Decides-int_eq}
 use Rattle.std.proofs.lemmas.Int.{ints}
 use mathlib.Core.Path.{fun_ext}
-use Rattle.prdb_entries.specs.Registry.{Registry}
-use Rattle.prdb_entries.proofs.Changed.{by_id}
-use Rattle.prdb_members.specs.Members.{are_paired}
-use Rattle.prdb_members.proofs.Both.{has_without, without_still}
-use Rattle.prdb_members.proofs.RecordsKeep.{int_other}
+use Rattle.prdb_layout.specs.Registry.{Registry}
+use Rattle.prdb_layout.proofs.Changed.{by_id}
+use Rattle.prdb_lists.specs.Members.{are_paired}
+use Rattle.prdb_lists.proofs.Both.{has_without, without_still}
+use Rattle.prdb_lists.proofs.RecordsKeep.{int_other}
 use Rattle.pt_service.specs.State.{State, elements, is_paired, ids, least_id}
 use Rattle.pt_database.specs.States.{HoldsState, members_of}
 use Rattle.pt_database.proofs.Ordered.{InRange, Rises}

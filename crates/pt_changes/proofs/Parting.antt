@@ -8,13 +8,13 @@ use Rattle.db_image.specs.declared.faults.RecordFault.{RecordFault}
 use Rattle.db_image.specs.declared.faults.RecordFault.TheVariants.{DiskFault, BadRecord, NoMemory}
 use Rattle.db_image.specs.declared.images.ImageRead.{Ghosts}
 use Rattle.db_blocks.specs.Ends.{OnlyLooks as BlockLooks}
-use Rattle.prdb_entries.specs.RecordEnds.{OnlyDrafts}
-use Rattle.prdb_entries.specs.Registry.{Registry}
-use Rattle.prdb_entries.proofs.Scanned.{drafts_then}
-use Rattle.prdb_members.specs.Changes.{after_part}
-use Rattle.prdb_members.specs.Ends.{HasItsCause, HasPairCause}
-use Rattle.prdb_members.specs.Layout.{HoldsPairs}
-use Rattle.prdb_members.specs.Members.{MayLeave, Members, without_pair}
+use Rattle.prdb_layout.specs.RecordEnds.{OnlyDrafts}
+use Rattle.prdb_layout.specs.Registry.{Registry}
+use Rattle.prdb_layout.proofs.Scanned.{drafts_then}
+use Rattle.prdb_lists.specs.Changes.{after_part}
+use Rattle.prdb_lists.specs.Ends.{HasItsCause, HasPairCause}
+use Rattle.prdb_lists.specs.Layout.{HoldsPairs}
+use Rattle.prdb_lists.specs.Members.{MayLeave, Members, without_pair}
 use Rattle.pt_service.specs.State.{State, elements, is_group}
 use Rattle.pt_service.proofs.Frames.{looked}
 use Rattle.pt_database.specs.States.{HoldsState, OfStates, members_of}

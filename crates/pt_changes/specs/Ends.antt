@@ -2,7 +2,7 @@
 use Rattle.std.specs.Prelude.{ℕ, ◌≡◌, List, Option, Some, IfSome, IsSomeAnd}
 use Rattle.db_image.specs.declared.faults.RecordFault.{RecordFault}
 use Rattle.db_blocks.specs.Ends.{HasCause}
-use Rattle.prdb_entries.specs.Registry.{Registry}
+use Rattle.prdb_layout.specs.Registry.{Registry}
 use Rattle.pt_service.specs.State.{State}
 use Rattle.pt_database.specs.States.{HoldsState}
 

@@ -2,10 +2,10 @@
 use Rattle.std.specs.Prelude.{ℕ, ℤ, pos, ◌≡◌, ◌&&◌, Bool, true, false, not, List, [], ◌∷◌, filter, Option, Some, None, IsSome, option_map, if◌then◌else◌}
 use Rattle.std.specs.List.{AllByRecursion, list_any}
 use Rattle.std.specs.Ordering.{int_eq}
-use Rattle.prdb_entries.specs.Records.{after_remove, after_replace}
-use Rattle.prdb_entries.specs.Registry.{Registry, IsOwner}
-use Rattle.prdb_entries.specs.State.{PrEntry}
-use Rattle.prdb_members.specs.Changes.{after_part}
+use Rattle.prdb_layout.specs.Records.{after_remove, after_replace}
+use Rattle.prdb_layout.specs.Registry.{Registry, IsOwner}
+use Rattle.prdb_layout.specs.State.{PrEntry}
+use Rattle.prdb_lists.specs.Changes.{after_part}
 use Rattle.pt_service.specs.Meaning.{with_pair}
 use Rattle.pt_service.specs.State.{State, elements, ids, is_group, is_paired}
 

@@ -1,10 +1,10 @@
 -- What becomes of an image when an entry gets another name, owner or id.
 use Rattle.std.specs.Prelude.{ℕ, ℤ, pos, ◌≡◌, ◌⊎◌, false, IsTrue, List, [], ◌∷◌, map, Option, Some, None, IsSome, IsSomeAnd, option_map, if◌then◌else◌}
 use Rattle.std.specs.Ordering.{int_eq}
-use Rattle.prdb_entries.specs.Records.{after_replace}
-use Rattle.prdb_entries.specs.Registry.{Registry, MayReplace, IsOwner, is_name_for, with_entry}
-use Rattle.prdb_entries.specs.State.{PrEntry, IsId, front_of}
-use Rattle.prdb_members.specs.Moves.{after_move, moved_registry}
+use Rattle.prdb_layout.specs.Records.{after_replace}
+use Rattle.prdb_layout.specs.Registry.{Registry, MayReplace, IsOwner, is_name_for, with_entry}
+use Rattle.prdb_layout.specs.State.{PrEntry, IsId, front_of}
+use Rattle.prdb_lists.specs.Moves.{after_move, moved_registry}
 use Rattle.pt_service.specs.Names.{with_front}
 use Rattle.pt_service.specs.State.{State, elements, is_group}
 use Rattle.pt_service.specs.Turning.{has_equal_names, has_long_name, is_fixed, moved, turned}

@@ -1,8 +1,8 @@
 -- The entries whose names begin with that of another one.
 use Rattle.std.specs.Prelude.{ℕ, ℤ, ◌&&◌, Bool, false, List, filter, Option, Some, None}
 use Rattle.std.specs.Str.{bytes_eq}
-use Rattle.prdb_entries.specs.Registry.{Registry}
-use Rattle.prdb_entries.specs.State.{PrEntry, front_of}
+use Rattle.prdb_layout.specs.Registry.{Registry}
+use Rattle.prdb_layout.specs.State.{PrEntry, front_of}
 use Rattle.pt_service.specs.Names.{has_colon}
 use Rattle.pt_service.specs.State.{ids}
 

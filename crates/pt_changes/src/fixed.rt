@@ -29,7 +29,7 @@ pub(crate) fn has_users_without_pairs(group: i32) -> bool
 }
 
 /// Whether an id is that of a fixed entry.
-#[tactic(auto, unfolding(prdb_entries::specs::State::fixed_entries))]
+#[tactic(auto, unfolding(prdb_layout::specs::State::fixed_entries))]
 pub fn is_fixed(id: i32) -> bool
     ensures { result ≡ is_fixed id }
 {

@@ -1,9 +1,9 @@
 //! Entries that get another owner, one after the other, over a draft.
 ghost use Rattle.std.specs.Prelude.{◌≡◌, ◌≤◌, ◌∷◌, [], Some, IfOk, OnOk, IfErr, IsErrOf, max};
-ghost use Rattle.prdb_entries.specs.RecordEnds.{Becomes, HasCause, OnlyDrafts, OnlyLooks, seen};
-ghost use Rattle.prdb_entries.specs.Records.{Holds, after_replace};
-ghost use Rattle.prdb_entries.specs.Registry.{MayReplace};
-ghost use Rattle.prdb_members.specs.Ends.{HasItsCause};
+ghost use Rattle.prdb_layout.specs.RecordEnds.{Becomes, HasCause, OnlyDrafts, OnlyLooks, seen};
+ghost use Rattle.prdb_layout.specs.Records.{Holds, after_replace};
+ghost use Rattle.prdb_layout.specs.Registry.{MayReplace};
+ghost use Rattle.prdb_lists.specs.Ends.{HasItsCause};
 ghost use Rattle.pt_service.specs.Told.{IsGood};
 ghost use Rattle.pt_database.specs.States.{OfStates};
 ghost use Rattle.pt_changes.specs.Ends.{HasChangeCause, Leaves};
@@ -11,7 +11,7 @@ ghost use Rattle.pt_changes.specs.Leaving.{MayGive, after_given, after_gives, pr
 
 use db_image::{Draft, ImageRead, RecordFault};
 use entry_scans::{EntryView, Sought, ids_where};
-use prdb_entries::{PrEntry, replace};
+use prdb_layout::{PrEntry, replace};
 use pt_database::entry_of;
 use std::alloc::Global;
 

@@ -2,13 +2,13 @@
 use Rattle.std.proofs.Common.{◌≡◌, ℕ, ℤ, pos, negsuc, zero, suc, ◌<◌, ◌≤◌, ◌+ℤ◌, Bool, true, false, cond, List, [], ◌∷◌, length, get_or, Option, Some, None, IsSome, IsSomeAnd, IfSome, refl, sym, ap, subst, ◌∙◌, inl, inr, arith}
 use Rattle.std.specs.Prelude.{codes, filter, is_none}
 use Rattle.db_image.specs.declared.faults.RecordFault.TheVariants.{BadRecord}
-use Rattle.prdb_entries.specs.Registry.{Registry, IsRegistry}
-use Rattle.prdb_entries.specs.Records.{Holds}
-use Rattle.prdb_entries.specs.State.{PrEntry, fixed, fixed_entries, group_flags}
-use Rattle.prdb_members.specs.Ends.{HasItsCause}
-use Rattle.prdb_members.specs.Layout.{HoldsPairs}
-use Rattle.prdb_members.specs.Lists.{IsListOf}
-use Rattle.prdb_members.specs.Members.{Members, ArePairs, IsInList, IsOwned, are_paired}
+use Rattle.prdb_layout.specs.Registry.{Registry, IsRegistry}
+use Rattle.prdb_layout.specs.Records.{Holds}
+use Rattle.prdb_layout.specs.State.{PrEntry, fixed, fixed_entries, group_flags}
+use Rattle.prdb_lists.specs.Ends.{HasItsCause}
+use Rattle.prdb_lists.specs.Layout.{HoldsPairs}
+use Rattle.prdb_lists.specs.Lists.{IsListOf}
+use Rattle.prdb_lists.specs.Members.{Members, ArePairs, IsInList, IsOwned, are_paired}
 use Rattle.pt_service.specs.Meaning.{counts_for, owned_by, told, told_of}
 use Rattle.pt_service.specs.State.{State, elements, ids, is_paired, least_id, numbers_from, pair_count}
 use Rattle.pt_calls.specs.declared.answers.PtEntry.{PtEntry}

@@ -11,16 +11,16 @@ use Rattle.std.proofs.lemmas.Map.Steps.{length-le_from_distinct_below}
 use Rattle.db_blocks.proofs.Maps.{test_other}
 use Rattle.db_image.specs.declared.faults.RecordFault.{RecordFault}
 use Rattle.db_image.specs.declared.faults.RecordFault.TheVariants.{DiskFault, BadRecord, NoMemory}
-use Rattle.prdb_entries.specs.Blocks.{block_count}
-use Rattle.prdb_entries.specs.Records.{IsLaidOut, block_in, entry_in, first_block, has_id, kind_of, whole}
-use Rattle.prdb_entries.specs.Registry.{Registry, IsRegistry}
-use Rattle.prdb_entries.specs.State.{PrEntry}
-use Rattle.prdb_entries.proofs.FirstBlocks.{first_met, first_not, first_within}
-use Rattle.prdb_entries.proofs.Initial.{length-initial}
-use Rattle.prdb_entries.proofs.LaidOut.{whole_empty, whole_same}
-use Rattle.prdb_entries.proofs.Lookups.{id_parts}
-use Rattle.prdb_members.specs.Ends.{HasItsCause}
-use Rattle.prdb_members.specs.Lists.{IsAscending}
+use Rattle.prdb_layout.specs.Blocks.{block_count}
+use Rattle.prdb_layout.specs.Records.{IsLaidOut, block_in, entry_in, first_block, has_id, kind_of, whole}
+use Rattle.prdb_layout.specs.Registry.{Registry, IsRegistry}
+use Rattle.prdb_layout.specs.State.{PrEntry}
+use Rattle.prdb_layout.proofs.FirstBlocks.{first_met, first_not, first_within}
+use Rattle.prdb_layout.proofs.Initial.{length-initial}
+use Rattle.prdb_layout.proofs.LaidOut.{whole_empty, whole_same}
+use Rattle.prdb_layout.proofs.Lookups.{id_parts}
+use Rattle.prdb_lists.specs.Ends.{HasItsCause}
+use Rattle.prdb_lists.specs.Lists.{IsAscending}
 use Rattle.pt_service.specs.State.{State}
 use Rattle.pt_database.specs.Ends.{IsTooMany}
 use Rattle.pt_database.specs.States.{HoldsState, OfStates}

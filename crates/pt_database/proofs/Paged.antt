@@ -7,15 +7,15 @@ use Rattle.std.proofs.lemmas.Int.{ints}
 use Rattle.std.proofs.lemmas.List.Elements.{filter-append}
 use Rattle.db_image.specs.declared.faults.RecordFault.{RecordFault}
 use Rattle.db_image.specs.declared.faults.RecordFault.TheVariants.{DiskFault, BadRecord, NoMemory}
-use Rattle.prdb_entries.specs.Blocks.{block_count}
-use Rattle.prdb_entries.specs.Records.{Holds, block_in, entry_in, kind_of, whole}
-use Rattle.prdb_entries.specs.Registry.{Registry, IsRegistry}
-use Rattle.prdb_entries.specs.State.{PrEntry}
+use Rattle.prdb_layout.specs.Blocks.{block_count}
+use Rattle.prdb_layout.specs.Records.{Holds, block_in, entry_in, kind_of, whole}
+use Rattle.prdb_layout.specs.Registry.{Registry, IsRegistry}
+use Rattle.prdb_layout.specs.State.{PrEntry}
 use Rattle.entry_scans.specs.Pages.{AreFirst, IsOfEntry, pair_count_in}
-use Rattle.prdb_members.specs.Ends.{HasItsCause}
-use Rattle.prdb_members.specs.Lists.{IsListOf}
-use Rattle.prdb_members.specs.Members.{are_paired}
-use Rattle.prdb_members.proofs.BlockIds.{count_of}
+use Rattle.prdb_lists.specs.Ends.{HasItsCause}
+use Rattle.prdb_lists.specs.Lists.{IsListOf}
+use Rattle.prdb_lists.specs.Members.{are_paired}
+use Rattle.prdb_lists.proofs.BlockIds.{count_of}
 use Rattle.pt_calls.specs.declared.answers.PtEntry.{PtEntry}
 use Rattle.pt_service.specs.Meaning.{is_listed, told, told_of}
 use Rattle.pt_service.specs.State.{State, entries_from, least_id, numbers_from, pair_count}

@@ -7,10 +7,10 @@ use Rattle.std.proofs.lemmas.Bool.{and_from, and_parts, false_from_ne_true}
 use Rattle.std.proofs.lemmas.Bool.Decides.{Decides-int_eq}
 use Rattle.std.proofs.lemmas.Int.{ints}
 use Rattle.std.proofs.lemmas.List.Elements.{filter-append}
-use Rattle.prdb_entries.specs.Registry.{Registry, IsRegistry}
-use Rattle.prdb_entries.specs.State.{PrEntry, IsId, anonymous}
-use Rattle.prdb_members.specs.Lists.{IsListOf}
-use Rattle.prdb_members.specs.Members.{ArePairs, IsInList, IsOwned, are_paired, not_signed_in, signed_in}
+use Rattle.prdb_layout.specs.Registry.{Registry, IsRegistry}
+use Rattle.prdb_layout.specs.State.{PrEntry, IsId, anonymous}
+use Rattle.prdb_lists.specs.Lists.{IsListOf}
+use Rattle.prdb_lists.specs.Members.{ArePairs, IsInList, IsOwned, are_paired, not_signed_in, signed_in}
 use Rattle.pt_service.specs.Meaning.{counts_for, is_owned_by, owned_by}
 use Rattle.pt_service.specs.State.{State, elements, entries_from, ids, is_group, is_paired, least_id, numbers_from}
 use Rattle.pt_database.specs.States.{HoldsState, members_of}

@@ -1,7 +1,7 @@
 -- A page of the entries that a call lists.
 use Rattle.std.specs.Prelude.{ℕ, ℤ, ◌≤◌, Bool, List, filter, length, map, take}
-use Rattle.prdb_entries.specs.Records.{entry_in}
-use Rattle.prdb_entries.specs.State.{PrEntry}
+use Rattle.prdb_layout.specs.Records.{entry_in}
+use Rattle.prdb_layout.specs.State.{PrEntry}
 use Rattle.entry_scans.specs.Pages.{pair_count_in}
 use Rattle.pt_calls.specs.declared.answers.PtEntry.{PtEntry}
 use Rattle.pt_service.specs.Fitting.{entry_fits}

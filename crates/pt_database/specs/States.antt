@@ -2,8 +2,8 @@
 use Rattle.std.specs.Prelude.{ℕ, ◌≡◌, List, Option, IfSome}
 use Rattle.db_image.specs.Ends.{end_of}
 use Rattle.db_image.specs.declared.draft_services.CallEnd.{CallEnd}
-use Rattle.prdb_members.specs.Layout.{HoldsPairs}
-use Rattle.prdb_members.specs.Members.{Members}
+use Rattle.prdb_lists.specs.Layout.{HoldsPairs}
+use Rattle.prdb_lists.specs.Members.{Members}
 use Rattle.pt_service.specs.Meaning.{Verdict, reply_by}
 use Rattle.pt_service.specs.State.{State}
 

@@ -2,9 +2,9 @@
 ghost use Rattle.std.specs.Prelude.{◌≡◌, ◌≤◌, true, IfOk, IfErr, IsErrOf, length, map};
 ghost use Rattle.std.specs.List.{AllByRecursion};
 ghost use Rattle.db_image.specs.Ends.{IsDecided};
-ghost use Rattle.prdb_entries.specs.RecordEnds.{OnlyLooks};
+ghost use Rattle.prdb_layout.specs.RecordEnds.{OnlyLooks};
 ghost use Rattle.entry_scans.specs.Views.{viewed};
-ghost use Rattle.prdb_members.specs.Ends.{HasItsCause};
+ghost use Rattle.prdb_lists.specs.Ends.{HasItsCause};
 ghost use Rattle.pt_calls.specs.declared.limits.TheConstants.{MAX_PAGE};
 ghost use Rattle.pt_service.specs.Fitting.{entry_fits};
 ghost use Rattle.pt_service.specs.Meaning.{are_kinds, is_of_kinds, page};

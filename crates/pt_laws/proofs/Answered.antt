@@ -2,9 +2,9 @@
 use Rattle.std.proofs.Common.{ℤ, pos, negsuc, not, ◌&&◌, ◌||◌, Option, Some}
 use Rattle.std.specs.Prelude.{is_none}
 use Rattle.std.specs.Ordering.{int_eq}
-use Rattle.prdb_entries.specs.Names.{lowered}
-use Rattle.prdb_entries.specs.Registry.{Registry}
-use Rattle.prdb_entries.specs.State.{PrEntry}
+use Rattle.prdb_layout.specs.Names.{lowered}
+use Rattle.prdb_layout.specs.Registry.{Registry}
+use Rattle.prdb_layout.specs.State.{PrEntry}
 use Rattle.pt_calls.specs.declared.calls.PtCall.{PtCall}
 use Rattle.pt_calls.specs.declared.calls.PtCall.TheVariants as call
 use Rattle.pt_service.specs.Meaning.{NoCall, Verdict, are_bad_fields, are_kinds, is_maximum, joins, of_entry, of_pair, parts, verdict}

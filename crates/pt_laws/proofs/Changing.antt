@@ -2,8 +2,8 @@
 use Rattle.std.proofs.Common.{◌≡◌, ℕ, ℤ, pos, Bool, true, false, not, ◌&&◌, ◌||◌, cond, eqb, List, Option, Some, None, Result, Ok, Err, refl}
 use Rattle.std.specs.Prelude.{is_none, is_some}
 use Rattle.std.specs.Ordering.{int_eq}
-use Rattle.prdb_entries.specs.Registry.{Registry}
-use Rattle.prdb_entries.specs.State.{PrEntry}
+use Rattle.prdb_layout.specs.Registry.{Registry}
+use Rattle.prdb_layout.specs.State.{PrEntry}
 use Rattle.pt_calls.specs.Calls.{call_kind}
 use Rattle.pt_calls.specs.declared.answers.PtAnswer.{PtAnswer}
 use Rattle.pt_calls.specs.declared.answers.PtAnswer.TheVariants as answer

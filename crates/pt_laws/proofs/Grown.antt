@@ -6,13 +6,13 @@ use Rattle.std.specs.Str.{bytes_eq}
 use Rattle.std.proofs.lemmas.List.{length-append, length-drop, length-replicate, length-take}
 use Rattle.ubik_types.specs.Image.{changed, extended}
 use Rattle.ubik_types.specs.declared.images.Change.TheVariants.{Put}
-use Rattle.prdb_entries.specs.Blocks.{block_count}
-use Rattle.prdb_entries.specs.Bytes.{bits, word, zeros}
-use Rattle.prdb_entries.specs.Records.{after_insert, after_remove, after_replace, after_set_maxima, block_in, block_place, first_block, has_id, maxima_in, new_block, next_block, whole, with_block, with_count, with_fields, with_new_block}
-use Rattle.prdb_entries.specs.State.{PrEntry}
-use Rattle.prdb_members.specs.Changes.{after_join, after_part, blocks_for, free_for, gained, list_in, lost, more_for, place_in, relisted, with_free, with_freed, with_id, with_list, with_more, without_id}
-use Rattle.prdb_members.specs.Layout.{PairList, link_to, more_block}
-use Rattle.prdb_members.specs.Lists.{ids_with, ids_without}
+use Rattle.prdb_layout.specs.Blocks.{block_count}
+use Rattle.prdb_layout.specs.Bytes.{bits, word, zeros}
+use Rattle.prdb_layout.specs.Records.{after_insert, after_remove, after_replace, after_set_maxima, block_in, block_place, first_block, has_id, maxima_in, new_block, next_block, whole, with_block, with_count, with_fields, with_new_block}
+use Rattle.prdb_layout.specs.State.{PrEntry}
+use Rattle.prdb_lists.specs.Changes.{after_join, after_part, blocks_for, free_for, gained, list_in, lost, more_for, place_in, relisted, with_free, with_freed, with_id, with_list, with_more, without_id}
+use Rattle.prdb_lists.specs.Layout.{PairList, link_to, more_block}
+use Rattle.prdb_lists.specs.Lists.{ids_with, ids_without}
 
 -- ---- bytes that are put
 

@@ -1,11 +1,11 @@
 -- No entry that leaves or turns leaves a shorter image, and so no verdict does.
 use Rattle.std.proofs.Common.{ℕ, ℤ, pos, ◌≤◌, List, [], ◌∷◌, length, map, Option, Some, None}
 use Rattle.std.specs.Ordering.{int_eq}
-use Rattle.prdb_entries.specs.Records.{after_insert, after_remove, after_replace, after_set_maxima, block_in, whole}
-use Rattle.prdb_entries.specs.Registry.{Registry}
-use Rattle.prdb_entries.specs.State.{PrEntry, front_of}
-use Rattle.prdb_members.specs.Changes.{after_part, list_in, place_in}
-use Rattle.prdb_members.specs.Moves.{after_move, after_put_id, after_relist, after_relists, ids_moved, moved_registry, with_id_word}
+use Rattle.prdb_layout.specs.Records.{after_insert, after_remove, after_replace, after_set_maxima, block_in, whole}
+use Rattle.prdb_layout.specs.Registry.{Registry}
+use Rattle.prdb_layout.specs.State.{PrEntry, front_of}
+use Rattle.prdb_lists.specs.Changes.{after_part, list_in, place_in}
+use Rattle.prdb_lists.specs.Moves.{after_move, after_put_id, after_relist, after_relists, ids_moved, moved_registry, with_id_word}
 use Rattle.pt_service.specs.Meaning.{Answers, Change, Enter, Join, Leave, Makes, Maxima, NoCall, Part, Refit, Refuses, Turn, Verdict}
 use Rattle.pt_service.specs.State.{State, elements, is_group}
 use Rattle.pt_service.specs.Turning.{moved}

@@ -1,9 +1,9 @@
 -- A change that may be made leaves an image that holds the state after it.
 use Rattle.std.proofs.Common.{ℕ, List}
-use Rattle.prdb_entries.specs.Records.{after_insert}
-use Rattle.prdb_entries.specs.Registry.{with_entry}
-use Rattle.prdb_members.proofs.Both.{join_holds, part_holds}
-use Rattle.prdb_members.proofs.RecordsKeep.{insert_keep, maxima_keep, replace_keep}
+use Rattle.prdb_layout.specs.Records.{after_insert}
+use Rattle.prdb_layout.specs.Registry.{with_entry}
+use Rattle.prdb_lists.proofs.Both.{join_holds, part_holds}
+use Rattle.prdb_lists.proofs.RecordsKeep.{insert_keep, maxima_keep, replace_keep}
 use Rattle.pt_service.specs.Meaning.{Answers, Change, Enter, Join, Leave, Makes, Maxima, NoCall, Part, Refit, Refuses, Turn, Verdict, asked, state_after, state_by, verdict}
 use Rattle.pt_service.specs.State.{State}
 use Rattle.pt_service.specs.Turning.{with_turned}

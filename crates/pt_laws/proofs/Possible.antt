@@ -1,8 +1,8 @@
 -- What a change needs of the state in which it is made.
 use Rattle.std.proofs.Common.{◌≡◌, ℕ, ℤ, Bool, true, false, cond, List, Option, Some, None, IsSome, refl}
-use Rattle.prdb_entries.specs.Registry.{AreMaxima, IsRecord, MayBeAdded, MayReplace}
-use Rattle.prdb_entries.specs.State.{PrEntry}
-use Rattle.prdb_members.specs.Members.{MayJoin, MayLeave}
+use Rattle.prdb_layout.specs.Registry.{AreMaxima, IsRecord, MayBeAdded, MayReplace}
+use Rattle.prdb_layout.specs.State.{PrEntry}
+use Rattle.prdb_lists.specs.Members.{MayJoin, MayLeave}
 use Rattle.pt_service.specs.Meaning.{Answers, Change, Enter, Join, Leave, Makes, Maxima, NoCall, Part, Refit, Refuses, Turn, Verdict, of_entry}
 use Rattle.pt_service.specs.State.{State}
 use Rattle.pt_service.specs.Turning.{is_fixed}

@@ -8,15 +8,15 @@ use Rattle.std.proofs.lemmas.List.{drop-drop, take-append-drop}
 use Rattle.std.proofs.lemmas.Slice.Eq.{bytes_eq-Decides}
 use Rattle.ubik_types.specs.Image.{changed}
 use Rattle.ubik_types.specs.declared.images.Change.TheVariants.{Put}
-use Rattle.prdb_entries.specs.Blocks.{block_name}
-use Rattle.prdb_entries.specs.Bytes.{bits, filled, word, words, zeros}
-use Rattle.prdb_entries.specs.Records.{IsBlock, IsEntryBlock, after_replace, after_set_maxima, block_in, entry_in, field_numbers, first_block, has_id, kind_of, maxima_in, whole, with_block, with_fields}
-use Rattle.prdb_entries.specs.State.{PrEntry}
-use Rattle.prdb_entries.proofs.Held.{maxima_of}
-use Rattle.prdb_entries.proofs.LaidOut.{zero_kind}
-use Rattle.prdb_members.proofs.Both.{lists_of}
-use Rattle.prdb_members.proofs.Gains.{place_is}
-use Rattle.prdb_members.proofs.Relist.{StandsAt}
+use Rattle.prdb_layout.specs.Blocks.{block_name}
+use Rattle.prdb_layout.specs.Bytes.{bits, filled, word, words, zeros}
+use Rattle.prdb_layout.specs.Records.{IsBlock, IsEntryBlock, after_replace, after_set_maxima, block_in, entry_in, field_numbers, first_block, has_id, kind_of, maxima_in, whole, with_block, with_fields}
+use Rattle.prdb_layout.specs.State.{PrEntry}
+use Rattle.prdb_layout.proofs.Held.{maxima_of}
+use Rattle.prdb_layout.proofs.LaidOut.{zero_kind}
+use Rattle.prdb_lists.proofs.Both.{lists_of}
+use Rattle.prdb_lists.proofs.Gains.{place_is}
+use Rattle.prdb_lists.proofs.Relist.{StandsAt}
 use Rattle.pt_service.specs.State.{State}
 use Rattle.pt_database.specs.States.{HoldsState, members_of}
 

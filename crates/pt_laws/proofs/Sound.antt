@@ -5,8 +5,8 @@ use Rattle.std.specs.List.{list_all}
 use Rattle.std.specs.Ordering.{int_eq}
 use Rattle.call_grammar.specs.Laws.{IsBytes}
 use Rattle.call_grammar.proofs.Fitting.{bytes_low}
-use Rattle.prdb_entries.specs.Names.{lowered}
-use Rattle.prdb_entries.specs.Registry.{IsRegistry}
+use Rattle.prdb_layout.specs.Names.{lowered}
+use Rattle.prdb_layout.specs.Registry.{IsRegistry}
 use Rattle.pt_calls.specs.declared.answers.PtAnswer.TheVariants as answer
 use Rattle.pt_calls.specs.declared.calls.PtCall.{PtCall}
 use Rattle.pt_calls.specs.declared.calls.PtCall.TheVariants as call

@@ -4,10 +4,10 @@ use Rattle.std.specs.Prelude.{FitsSigned, is_none, is_some, unsigned_abs}
 use Rattle.std.specs.Int.{w32}
 use Rattle.std.specs.List.{find, range_with_len}
 use Rattle.std.proofs.lemmas.Int.{ints}
-use Rattle.prdb_entries.specs.Registry.{Registry, IsOwner, IsRegistry, MayBeAdded, with_entry}
-use Rattle.prdb_entries.specs.State.{PrEntry, IsId}
-use Rattle.prdb_entries.proofs.Changed.{by_id, under_other}
-use Rattle.prdb_entries.proofs.Lengths.{fits_id}
+use Rattle.prdb_layout.specs.Registry.{Registry, IsOwner, IsRegistry, MayBeAdded, with_entry}
+use Rattle.prdb_layout.specs.State.{PrEntry, IsId}
+use Rattle.prdb_layout.proofs.Changed.{by_id, under_other}
+use Rattle.prdb_layout.proofs.Lengths.{fits_id}
 use Rattle.pt_calls.specs.declared.answers.PtAnswer.TheVariants as answer
 use Rattle.pt_calls.specs.Meaning.{id_named}
 use Rattle.pt_service.specs.Meaning.{Makes, Refuses, Verdict, entry_made, enters, first_unused, id_behind, ids_behind, made, maximum, new_entry, new_entry_of_id, next_id, of_owner, owner_for, owner_of, raised, unless_taken, with_given, with_next}

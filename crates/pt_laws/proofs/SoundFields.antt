@@ -2,8 +2,8 @@
 use Rattle.std.proofs.Common.{◌≡◌, ℕ, ℤ, ◌<◌, ◌^◌, Bool, true, false, cond, Some, refl, ap, ◌∙◌}
 use Rattle.std.specs.Prelude.{FitsSigned}
 use Rattle.std.specs.Int.{w32}
-use Rattle.prdb_entries.specs.Registry.{AreMaxima, IsRecord, IsRegistry}
-use Rattle.prdb_entries.specs.State.{PrEntry}
+use Rattle.prdb_layout.specs.Registry.{AreMaxima, IsRecord, IsRegistry}
+use Rattle.prdb_layout.specs.State.{PrEntry}
 use Rattle.pt_calls.specs.declared.answers.PtAnswer.TheVariants as answer
 use Rattle.pt_service.specs.Meaning.{Makes, Refit, Refuses, are_bad_fields, fields_set, is_maximum, maxima_with, maximum_set, names_flags, names_quota, of_entry, with_fields}
 use Rattle.pt_service.specs.Refusals as rule

@@ -4,8 +4,8 @@ use Rattle.std.specs.Prelude.{◌<ℤ◌, is_none}
 use Rattle.std.specs.Ordering.{int_eq}
 use Rattle.std.proofs.lemmas.Bool.{or_parts}
 use Rattle.std.proofs.lemmas.Int.{ints}
-use Rattle.prdb_entries.specs.Registry.{Registry, IsRegistry}
-use Rattle.prdb_entries.specs.State.{PrEntry, IsId}
+use Rattle.prdb_layout.specs.Registry.{Registry, IsRegistry}
+use Rattle.prdb_layout.specs.State.{PrEntry, IsId}
 use Rattle.pt_calls.specs.declared.answers.PtAnswer.TheVariants as answer
 use Rattle.pt_service.specs.Meaning.{Join, Leave, Makes, Part, Refuses, Verdict, joins, leaves, of_entry, of_pair, parts}
 use Rattle.pt_service.specs.Refusals as rule

@@ -6,9 +6,9 @@ use Rattle.std.specs.Ordering.{int_eq}
 use Rattle.std.proofs.lemmas.Bool.{and_parts, cases_Bool, ltb-false, ltb-true}
 use Rattle.std.proofs.lemmas.Bool.Decides.{Decides-int_eq}
 use Rattle.std.proofs.lemmas.Int.{ints}
-use Rattle.prdb_entries.specs.Registry.{Registry, AreMaxima, IsOwner, IsRegistry, is_name_for, is_text}
-use Rattle.prdb_entries.specs.State.{PrEntry, IsId, front_of}
-use Rattle.prdb_entries.proofs.Lengths.{fits_id}
+use Rattle.prdb_layout.specs.Registry.{Registry, AreMaxima, IsOwner, IsRegistry, is_name_for, is_text}
+use Rattle.prdb_layout.specs.State.{PrEntry, IsId, front_of}
+use Rattle.prdb_layout.proofs.Lengths.{fits_id}
 use Rattle.pt_calls.specs.declared.answers.PtAnswer.TheVariants as answer
 use Rattle.pt_service.specs.Meaning.{Makes, Verdict, of_entry, raised, turn_by, turns, unless}
 use Rattle.pt_service.specs.Names.{has_colon, with_front}

@@ -4,9 +4,9 @@ use Rattle.std.specs.Ordering.{int_eq}
 use Rattle.std.specs.Option.{option_map}
 use Rattle.std.proofs.lemmas.Bool.{and_from}
 use Rattle.std.proofs.lemmas.Bool.Decides.{Decides-int_eq}
-use Rattle.prdb_entries.specs.Registry.{with_entry}
-use Rattle.prdb_entries.specs.State.{PrEntry}
-use Rattle.prdb_entries.proofs.Changed.{under_same}
+use Rattle.prdb_layout.specs.Registry.{with_entry}
+use Rattle.prdb_layout.specs.State.{PrEntry}
+use Rattle.prdb_layout.proofs.Changed.{under_same}
 use Rattle.pt_service.specs.Meaning.{Answers, Change, Enter, Join, Leave, Makes, Maxima, NoCall, Part, Refit, Refuses, Turn, Verdict, asked, disowned, state_after, state_by, verdict}
 use Rattle.pt_service.specs.State.{State}
 use Rattle.pt_database.specs.States.{HoldsState}

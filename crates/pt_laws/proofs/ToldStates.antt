@@ -6,16 +6,16 @@ use Rattle.std.specs.Ordering.{int_eq}
 use Rattle.std.proofs.lemmas.Bool.{and_from, and_parts}
 use Rattle.std.proofs.lemmas.Int.{ints}
 use mathlib.Core.Path.{fun_ext}
-use Rattle.prdb_entries.specs.Records.{block_in, entry_at, registry_in, whole}
-use Rattle.prdb_entries.specs.Registry.{Registry}
-use Rattle.prdb_entries.specs.State.{PrEntry}
-use Rattle.prdb_entries.proofs.Told.{registry_told}
-use Rattle.prdb_members.specs.Changes.{list_in, place_in}
-use Rattle.prdb_members.specs.Layout.{PairList}
-use Rattle.prdb_members.proofs.Both.{lists_of}
-use Rattle.prdb_members.proofs.FirstPairs.{holds_none}
-use Rattle.prdb_members.proofs.Gains.{place_is, told_at}
-use Rattle.prdb_members.proofs.Relist.{StandsAt}
+use Rattle.prdb_layout.specs.Records.{block_in, entry_at, registry_in, whole}
+use Rattle.prdb_layout.specs.Registry.{Registry}
+use Rattle.prdb_layout.specs.State.{PrEntry}
+use Rattle.prdb_layout.proofs.Told.{registry_told}
+use Rattle.prdb_lists.specs.Changes.{list_in, place_in}
+use Rattle.prdb_lists.specs.Layout.{PairList}
+use Rattle.prdb_lists.proofs.Both.{lists_of}
+use Rattle.prdb_lists.proofs.FirstPairs.{holds_none}
+use Rattle.prdb_lists.proofs.Gains.{place_is, told_at}
+use Rattle.prdb_lists.proofs.Relist.{StandsAt}
 use Rattle.pt_service.specs.State.{State, first_state, is_group}
 use Rattle.pt_database.specs.States.{HoldsState, members_of}
 use Rattle.pt_database.proofs.Pairs.{some_is}

@@ -7,10 +7,10 @@ use Rattle.std.proofs.lemmas.Bool.{cases_Bool}
 use Rattle.std.proofs.lemmas.Bool.Decides.{Decides-int_eq}
 use Rattle.std.proofs.lemmas.List.Elements.{filter_passes, recursion_from_All}
 use mathlib.Core.Path.{fun_ext}
-use Rattle.prdb_entries.specs.Records.{after_replace, after_set_maxima}
-use Rattle.prdb_entries.specs.Registry.{Registry, with_entry}
-use Rattle.prdb_entries.specs.State.{PrEntry, front_of}
-use Rattle.prdb_entries.proofs.Changed.{by_id, some_same, under_other, under_same}
+use Rattle.prdb_layout.specs.Records.{after_replace, after_set_maxima}
+use Rattle.prdb_layout.specs.Registry.{Registry, with_entry}
+use Rattle.prdb_layout.specs.State.{PrEntry, front_of}
+use Rattle.prdb_layout.proofs.Changed.{by_id, some_same, under_other, under_same}
 use Rattle.pt_service.specs.Meaning.{Turn, state_after}
 use Rattle.pt_service.specs.Names.{with_front}
 use Rattle.pt_service.specs.State.{State, ids}

@@ -2,8 +2,8 @@
 use Rattle.std.specs.Prelude.{ℕ, ℤ, ◌&&◌, not, is_some, Bool, List}
 use Rattle.std.specs.List.{list_any}
 use Rattle.std.specs.Ordering.{int_eq}
-use Rattle.prdb_entries.specs.Records.{block_in, entry_at, registry_in}
-use Rattle.prdb_members.specs.Changes.{list_in, place_in}
+use Rattle.prdb_layout.specs.Records.{block_in, entry_at, registry_in}
+use Rattle.prdb_lists.specs.Changes.{list_in, place_in}
 use Rattle.pt_service.specs.State.{State, is_group}
 
 -- the list of a user has a group

@@ -8,7 +8,7 @@ use Rattle.db_image.specs.declared.draft_services.CallEnd.{CallEnd}
 use Rattle.db_image.specs.declared.draft_services.CallEnd.TheVariants as end
 use Rattle.db_image.specs.declared.faults.RecordFault.{RecordFault}
 use Rattle.db_image.proofs.Decided.{ends_by}
-use Rattle.prdb_entries.specs.Registry.{Registry}
+use Rattle.prdb_layout.specs.Registry.{Registry}
 use Rattle.pt_calls.specs.declared.calls.PtCall.{PtCall}
 use Rattle.pt_calls.specs.Calls.{call_kind}
 use Rattle.pt_calls.specs.Reading.{call_of}

@@ -5,8 +5,8 @@ ghost use Rattle.std.specs.Prelude.{◌≡◌, ◌≤◌, Some, IfOk, IfErr, IsE
 ghost use Rattle.std.specs.Option.{option_map};
 ghost use Rattle.db_image.specs.Draft.{StaysAsItWas};
 ghost use Rattle.db_image.specs.Ends.{IsDecided};
-ghost use Rattle.prdb_entries.specs.RecordEnds.{OnlyDrafts};
-ghost use Rattle.prdb_members.specs.Ends.{HasItsCause};
+ghost use Rattle.prdb_layout.specs.RecordEnds.{OnlyDrafts};
+ghost use Rattle.prdb_lists.specs.Ends.{HasItsCause};
 ghost use Rattle.pt_calls.specs.Calls.{HasSpelling, call_kind};
 ghost use Rattle.pt_calls.specs.Reading.{call_of};
 ghost use Rattle.pt_calls.specs.Writes.{is_write};
@@ -15,7 +15,7 @@ ghost use Rattle.pt_changes.specs.Standing.{IsMeantOf};
 
 use call_grammar::{bytes_fit, push_words};
 use db_image::{CallEnd, Draft, DraftService, DraftWords, ImageRead, RecordFault};
-use prdb_entries::draft_over;
+use prdb_layout::draft_over;
 use pt_calls::{PtCall, call_words, kind_of, read_call, reply_words};
 use pt_changes::{add_to_group, delete, remove_from_group};
 use pt_database::{get_cps, is_member_of, list_elements, list_entries, list_entry, list_owned};

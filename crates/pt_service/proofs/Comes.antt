@@ -5,10 +5,10 @@ use Rattle.std.specs.Option.{option_map}
 use Rattle.db_image.specs.Ends.{end_of}
 use Rattle.db_image.specs.declared.draft_services.CallEnd.{CallEnd}
 use Rattle.db_image.specs.declared.faults.RecordFault.{RecordFault}
-use Rattle.prdb_entries.specs.RecordEnds.{HasCause}
-use Rattle.prdb_entries.specs.Records.{Holds, after_insert, after_set_maxima}
-use Rattle.prdb_entries.specs.Registry.{Registry, IsRegistry, MayBeAdded}
-use Rattle.prdb_entries.specs.State.{PrEntry}
+use Rattle.prdb_layout.specs.RecordEnds.{HasCause}
+use Rattle.prdb_layout.specs.Records.{Holds, after_insert, after_set_maxima}
+use Rattle.prdb_layout.specs.Registry.{Registry, IsRegistry, MayBeAdded}
+use Rattle.prdb_layout.specs.State.{PrEntry}
 use Rattle.pt_calls.specs.declared.answers.PtAnswer.TheVariants as answer
 use Rattle.pt_service.specs.Entering.{kind_of}
 use Rattle.pt_service.specs.Meaning.{Answers, Enter, Makes, Refuses, first_unused, made, new_entry, new_entry_of_id, owner_for, raised, reply_by}

@@ -3,7 +3,7 @@ use Rattle.std.proofs.Common.{◌≡◌, ℕ, List, Option, Some, None, refl, sy
 use Rattle.std.specs.Prelude.{option_and_then}
 use Rattle.db_image.specs.Ends.{end_of}
 use Rattle.db_image.specs.declared.draft_services.CallEnd.{CallEnd}
-use Rattle.prdb_entries.specs.Registry.{Registry}
+use Rattle.prdb_layout.specs.Registry.{Registry}
 use Rattle.pt_calls.specs.declared.answers.PtAnswer.{PtAnswer}
 use Rattle.pt_service.specs.Meaning.{Answers, Change, Makes, Refuses, Verdict, reply_by}
 use Rattle.pt_service.specs.Standing.{image_after, image_by}

@@ -10,10 +10,10 @@ use Rattle.std.proofs.lemmas.Bool.{eqb-true, ltb-true}
 use Rattle.std.proofs.lemmas.Int.{ints}
 use Rattle.db_image.specs.declared.faults.RecordFault.{RecordFault}
 use Rattle.db_image.specs.declared.faults.RecordFault.TheVariants.{DiskFault, BadRecord, NoMemory}
-use Rattle.prdb_entries.specs.RecordEnds.{HasCause}
-use Rattle.prdb_entries.specs.Records.{Holds, after_insert, after_set_maxima}
-use Rattle.prdb_entries.specs.Registry.{Registry, AreMaxima, IsRecord, IsRegistry, MayBeAdded}
-use Rattle.prdb_entries.specs.State.{PrEntry, administrators, anonymous, fixed_entries, front_of}
+use Rattle.prdb_layout.specs.RecordEnds.{HasCause}
+use Rattle.prdb_layout.specs.Records.{Holds, after_insert, after_set_maxima}
+use Rattle.prdb_layout.specs.Registry.{Registry, AreMaxima, IsRecord, IsRegistry, MayBeAdded}
+use Rattle.prdb_layout.specs.State.{PrEntry, administrators, anonymous, fixed_entries, front_of}
 use Rattle.pt_calls.specs.declared.answers.PtAnswer.TheVariants as answer
 use Rattle.pt_calls.specs.Meaning.{id_named, ids_to, is_named}
 use Rattle.pt_calls.specs.NameLaws.{none_named}

@@ -7,12 +7,12 @@ use Rattle.std.proofs.lemmas.Bool.{and_from, and_parts, lt-ltb, ltb-true}
 use Rattle.std.proofs.lemmas.Int.{ints}
 use Rattle.db_image.specs.declared.faults.RecordFault.{RecordFault}
 use Rattle.db_image.specs.declared.faults.RecordFault.TheVariants as fault
-use Rattle.prdb_entries.specs.RecordEnds.{HasCause, seen}
-use Rattle.prdb_entries.specs.Records.{Holds}
-use Rattle.prdb_entries.specs.Registry.{Registry, IsNamed, IsRecord, is_name_for}
-use Rattle.prdb_entries.specs.State.{PrEntry, IsId}
-use Rattle.prdb_entries.specs.declared.records.PrEntry.{PrEntry as CodeEntry}
-use Rattle.prdb_entries.proofs.UserNames.{HasForm, form}
+use Rattle.prdb_layout.specs.RecordEnds.{HasCause, seen}
+use Rattle.prdb_layout.specs.Records.{Holds}
+use Rattle.prdb_layout.specs.Registry.{Registry, IsNamed, IsRecord, is_name_for}
+use Rattle.prdb_layout.specs.State.{PrEntry, IsId}
+use Rattle.prdb_layout.specs.declared.records.PrEntry.{PrEntry as CodeEntry}
+use Rattle.prdb_layout.proofs.UserNames.{HasForm, form}
 use Rattle.pt_service.specs.Fitting.{entry_fits}
 use Rattle.pt_service.specs.Names.{is_name_of}
 use Rattle.pt_service.specs.State.{is_group, is_id}

@@ -4,8 +4,8 @@ use Rattle.db_image.specs.Draft.{Drafted}
 use Rattle.db_image.specs.declared.faults.RecordFault.{RecordFault}
 use Rattle.db_image.specs.declared.faults.RecordFault.TheVariants.{DiskFault, NoMemory}
 use Rattle.db_image.specs.declared.images.ImageRead.{Ghosts}
-use Rattle.prdb_entries.specs.RecordEnds.{OnlyDrafts, OnlyLooks}
-use Rattle.prdb_entries.proofs.Scanned.{drafts_after, looks_then}
+use Rattle.prdb_layout.specs.RecordEnds.{OnlyDrafts, OnlyLooks}
+use Rattle.prdb_layout.proofs.Scanned.{drafts_after, looks_then}
 
 pub looked : {I : Type 0} (g : Ghosts I) (a b : Drafted I) (first failed : Type 0) → OnlyLooks g a b first → (failed → first)
     → OnlyDrafts g a b failed

@@ -7,11 +7,11 @@ use Rattle.std.proofs.lemmas.Bool.{and_parts, cases_eq, cases_lt, eqb-true, leb-
 use Rattle.std.proofs.lemmas.List.{get_or-drop, get_or-take, get_or_past, length-drop, length-take-le, take_all}
 use Rattle.std.proofs.lemmas.List.Folds.{list_any_at, list_any_none}
 use Rattle.std.proofs.lemmas.List.Sums.{AllPass-from_list_all, fails_before_first, passes_at_first}
-use Rattle.prdb_entries.specs.Names.{is_name_byte}
-use Rattle.prdb_entries.specs.Registry.{behind_colon, is_group_name, is_text}
-use Rattle.prdb_entries.specs.State.{front_of}
-use Rattle.prdb_entries.proofs.Changed.{some_same}
-use Rattle.prdb_entries.proofs.UserNames.{HasForm}
+use Rattle.prdb_layout.specs.Names.{is_name_byte}
+use Rattle.prdb_layout.specs.Registry.{behind_colon, is_group_name, is_text}
+use Rattle.prdb_layout.specs.State.{front_of}
+use Rattle.prdb_layout.proofs.Changed.{some_same}
+use Rattle.prdb_layout.proofs.UserNames.{HasForm}
 
 abbrev pub is_colon : ℕ → Bool
 is_colon b = eqb b 58

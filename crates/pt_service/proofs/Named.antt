@@ -9,9 +9,9 @@ use Rattle.std.proofs.Math.Seq.{take-suc}
 use Rattle.std.proofs.lemmas.List.{length-append, map_push, take_all}
 use Rattle.db_image.specs.Draft.{Drafted}
 use Rattle.db_image.specs.declared.images.ImageRead.{Ghosts}
-use Rattle.prdb_entries.specs.RecordEnds.{OnlyLooks}
-use Rattle.prdb_entries.specs.Registry.{Registry}
-use Rattle.prdb_entries.proofs.Scanned.{looks_none, looks_then, looks_so}
+use Rattle.prdb_layout.specs.RecordEnds.{OnlyLooks}
+use Rattle.prdb_layout.specs.Registry.{Registry}
+use Rattle.prdb_layout.proofs.Scanned.{looks_none, looks_then, looks_so}
 use Rattle.pt_service.specs.Meaning.{name_of}
 use Rattle.pt_service.specs.Told.{Told}
 use Rattle.pt_service.proofs.Done.{told_all, told_both, told_map}

@@ -5,11 +5,11 @@ use Rattle.std.specs.Option.{option_map}
 use Rattle.std.specs.Ordering.{int_eq}
 use Rattle.std.specs.Str.{bytes_eq}
 use Rattle.db_image.specs.declared.faults.RecordFault.{RecordFault}
-use Rattle.prdb_entries.specs.RecordEnds.{seen}
-use Rattle.prdb_entries.specs.Records.{Holds}
-use Rattle.prdb_entries.specs.Registry.{Registry, IsNamed}
-use Rattle.prdb_entries.specs.State.{PrEntry, administrators, front_of}
-use Rattle.prdb_entries.specs.declared.records.PrEntry.{PrEntry as CodeEntry}
+use Rattle.prdb_layout.specs.RecordEnds.{seen}
+use Rattle.prdb_layout.specs.Records.{Holds}
+use Rattle.prdb_layout.specs.Registry.{Registry, IsNamed}
+use Rattle.prdb_layout.specs.State.{PrEntry, administrators, front_of}
+use Rattle.prdb_layout.specs.declared.records.PrEntry.{PrEntry as CodeEntry}
 use Rattle.pt_calls.specs.Meaning.{id_named}
 use Rattle.pt_calls.specs.NameLaws.{named_is}
 use Rattle.pt_service.specs.Meaning.{given_owner, owner_by_front, owner_for, owner_named, owner_of, unless_taken}

@@ -7,11 +7,11 @@ use Rattle.std.proofs.lemmas.Bool.{ltb-true}
 use Rattle.std.proofs.lemmas.Int.{ints}
 use Rattle.db_image.specs.declared.faults.RecordFault.{RecordFault}
 use Rattle.db_image.specs.declared.faults.RecordFault.TheVariants.{DiskFault, BadRecord, NoMemory}
-use Rattle.prdb_entries.specs.RecordEnds.{HasCause}
-use Rattle.prdb_entries.specs.Records.{Holds, after_replace, after_set_maxima}
-use Rattle.prdb_entries.specs.Registry.{Registry, AreMaxima, IsAmong, IsFixedId, IsRegistry, MayReplace, with_entry}
-use Rattle.prdb_entries.specs.State.{PrEntry, fixed_entries}
-use Rattle.prdb_entries.proofs.Changed.{by_id, some_same, under_other, under_same}
+use Rattle.prdb_layout.specs.RecordEnds.{HasCause}
+use Rattle.prdb_layout.specs.Records.{Holds, after_replace, after_set_maxima}
+use Rattle.prdb_layout.specs.Registry.{Registry, AreMaxima, IsAmong, IsFixedId, IsRegistry, MayReplace, with_entry}
+use Rattle.prdb_layout.specs.State.{PrEntry, fixed_entries}
+use Rattle.prdb_layout.proofs.Changed.{by_id, some_same, under_other, under_same}
 use Rattle.pt_calls.specs.declared.answers.PtAnswer.TheVariants as answer
 use Rattle.pt_service.specs.Fitting.{Refits}
 use Rattle.pt_service.specs.Meaning.{Maxima, Makes, Refit, Refuses, Verdict, are_bad_fields, fields_set, is_maximum, maxima_with, maximum_set, of_entry, with_fields}

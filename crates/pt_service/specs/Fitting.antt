@@ -1,7 +1,7 @@
 -- The tests of an entry that a database may hold.
 use Rattle.std.specs.Prelude.{ℕ, ℤ, ◌≡◌, ◌&&◌, Bool, Some}
-use Rattle.prdb_entries.specs.Registry.{Registry}
-use Rattle.prdb_entries.specs.State.{PrEntry}
+use Rattle.prdb_layout.specs.Registry.{Registry}
+use Rattle.prdb_layout.specs.State.{PrEntry}
 use Rattle.pt_service.specs.Names.{is_name_of}
 use Rattle.pt_service.specs.State.{is_group, is_id}
 

@@ -7,9 +7,9 @@ use Rattle.std.specs.Str.{bytes_eq}
 use Rattle.db_image.specs.declared.services.CallReply.{CallReply}
 use Rattle.db_image.specs.declared.services.CallReply.TheVariants as reply
 use Rattle.db_image.specs.Meaning.{Meaning}
-use Rattle.prdb_entries.specs.Names.{lowered}
-use Rattle.prdb_entries.specs.Registry.{Registry, with_entry, with_maxima}
-use Rattle.prdb_entries.specs.State.{PrEntry, administrators, anonymous, front_of, group_flags, user_flags}
+use Rattle.prdb_layout.specs.Names.{lowered}
+use Rattle.prdb_layout.specs.Registry.{Registry, with_entry, with_maxima}
+use Rattle.prdb_layout.specs.State.{PrEntry, administrators, anonymous, front_of, group_flags, user_flags}
 use Rattle.pt_calls.specs.declared.answers.PtAnswer.{PtAnswer}
 use Rattle.pt_calls.specs.declared.answers.PtAnswer.TheVariants as answer
 use Rattle.pt_calls.specs.declared.answers.PtEntry.{PtEntry}

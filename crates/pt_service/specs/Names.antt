@@ -1,8 +1,8 @@
 -- Names of entries and what an entry is called after its owner (ptserver).
 use Rattle.std.specs.Prelude.{ℕ, ◌==◌, Bool, List, ◌∷◌, ◌++◌, codes, if◌then◌else◌}
 use Rattle.std.specs.List.{list_any}
-use Rattle.prdb_entries.specs.Names.{is_user_name}
-use Rattle.prdb_entries.specs.Registry.{behind_colon, is_group_name}
+use Rattle.prdb_layout.specs.Names.{is_user_name}
+use Rattle.prdb_layout.specs.Registry.{behind_colon, is_group_name}
 
 -- a name has a `:`
 abbrev pub has_colon : List ℕ → Bool

@@ -1,6 +1,6 @@
 -- The numbers of the refusals (ptserver's names, PR..; the numbers are own).
 use Rattle.std.specs.Prelude.{ℕ}
-use Rattle.prdb_entries.specs.Meaning as user
+use Rattle.prdb_layout.specs.Meaning as user
 
 -- an entry has the name
 abbrev pub name_exists : ℕ

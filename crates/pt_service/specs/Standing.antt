@@ -2,11 +2,11 @@
 use Rattle.std.specs.Prelude.{ℕ, ◌≡◌, ◌<◌, List, Option, Some, None}
 use Rattle.db_image.specs.Ends.{end_of}
 use Rattle.db_image.specs.declared.draft_services.CallEnd.{CallEnd}
-use Rattle.prdb_entries.specs.Blocks.{block_count}
-use Rattle.prdb_entries.specs.Bytes.{word_at}
-use Rattle.prdb_entries.specs.Records.{after_insert, after_replace, after_set_maxima, block_in, entry_in, kind_of, whole}
-use Rattle.prdb_entries.specs.Records as records
-use Rattle.prdb_entries.specs.declared.blocks.TheConstants.{PAIR_COUNT_AT}
+use Rattle.prdb_layout.specs.Blocks.{block_count}
+use Rattle.prdb_layout.specs.Bytes.{word_at}
+use Rattle.prdb_layout.specs.Records.{after_insert, after_replace, after_set_maxima, block_in, entry_in, kind_of, whole}
+use Rattle.prdb_layout.specs.Records as records
+use Rattle.prdb_layout.specs.declared.blocks.TheConstants.{PAIR_COUNT_AT}
 use Rattle.pt_service.specs.Meaning.{Change, Maxima, Enter, Refit, Verdict, Makes, reply_by}
 use Rattle.pt_service.specs.State.{State, IsState, pair_count}
 

@@ -1,8 +1,8 @@
 -- The protection database apart from any image: its entries, the two maxima, and which user is in which group (ptserver).
 use Rattle.std.specs.Prelude.{ℕ, ℤ, pos, negsuc, ◌+ℤ◌, ◌≡◌, zero, suc, Bool, true, false, IsSome, List, [], ◌∷◌, filter, length, nat_lt, option_to_list}
 use Rattle.std.specs.List.{flat_map}
-use Rattle.prdb_entries.specs.Registry.{Registry, IsRegistry, first_registry}
-use Rattle.prdb_entries.specs.State.{PrEntry}
+use Rattle.prdb_layout.specs.Registry.{Registry, IsRegistry, first_registry}
+use Rattle.prdb_layout.specs.State.{PrEntry}
 
 pub record State : Type 0 where
   pub registry : Registry

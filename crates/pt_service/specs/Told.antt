@@ -1,10 +1,10 @@
 -- What is said of the registry that an image holds, where the image tells its bytes.
 use Rattle.std.specs.Prelude.{ℕ, ◌≡◌, true, List, Option, IfSome}
 use Rattle.db_image.specs.declared.draft_services.CallEnd.{CallEnd}
-use Rattle.prdb_entries.specs.RecordEnds.{seen}
-use Rattle.prdb_entries.specs.Records.{Holds}
-use Rattle.prdb_entries.specs.Registry.{Registry}
-use Rattle.prdb_entries.specs.declared.records.PrEntry.{PrEntry}
+use Rattle.prdb_layout.specs.RecordEnds.{seen}
+use Rattle.prdb_layout.specs.Records.{Holds}
+use Rattle.prdb_layout.specs.Registry.{Registry}
+use Rattle.prdb_layout.specs.declared.records.PrEntry.{PrEntry}
 use Rattle.pt_service.specs.Fitting.{entry_fits}
 use Rattle.pt_service.specs.Meaning.{Verdict}
 use Rattle.pt_service.specs.Standing.{IsDone}

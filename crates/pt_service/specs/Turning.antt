@@ -3,8 +3,8 @@ use Rattle.std.specs.Prelude.{ℕ, ℤ, pos, ◌==◌, ◌&&◌, Bool, false, no
 use Rattle.std.specs.List.{list_any}
 use Rattle.std.specs.Ordering.{int_eq}
 use Rattle.std.specs.Str.{bytes_eq}
-use Rattle.prdb_entries.specs.Registry.{Registry, is_name_for}
-use Rattle.prdb_entries.specs.State.{PrEntry, fixed_entries, front_of}
+use Rattle.prdb_layout.specs.Registry.{Registry, is_name_for}
+use Rattle.prdb_layout.specs.State.{PrEntry, fixed_entries, front_of}
 use Rattle.pt_service.specs.Names.{has_colon, with_front}
 use Rattle.pt_service.specs.Refusals as rule
 use Rattle.pt_service.specs.State.{State, entries, is_group, is_id}

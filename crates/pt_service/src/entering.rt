@@ -1,14 +1,14 @@
 //! The calls that make an entry, with the next id or with a given one, over a draft: what is decided, and then what is changed.
 ghost use Rattle.std.specs.Prelude.{◌≡◌, ◌<◌, ◌≤◌, ◌^◌, IfSome, IfOk, IfErr, OnOk, IsErrOf, is_none, true, if◌then◌else◌};
 ghost use Rattle.db_image.specs.Ends.{IsDecided};
-ghost use Rattle.prdb_entries.specs.RecordEnds.{Becomes, HasCause, OnlyDrafts, OnlyLooks, seen};
-ghost use Rattle.prdb_entries.specs.Records.{Holds, after_insert, after_set_maxima};
-ghost use Rattle.prdb_entries.specs.Registry.{AreMaxima, IsRecord, MayBeAdded};
+ghost use Rattle.prdb_layout.specs.RecordEnds.{Becomes, HasCause, OnlyDrafts, OnlyLooks, seen};
+ghost use Rattle.prdb_layout.specs.Records.{Holds, after_insert, after_set_maxima};
+ghost use Rattle.prdb_layout.specs.Registry.{AreMaxima, IsRecord, MayBeAdded};
 ghost use Rattle.pt_service.specs.Entering.{kind_of};
 ghost use Rattle.pt_service.specs.Meaning.{first_unused, id_behind, made, new_entry, new_entry_of_id, raised};
 ghost use Rattle.pt_service.specs.State.{is_group, is_id};
 ghost use Rattle.pt_service.specs.Told.{IsMeant, Told};
-ghost use Rattle.prdb_entries.specs.Names.{lowered};
+ghost use Rattle.prdb_layout.specs.Names.{lowered};
 
 use crate::finds::{entry_of_id, is_group, is_id};
 use crate::looks::{ANONYMOUS, tell};
@@ -16,7 +16,7 @@ use crate::names::lowered;
 use crate::owners::owner_for;
 use crate::rules::{BAD_ARGUMENT, ID_EXISTS, NO_IDS};
 use db_image::{CallEnd, Draft, ImageRead, RecordFault};
-use prdb_entries::{PrEntry, insert, maxima, set_maxima};
+use prdb_layout::{PrEntry, insert, maxima, set_maxima};
 use pt_calls::PtAnswer;
 use std::alloc::Global;
 use ubik_types::Bytes;

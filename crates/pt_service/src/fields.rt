@@ -1,8 +1,8 @@
 //! The calls that set the maxima, and the flags and the quota of an entry, over a draft.
 ghost use Rattle.std.specs.Prelude.{◌≡◌, ◌≤◌, Some, IsTrue, IfOk, IfErr, OnOk, IsErrOf, if◌then◌else◌};
 ghost use Rattle.db_image.specs.Ends.{IsDecided};
-ghost use Rattle.prdb_entries.specs.RecordEnds.{Becomes, HasCause, OnlyDrafts, seen};
-ghost use Rattle.prdb_entries.specs.Records.{Holds, after_replace};
+ghost use Rattle.prdb_layout.specs.RecordEnds.{Becomes, HasCause, OnlyDrafts, seen};
+ghost use Rattle.prdb_layout.specs.Records.{Holds, after_replace};
 ghost use Rattle.pt_service.specs.Fitting.{Refits, entry_fits};
 ghost use Rattle.pt_service.specs.Meaning.{are_bad_fields, are_flags, fields_set, is_maximum, maximum_set, names_flags, names_quota, of_entry, with_fields};
 ghost use Rattle.pt_service.specs.Told.{IsMeant};
@@ -11,7 +11,7 @@ use crate::finds::{entry_of_id, is_group, is_id};
 use crate::looks::tell;
 use crate::rules::{BAD_ARGUMENT, NO_ENTRY};
 use db_image::{CallEnd, Draft, ImageRead, RecordFault};
-use prdb_entries::{PrEntry, maxima, replace, set_maxima};
+use prdb_layout::{PrEntry, maxima, replace, set_maxima};
 use pt_calls::PtAnswer;
 use std::alloc::Global;
 

@@ -2,16 +2,16 @@
 //! image holds.
 ghost use Rattle.std.specs.Prelude.{◌≡◌, ◌<◌, ◌^◌, false, IfSome, IsSomeAnd, IfOk, IfErr, IsErrOf};
 ghost use Rattle.std.specs.Option.{option_map};
-ghost use Rattle.prdb_entries.specs.RecordEnds.{HasCause, OnlyLooks, seen};
-ghost use Rattle.prdb_entries.specs.Records.{Holds};
-ghost use Rattle.prdb_entries.specs.Registry.{IsNamed};
+ghost use Rattle.prdb_layout.specs.RecordEnds.{HasCause, OnlyLooks, seen};
+ghost use Rattle.prdb_layout.specs.Records.{Holds};
+ghost use Rattle.prdb_layout.specs.Registry.{IsNamed};
 ghost use Rattle.pt_service.specs.Fitting.{entry_fits};
 ghost use Rattle.pt_service.specs.State.{is_group, is_id};
 ghost use Rattle.pt_service.specs.Told.{IsGood, Told};
 
 use crate::names::is_name_of;
 use db_image::{Draft, ImageRead, RecordFault};
-use prdb_entries::{PrEntry, find_id, find_name};
+use prdb_layout::{PrEntry, find_id, find_name};
 use std::alloc::Global;
 
 /// Whether an id is a group's.

@@ -2,12 +2,12 @@
 ghost use Rattle.std.specs.Prelude.{◌≡◌, ◌==◌, IfOk};
 ghost use Rattle.std.specs.List.{list_all, position, position_or_len};
 ghost use Rattle.std.specs.Str.{bytes_eq};
-ghost use Rattle.prdb_entries.specs.Names.{is_name_byte, lowered};
-ghost use Rattle.prdb_entries.specs.Registry.{is_group_name, is_text};
-ghost use Rattle.prdb_entries.specs.State.{front_of};
+ghost use Rattle.prdb_layout.specs.Names.{is_name_byte, lowered};
+ghost use Rattle.prdb_layout.specs.Registry.{is_group_name, is_text};
+ghost use Rattle.prdb_layout.specs.State.{front_of};
 ghost use Rattle.pt_service.specs.Names.{has_colon, is_name_of, system};
 
-use prdb_entries::is_user_name;
+use prdb_layout::is_user_name;
 use std::alloc::Global;
 use ubik_types::NoMemory;
 
@@ -77,7 +77,7 @@ pub(crate) fn is_system(text: &[u8]) -> bool
 }
 
 /// Whether a name in lower case has the form of a group's name: a text, or two that a `:` joins.
-#[tactic(auto, unfolding(prdb_entries::specs::Registry::is_group_name))]
+#[tactic(auto, unfolding(prdb_layout::specs::Registry::is_group_name))]
 fn is_group_name(name: &[u8]) -> bool
     ensures { result ≡ is_group_name name.now }
 {

@@ -1,8 +1,8 @@
 //! Who owns a new entry, or why there is to be none, over a draft.
 ghost use Rattle.std.specs.Prelude.{◌≡◌, ◌<◌, ◌^◌, IfOk, IfErr, IsErrOf, is_some, true};
 ghost use Rattle.std.specs.Option.{option_map};
-ghost use Rattle.prdb_entries.specs.RecordEnds.{HasCause, OnlyLooks, seen};
-ghost use Rattle.prdb_entries.specs.Records.{Holds};
+ghost use Rattle.prdb_layout.specs.RecordEnds.{HasCause, OnlyLooks, seen};
+ghost use Rattle.prdb_layout.specs.Records.{Holds};
 ghost use Rattle.pt_calls.specs.Meaning.{id_named};
 ghost use Rattle.pt_service.specs.Meaning.{given_owner, owner_by_front, owner_for, owner_of};
 ghost use Rattle.pt_service.specs.Names.{is_name_of};
@@ -12,7 +12,7 @@ use crate::finds::{entry_of_id, entry_of_name};
 use crate::names::{front_of, has_colon, is_name_of, is_system};
 use crate::rules::{BAD_NAME, NAME_EXISTS, NO_ENTRY};
 use db_image::{Draft, ImageRead, RecordFault};
-use prdb_entries::PrEntry;
+use prdb_layout::PrEntry;
 use std::alloc::Global;
 
 /// The id of `system:administrators`, which owns what has no other owner.

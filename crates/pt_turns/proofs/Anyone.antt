@@ -6,8 +6,8 @@ use Rattle.std.specs.Ordering.{int_eq}
 use Rattle.std.proofs.lemmas.Bool.Decides.{Decides-int_eq}
 use Rattle.std.proofs.lemmas.Int.{ints}
 use Rattle.std.proofs.lemmas.List.Folds.{list_any-append}
-use Rattle.prdb_entries.specs.Registry.{Registry, IsRegistry}
-use Rattle.prdb_entries.specs.State.{PrEntry}
+use Rattle.prdb_layout.specs.Registry.{Registry, IsRegistry}
+use Rattle.prdb_layout.specs.State.{PrEntry}
 use Rattle.pt_service.specs.State.{entries, entries_from, ids, least_id, numbers_from}
 use Rattle.pt_database.proofs.Pairs.{entry_range, is_there}
 

@@ -9,11 +9,11 @@ use Rattle.db_image.specs.Ends.{end_of}
 use Rattle.db_image.specs.declared.draft_services.CallEnd.{CallEnd}
 use Rattle.db_image.specs.declared.faults.RecordFault.{RecordFault}
 use Rattle.db_image.specs.declared.faults.RecordFault.TheVariants.{DiskFault, BadRecord, NoMemory}
-use Rattle.prdb_entries.specs.RecordEnds.{HasCause}
-use Rattle.prdb_entries.specs.Records.{Holds, after_set_maxima}
-use Rattle.prdb_entries.specs.Registry.{Registry, AreMaxima, IsOwner, IsRegistry, is_name_for}
-use Rattle.prdb_entries.specs.State.{PrEntry, IsId, front_of}
-use Rattle.prdb_members.specs.Ends.{HasItsCause}
+use Rattle.prdb_layout.specs.RecordEnds.{HasCause}
+use Rattle.prdb_layout.specs.Records.{Holds, after_set_maxima}
+use Rattle.prdb_layout.specs.Registry.{Registry, AreMaxima, IsOwner, IsRegistry, is_name_for}
+use Rattle.prdb_layout.specs.State.{PrEntry, IsId, front_of}
+use Rattle.prdb_lists.specs.Ends.{HasItsCause}
 use Rattle.pt_calls.specs.declared.answers.PtAnswer.TheVariants as answer
 use Rattle.pt_service.specs.Meaning.{Answers, Makes, Refuses, Turn as Turns, Verdict, of_entry, raised, reply_by, turn_by, turns, unless}
 use Rattle.pt_service.specs.Names.{has_colon, with_front}

@@ -6,10 +6,10 @@ use Rattle.std.specs.Ordering.{int_eq}
 use Rattle.std.specs.Str.{bytes_eq}
 use Rattle.std.proofs.lemmas.Bool.{and_parts}
 use Rattle.std.proofs.lemmas.Slice.Eq.{bytes_eq-Decides}
-use Rattle.prdb_entries.specs.Names.{is_user_name}
-use Rattle.prdb_entries.specs.Registry.{Registry, IsOwner, IsRegistry, MayReplace, behind_colon, is_group_name, is_name_for, with_entry}
-use Rattle.prdb_entries.specs.State.{PrEntry, fixed_entries, front_of}
-use Rattle.prdb_entries.proofs.Changed.{by_id, some_same, under_other, under_same}
+use Rattle.prdb_layout.specs.Names.{is_user_name}
+use Rattle.prdb_layout.specs.Registry.{Registry, IsOwner, IsRegistry, MayReplace, behind_colon, is_group_name, is_name_for, with_entry}
+use Rattle.prdb_layout.specs.State.{PrEntry, fixed_entries, front_of}
+use Rattle.prdb_layout.proofs.Changed.{by_id, some_same, under_other, under_same}
 use Rattle.pt_service.specs.Names.{has_colon, with_front}
 use Rattle.pt_service.specs.State.{ids}
 use Rattle.pt_service.proofs.Refitted.{some_with}

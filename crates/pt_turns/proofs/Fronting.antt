@@ -8,12 +8,12 @@ use Rattle.db_image.specs.declared.faults.RecordFault.{RecordFault}
 use Rattle.db_image.specs.declared.faults.RecordFault.TheVariants.{DiskFault, BadRecord, NoMemory}
 use Rattle.db_image.specs.declared.images.ImageRead.{Ghosts}
 use Rattle.db_blocks.specs.Ends.{OnlyDrafts as BlockDrafts}
-use Rattle.prdb_entries.specs.RecordEnds.{HasCause, OnlyDrafts}
-use Rattle.prdb_entries.specs.Records.{Holds, after_replace}
-use Rattle.prdb_entries.specs.Registry.{Registry, MayReplace, is_name_for}
-use Rattle.prdb_entries.specs.State.{PrEntry}
-use Rattle.prdb_entries.proofs.Scanned.{drafts_then, looks_none}
-use Rattle.prdb_members.specs.Layout.{HoldsPairs}
+use Rattle.prdb_layout.specs.RecordEnds.{HasCause, OnlyDrafts}
+use Rattle.prdb_layout.specs.Records.{Holds, after_replace}
+use Rattle.prdb_layout.specs.Registry.{Registry, MayReplace, is_name_for}
+use Rattle.prdb_layout.specs.State.{PrEntry}
+use Rattle.prdb_layout.proofs.Scanned.{drafts_then, looks_none}
+use Rattle.prdb_lists.specs.Layout.{HoldsPairs}
 use Rattle.pt_service.specs.Fitting.{entry_fits}
 use Rattle.pt_service.specs.Names.{is_name_of}
 use Rattle.pt_service.specs.State.{State, is_group, is_id}

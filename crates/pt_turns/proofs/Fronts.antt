@@ -9,8 +9,8 @@ use Rattle.std.proofs.lemmas.List.{get_or-take, length-take, length-take-le, tak
 use Rattle.std.proofs.lemmas.Slice.Eq.{bytes_eq-Decides}
 use Rattle.std.proofs.lemmas.List.Folds.{list_any_none}
 use Rattle.std.proofs.lemmas.List.Sums.{fails_before_first, passes_at_first, split_at_first}
-use Rattle.prdb_entries.specs.Registry.{behind_colon}
-use Rattle.prdb_entries.specs.State.{front_of}
+use Rattle.prdb_layout.specs.Registry.{behind_colon}
+use Rattle.prdb_layout.specs.State.{front_of}
 use Rattle.pt_service.specs.Names.{has_colon, with_front}
 
 abbrev pub is_colon : ℕ → Bool

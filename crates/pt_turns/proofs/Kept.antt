@@ -1,5 +1,5 @@
 -- The laws of the steps by which an entry gets another id.
-use Rattle.prdb_members.proofs.Moved.{move_holds}
+use Rattle.prdb_lists.proofs.Moved.{move_holds}
 use Rattle.pt_changes.proofs.Owners.{holds_given}
 use Rattle.pt_turns.proofs.Renumbered.{GivesKeep, MoveKeeps}
 

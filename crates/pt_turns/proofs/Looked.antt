@@ -2,9 +2,9 @@
 use Rattle.std.proofs.Common.{◌≡◌, ℕ, ℤ, Bool, true, false, List, Option, Some, None, Result, Ok, Err, IfSome, IfOk, refl, sym, ap, ◌∙◌}
 use Rattle.std.specs.List.{list_any}
 use Rattle.db_image.specs.declared.faults.RecordFault.{RecordFault}
-use Rattle.prdb_entries.specs.Records.{Holds}
-use Rattle.prdb_entries.specs.Registry.{Registry, IsRegistry}
-use Rattle.prdb_entries.specs.State.{PrEntry}
+use Rattle.prdb_layout.specs.Records.{Holds}
+use Rattle.prdb_layout.specs.Registry.{Registry, IsRegistry}
+use Rattle.prdb_layout.specs.State.{PrEntry}
 use Rattle.entry_scans.specs.Found.{IsMetAt, TellsWhether}
 use Rattle.entry_scans.specs.Lists.{IsListOf as IsFoundList}
 use Rattle.pt_service.specs.State.{entries}

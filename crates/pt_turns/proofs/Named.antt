@@ -9,10 +9,10 @@ use Rattle.std.proofs.lemmas.Bool.{and_from, and_parts, cases_Bool, false_from_n
 use Rattle.std.proofs.lemmas.Bool.Decides.{Decides-int_eq}
 use Rattle.std.proofs.lemmas.Int.{ints}
 use Rattle.std.proofs.lemmas.Slice.Eq.{bytes_eq-Decides}
-use Rattle.prdb_entries.specs.Names.{is_name_byte, is_user_name}
-use Rattle.prdb_entries.specs.Registry.{Registry, IsOwner, IsRecord, IsRegistry, behind_colon, is_group_name, is_name_for, is_text}
-use Rattle.prdb_entries.specs.State.{PrEntry, IsId, front_of}
-use Rattle.prdb_entries.proofs.UserNames.{HasForm, form}
+use Rattle.prdb_layout.specs.Names.{is_name_byte, is_user_name}
+use Rattle.prdb_layout.specs.Registry.{Registry, IsOwner, IsRecord, IsRegistry, behind_colon, is_group_name, is_name_for, is_text}
+use Rattle.prdb_layout.specs.State.{PrEntry, IsId, front_of}
+use Rattle.prdb_layout.proofs.UserNames.{HasForm, form}
 use Rattle.pt_service.specs.Names.{has_colon, with_front}
 use Rattle.pt_service.specs.State.{entries}
 use Rattle.pt_service.specs.Turning.{has_equal_names, has_long_name, name_after}

@@ -5,13 +5,13 @@ use Rattle.std.specs.Ordering.{int_eq}
 use Rattle.std.proofs.Math.Path.{fun_ext}
 use Rattle.std.proofs.lemmas.Bool.{false_from_ne_true}
 use Rattle.std.proofs.lemmas.List.Folds.{list_any_at}
-use Rattle.prdb_entries.specs.Records.{after_replace}
-use Rattle.prdb_entries.specs.Registry.{Registry, MayReplace, with_entry}
-use Rattle.prdb_entries.specs.State.{PrEntry, fixed_entries, front_of}
-use Rattle.prdb_entries.proofs.Changed.{by_id, some_same, under_other, under_same}
-use Rattle.prdb_members.specs.Layout.{HoldsPairs}
-use Rattle.prdb_members.specs.Members.{Members}
-use Rattle.prdb_members.proofs.RecordsKeep.{replace_keep}
+use Rattle.prdb_layout.specs.Records.{after_replace}
+use Rattle.prdb_layout.specs.Registry.{Registry, MayReplace, with_entry}
+use Rattle.prdb_layout.specs.State.{PrEntry, fixed_entries, front_of}
+use Rattle.prdb_layout.proofs.Changed.{by_id, some_same, under_other, under_same}
+use Rattle.prdb_lists.specs.Layout.{HoldsPairs}
+use Rattle.prdb_lists.specs.Members.{Members}
+use Rattle.prdb_lists.proofs.RecordsKeep.{replace_keep}
 use Rattle.pt_service.specs.Names.{with_front}
 use Rattle.pt_service.specs.Turning.{is_fixed, moved, name_after, turned}
 use Rattle.pt_changes.specs.Turning.{MayFront, MayFronts, MayRename, after_fronted, after_fronts, after_rename, fronted, renamed, with_fronted, with_fronts}

@@ -5,13 +5,13 @@ use Rattle.std.specs.List.{AllByRecursion, list_any}
 use Rattle.std.specs.Ordering.{int_eq}
 use Rattle.std.proofs.lemmas.Bool.{false_from_ne_true}
 use Rattle.std.proofs.lemmas.Int.{ints}
-use Rattle.prdb_entries.specs.Registry.{Registry, IsFixedId, IsRegistry}
-use Rattle.prdb_entries.specs.State.{PrEntry, IsId, fixed_entries}
-use Rattle.prdb_entries.proofs.Changed.{by_id, some_same}
-use Rattle.prdb_members.specs.Layout.{HoldsPairs}
-use Rattle.prdb_members.specs.Lists.{IsAscending, IsListOf}
-use Rattle.prdb_members.specs.Members.{Members, are_paired}
-use Rattle.prdb_members.specs.Moves.{MayMove, after_move, before, moved_members, moved_registry, with_moved_id}
+use Rattle.prdb_layout.specs.Registry.{Registry, IsFixedId, IsRegistry}
+use Rattle.prdb_layout.specs.State.{PrEntry, IsId, fixed_entries}
+use Rattle.prdb_layout.proofs.Changed.{by_id, some_same}
+use Rattle.prdb_lists.specs.Layout.{HoldsPairs}
+use Rattle.prdb_lists.specs.Lists.{IsAscending, IsListOf}
+use Rattle.prdb_lists.specs.Members.{Members, are_paired}
+use Rattle.prdb_lists.specs.Moves.{MayMove, after_move, before, moved_members, moved_registry, with_moved_id}
 use Rattle.pt_service.specs.State.{State, elements, ids, is_group}
 use Rattle.pt_service.specs.Turning.{is_fixed, moved}
 use Rattle.pt_changes.specs.Ends.{over_registry}

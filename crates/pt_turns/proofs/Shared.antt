@@ -10,11 +10,11 @@ use Rattle.std.proofs.lemmas.Slice.Eq.{bytes_eq-Decides}
 use Rattle.db_image.specs.Draft.{Drafted}
 use Rattle.db_image.specs.declared.faults.RecordFault.{RecordFault}
 use Rattle.db_image.specs.declared.images.ImageRead.{Ghosts}
-use Rattle.prdb_entries.specs.RecordEnds.{OnlyLooks, seen}
-use Rattle.prdb_entries.specs.Registry.{Registry}
-use Rattle.prdb_entries.specs.State.{PrEntry, front_of}
-use Rattle.prdb_entries.specs.declared.records.PrEntry.{PrEntry as CodeEntry}
-use Rattle.prdb_entries.proofs.Scanned.{looks_none, looks_so, looks_then}
+use Rattle.prdb_layout.specs.RecordEnds.{OnlyLooks, seen}
+use Rattle.prdb_layout.specs.Registry.{Registry}
+use Rattle.prdb_layout.specs.State.{PrEntry, front_of}
+use Rattle.prdb_layout.specs.declared.records.PrEntry.{PrEntry as CodeEntry}
+use Rattle.prdb_layout.proofs.Scanned.{looks_none, looks_so, looks_then}
 use Rattle.pt_service.specs.Names.{has_colon}
 use Rattle.pt_service.specs.State.{State}
 use Rattle.pt_service.specs.Turning.{has_equal_names, has_long_name, owns_another, turns_its_groups}

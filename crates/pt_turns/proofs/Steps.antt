@@ -4,14 +4,14 @@ use Rattle.std.specs.Prelude.{◌⊎◌, OnOk, option_map}
 use Rattle.std.specs.Ordering.{int_eq}
 use Rattle.db_image.specs.declared.faults.RecordFault.{RecordFault}
 use Rattle.db_image.specs.declared.faults.RecordFault.TheVariants.{DiskFault, BadRecord, NoMemory}
-use Rattle.prdb_entries.specs.RecordEnds.{HasCause}
-use Rattle.prdb_entries.specs.Records.{Holds, after_replace}
-use Rattle.prdb_entries.specs.Registry.{Registry}
-use Rattle.prdb_entries.specs.State.{PrEntry, front_of}
-use Rattle.prdb_members.specs.Ends.{HasPairCause}
-use Rattle.prdb_members.specs.Layout.{HoldsPairs}
-use Rattle.prdb_members.specs.Members.{Members}
-use Rattle.prdb_members.specs.Moves.{IsMoved, MayMove, after_move}
+use Rattle.prdb_layout.specs.RecordEnds.{HasCause}
+use Rattle.prdb_layout.specs.Records.{Holds, after_replace}
+use Rattle.prdb_layout.specs.Registry.{Registry}
+use Rattle.prdb_layout.specs.State.{PrEntry, front_of}
+use Rattle.prdb_lists.specs.Ends.{HasPairCause}
+use Rattle.prdb_lists.specs.Layout.{HoldsPairs}
+use Rattle.prdb_lists.specs.Members.{Members}
+use Rattle.prdb_lists.specs.Moves.{IsMoved, MayMove, after_move}
 use Rattle.pt_service.specs.State.{State, elements}
 use Rattle.pt_service.specs.Turning.{moved}
 use Rattle.pt_database.specs.States.{HoldsState, OfStates, members_of}

@@ -2,8 +2,8 @@
 use Rattle.std.proofs.Common.{◌≡◌, ℕ, ℤ, pos, negsuc, Bool, true, false, not, ◌&&◌, cond, List, length, Option, Some, None, Result, Ok, Err, refl, sym, ap, subst, ◌∙◌}
 use Rattle.std.specs.Prelude.{◌==◌, is_none, is_some}
 use Rattle.std.specs.Ordering.{int_eq}
-use Rattle.prdb_entries.specs.Registry.{Registry, is_name_for}
-use Rattle.prdb_entries.specs.State.{PrEntry, front_of}
+use Rattle.prdb_layout.specs.Registry.{Registry, is_name_for}
+use Rattle.prdb_layout.specs.State.{PrEntry, front_of}
 use Rattle.pt_service.specs.Names.{has_colon, is_name_of, with_front}
 use Rattle.pt_service.specs.State.{State, is_group, is_id}
 use Rattle.pt_service.specs.Turning.{front_of_entry, given_or, has_equal_names, has_long_name, is_fixed, new_name, turn_fault, turns_its_groups}

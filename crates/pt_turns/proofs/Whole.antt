@@ -4,12 +4,12 @@ use Rattle.std.specs.Prelude.{option_map, option_and_then}
 use Rattle.std.specs.Ordering.{int_eq}
 use Rattle.std.proofs.Math.Path.{fun_ext}
 use Rattle.std.proofs.lemmas.Bool.{false_from_ne_true}
-use Rattle.prdb_entries.specs.Registry.{Registry, IsFixedId, IsRegistry}
-use Rattle.prdb_entries.specs.State.{PrEntry}
-use Rattle.prdb_entries.proofs.Changed.{by_id}
-use Rattle.prdb_members.specs.Layout.{HoldsPairs}
-use Rattle.prdb_members.specs.Members.{Members}
-use Rattle.prdb_members.specs.Moves.{both_have, moved_members}
+use Rattle.prdb_layout.specs.Registry.{Registry, IsFixedId, IsRegistry}
+use Rattle.prdb_layout.specs.State.{PrEntry}
+use Rattle.prdb_layout.proofs.Changed.{by_id}
+use Rattle.prdb_lists.specs.Layout.{HoldsPairs}
+use Rattle.prdb_lists.specs.Members.{Members}
+use Rattle.prdb_lists.specs.Moves.{both_have, moved_members}
 use Rattle.pt_service.specs.State.{State}
 use Rattle.pt_service.specs.Turning.{before, both_in, is_fixed, moved, name_after, turned, with_turned}
 use Rattle.pt_database.specs.States.{HoldsState, members_of}

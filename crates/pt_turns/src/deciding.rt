@@ -4,9 +4,9 @@ ghost use Rattle.std.specs.List.{list_any};
 ghost use Rattle.std.specs.Option.{option_map};
 ghost use Rattle.std.specs.Ordering.{int_eq};
 ghost use Rattle.std.specs.Str.{bytes_eq};
-ghost use Rattle.prdb_entries.specs.RecordEnds.{OnlyLooks, seen};
-ghost use Rattle.prdb_entries.specs.State.{front_of};
-ghost use Rattle.prdb_members.specs.Ends.{HasItsCause};
+ghost use Rattle.prdb_layout.specs.RecordEnds.{OnlyLooks, seen};
+ghost use Rattle.prdb_layout.specs.State.{front_of};
+ghost use Rattle.prdb_lists.specs.Ends.{HasItsCause};
 ghost use Rattle.pt_service.specs.Names.{has_colon, is_name_of};
 ghost use Rattle.pt_service.specs.Turning.{front_of_entry, given_or, has_equal_names, has_long_name, owns_another, turns_its_groups};
 ghost use Rattle.pt_database.specs.States.{OfStates};
@@ -16,7 +16,7 @@ ghost use Rattle.pt_turns.specs.Deciding.{IsDecided, given_fault, is_shared, mis
 use crate::names::{Renaming, name_after, with_front};
 use crate::sought::{AnotherOwned, LongAfter, SharesAfter, is_any, under};
 use db_image::{Draft, ImageRead, RecordFault};
-use prdb_entries::PrEntry;
+use prdb_layout::PrEntry;
 use pt_changes::is_fixed;
 use pt_database::entry_of;
 use pt_service::{

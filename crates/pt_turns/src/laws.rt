@@ -1,6 +1,6 @@
 //! Laws of the definitions that the contracts cite.
 ghost use Rattle.std.specs.Prelude.{ℕ, ℤ, List};
-ghost use Rattle.prdb_entries.specs.State.{PrEntry};
+ghost use Rattle.prdb_layout.specs.State.{PrEntry};
 ghost use Rattle.pt_service.specs.State.{State};
 ghost use Rattle.pt_service.specs.Turning.{with_turned};
 ghost use Rattle.pt_database.specs.States.{HoldsState};

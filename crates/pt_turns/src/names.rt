@@ -1,14 +1,14 @@
 //! The names that entries have once one of them has another name.
 ghost use Rattle.std.specs.Prelude.{◌≡◌, ◌&&◌, IfOk, length};
 ghost use Rattle.std.specs.Str.{bytes_eq};
-ghost use Rattle.prdb_entries.specs.RecordEnds.{seen};
-ghost use Rattle.prdb_entries.specs.Registry.{behind_colon};
-ghost use Rattle.prdb_entries.specs.State.{front_of};
+ghost use Rattle.prdb_layout.specs.RecordEnds.{seen};
+ghost use Rattle.prdb_layout.specs.Registry.{behind_colon};
+ghost use Rattle.prdb_layout.specs.State.{front_of};
 ghost use Rattle.pt_service.specs.Names.{has_colon, with_front};
 ghost use Rattle.pt_turns.specs.Deciding.{name_then};
 ghost use Rattle.pt_changes.specs.Under.{is_under};
 
-use prdb_entries::PrEntry;
+use prdb_layout::PrEntry;
 use pt_service::{front_of, has_colon};
 use std::alloc::Global;
 use ubik_types::NoMemory;

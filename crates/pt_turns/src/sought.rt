@@ -1,8 +1,8 @@
 //! What is looked for among the entries, in one pass over the image each.
 ghost use Rattle.std.specs.Prelude.{◌≡◌, ◌≤◌, IfOk, IfErr, IsErrOf};
 ghost use Rattle.std.specs.List.{list_any};
-ghost use Rattle.prdb_entries.specs.RecordEnds.{OnlyLooks};
-ghost use Rattle.prdb_members.specs.Ends.{HasItsCause};
+ghost use Rattle.prdb_layout.specs.RecordEnds.{OnlyLooks};
+ghost use Rattle.prdb_lists.specs.Ends.{HasItsCause};
 ghost use Rattle.pt_service.specs.State.{entries};
 ghost use Rattle.pt_database.specs.States.{OfStates};
 ghost use Rattle.pt_changes.specs.Under.{under};
@@ -39,7 +39,7 @@ pub(crate) struct LongAfter<'a> {
 
 impl<'a> Sought for LongAfter<'a> {
     ghost use Rattle.std.specs.Prelude.{length, nat_lt};
-    ghost use Rattle.prdb_entries.specs.RecordEnds.{seen};
+    ghost use Rattle.prdb_layout.specs.RecordEnds.{seen};
     ghost use Rattle.pt_service.specs.Turning.{name_after};
 
     ghost test = { λ s e. nat_lt 63 (length (name_after (seen s.renaming.entry.now) s.renaming.name.now e)) };
@@ -61,7 +61,7 @@ impl<'a> Sought for SharesAfter<'a> {
     ghost use Rattle.std.specs.Prelude.{◌&&◌, not};
     ghost use Rattle.std.specs.Ordering.{int_eq};
     ghost use Rattle.std.specs.Str.{bytes_eq};
-    ghost use Rattle.prdb_entries.specs.RecordEnds.{seen};
+    ghost use Rattle.prdb_layout.specs.RecordEnds.{seen};
     ghost use Rattle.pt_service.specs.Turning.{name_after};
 
     ghost test = { λ s e. not (int_eq s.id e.id) && bytes_eq s.name.now (name_after (seen s.renaming.entry.now) s.renaming.name.now e) };

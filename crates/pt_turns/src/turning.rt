@@ -1,10 +1,10 @@
 //! The call that gives an entry another name, owner or id, over a draft: what is decided, and then what is changed.
 ghost use Rattle.std.specs.Prelude.{◌≡◌, ◌≤◌, ◌∷◌, [], Some, IfOk, OnOk, IfErr, IsErrOf, map, max, true};
 ghost use Rattle.db_image.specs.Ends.{IsDecided};
-ghost use Rattle.prdb_entries.specs.RecordEnds.{Becomes, HasCause, OnlyDrafts, seen};
-ghost use Rattle.prdb_entries.specs.Records.{Holds, after_replace};
-ghost use Rattle.prdb_entries.specs.Names.{lowered};
-ghost use Rattle.prdb_members.specs.Ends.{HasItsCause};
+ghost use Rattle.prdb_layout.specs.RecordEnds.{Becomes, HasCause, OnlyDrafts, seen};
+ghost use Rattle.prdb_layout.specs.Records.{Holds, after_replace};
+ghost use Rattle.prdb_layout.specs.Names.{lowered};
+ghost use Rattle.prdb_lists.specs.Ends.{HasItsCause};
 ghost use Rattle.pt_service.specs.Meaning.{of_entry, turns};
 ghost use Rattle.pt_service.specs.State.{is_group, is_id};
 ghost use Rattle.pt_service.specs.Told.{IsGood};
@@ -17,8 +17,8 @@ use crate::deciding::{Given, Turn, decide};
 use crate::names::with_front;
 use crate::sought::under;
 use db_image::{CallEnd, Draft, ImageRead, RecordFault};
-use prdb_entries::{PrEntry, maxima, replace, set_maxima};
-use prdb_members::move_id;
+use prdb_layout::{PrEntry, maxima, replace, set_maxima};
+use prdb_lists::move_id;
 use pt_calls::PtAnswer;
 use pt_changes::{give, property};
 use pt_database::entry_of;

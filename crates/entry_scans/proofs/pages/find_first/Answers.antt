@@ -1,5 +1,5 @@
 use Rattle.std.proofs.Common.{arith}
-use Rattle.prdb_entries.proofs.LaidOut.{ok_whole}
+use Rattle.prdb_layout.proofs.LaidOut.{ok_whole}
 use Rattle.entry_scans.specs.Pages.{rank_in}
 use Rattle.entry_scans.specs.Sought.{is_sought}
 use Rattle.entry_scans.proofs.FirstDraft.{err_empty, first_some, told_some}

@@ -1,6 +1,6 @@
 use Rattle.std.proofs.Common.{ℕ, ◌≡◌, [], sym, ◌∙◌, subst, arith}
 use Rattle.std.proofs.lemmas.Result.{err_from_is_err_and}
-use Rattle.prdb_entries.proofs.LaidOut.{bad_size}
+use Rattle.prdb_layout.proofs.LaidOut.{bad_size}
 use Rattle.entry_scans.proofs.Faults.{laid_fault, scan_fault}
 use Rattle.entry_scans.proofs.Passed.{Passed, passed_none, passed_past}
 use Rattle.entry_scans.proofs.Told.{scan_false, scan_true}

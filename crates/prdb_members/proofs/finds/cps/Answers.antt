@@ -1,5 +1,6 @@
 use Rattle.std.proofs.Common.{arith}
 use Rattle.std.proofs.lemmas.Int.{ints, to_z-of_z}
+use Rattle.prdb_members.proofs.Found.{free_costs}
 use Rattle.prdb_members.proofs.InList.{anonymous_in, group_in, user_in}
 use Rattle.prdb_members.proofs.finds.cps.Goals as goal
 
@@ -9,6 +10,48 @@ returns-then-id-lt0-clause-found g c =
     let raw = c.in_ok-own.ensures.members in
     group_in c.args.d.now.bytes c.args.id c.new-none.result c.in_ok-own.own (omega (arith, ints)) c.new-none.ensures
     (simp to_z-of_z at raw) c.in_ok-own.ensures.ascending
+
+pub returns-then-id-lt0-clause-cost : goal.returns-then-id-lt0-clause-cost
+returns-then-id-lt0-clause-cost g c = free_costs c.args.d.now.bytes c.args.id (g.I.ImageRead.asked c.args.d.now.image)
+
+pub returns-in_err-own-clause-cost : goal.returns-in_err-own-clause-cost
+returns-in_err-own-clause-cost g c = free_costs c.args.d.now.bytes c.args.id (g.I.ImageRead.asked c.args.d.now.image)
+
+pub returns-in_err-groups-clause-cost : goal.returns-in_err-groups-clause-cost
+returns-in_err-groups-clause-cost g c =
+    let fits = c.ranges.id in
+    let raw = c.elements.ensures.cost in
+    simp to_z-of_z at raw
+
+pub returns-in_err-in_all-clause-cost : goal.returns-in_err-in_all-clause-cost
+returns-in_err-in_all-clause-cost g c =
+    let fits = c.ranges.id in
+    let raw = c.elements.ensures.cost in
+    simp to_z-of_z at raw
+
+pub returns-in_err-ids-clause-cost : goal.returns-in_err-ids-clause-cost
+returns-in_err-ids-clause-cost g c =
+    let fits = c.ranges.id in
+    let raw = c.elements.ensures.cost in
+    simp to_z-of_z at raw
+
+pub returns-then-id-eq-ANONYMOUS-clause-cost : goal.returns-then-id-eq-ANONYMOUS-clause-cost
+returns-then-id-eq-ANONYMOUS-clause-cost g c =
+    let fits = c.ranges.id in
+    let raw = c.elements.ensures.cost in
+    simp to_z-of_z at raw
+
+pub returns-in_err-whole-clause-cost : goal.returns-in_err-whole-clause-cost
+returns-in_err-whole-clause-cost g c =
+    let fits = c.ranges.id in
+    let raw = c.elements.ensures.cost in
+    simp to_z-of_z at raw
+
+pub returns-clause-cost : goal.returns-clause-cost
+returns-clause-cost g c =
+    let fits = c.ranges.id in
+    let raw = c.elements.ensures.cost in
+    simp to_z-of_z at raw
 
 pub returns-then-id-eq-ANONYMOUS-clause-found : goal.returns-then-id-eq-ANONYMOUS-clause-found
 returns-then-id-eq-ANONYMOUS-clause-found g c =

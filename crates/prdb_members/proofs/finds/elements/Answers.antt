@@ -1,6 +1,6 @@
 use Rattle.std.proofs.Common.{rules}
 use Rattle.std.proofs.lemmas.Int.{to_z-of_z}
-use Rattle.prdb_members.proofs.ListFound.{list_of_none}
+use Rattle.prdb_members.proofs.Found.{list_of_none}
 use Rattle.prdb_members.proofs.finds.elements.Goals as goal
 
 pub returns-in_default-clause-found : goal.returns-in_default-clause-found
@@ -16,3 +16,15 @@ returns-clause-found g c =
     let first = c.in_ok-listed.ensures.found in
     let found = rw c.in-Some.is at first in
     simp to_z-of_z at found
+
+pub returns-in_default-clause-cost : goal.returns-in_default-clause-cost
+returns-in_default-clause-cost g c =
+    let fits = c.ranges.id in
+    let raw = c.find_list.ensures.cost in
+    simp to_z-of_z at raw
+
+pub returns-clause-cost : goal.returns-clause-cost
+returns-clause-cost g c =
+    let fits = c.ranges.id in
+    let raw = c.find_list.ensures.cost in
+    simp to_z-of_z at raw

@@ -1,6 +1,6 @@
 use Rattle.std.proofs.Common.{false, refl, arith}
 use Rattle.std.proofs.lemmas.Int.{ints, to_z-of_z}
-use Rattle.prdb_members.proofs.ListFound.{has_no_user, has_of_list, has_of_none}
+use Rattle.prdb_members.proofs.Found.{free_costs, has_no_user, has_of_list, has_of_none}
 use Rattle.prdb_members.proofs.finds.has_pair.Goals as goal
 
 pub returns-then-member-lt0-clause-found : goal.returns-then-member-lt0-clause-found
@@ -25,3 +25,6 @@ returns-clause-found g c =
     let has = simp to_z-of_z at has_raw in
     has_of_list c.args.d.now.bytes c.args.member c.args.group c.contains-there.result c.in-Some.listed
     (λ low. omega (arith, ints)) has.0 has.1 (simp to_z-of_z at found)
+
+pub returns-then-member-lt0-clause-cost : goal.returns-then-member-lt0-clause-cost
+returns-then-member-lt0-clause-cost g c = free_costs c.args.d.now.bytes c.args.member (g.I.ImageRead.asked c.args.d.now.image)

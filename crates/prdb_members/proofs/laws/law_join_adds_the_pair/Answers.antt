@@ -1,4 +1,4 @@
-use Rattle.prdb_members.proofs.Both.{join_holds}
+use Rattle.prdb_members.proofs.Ends.{join_holds}
 use Rattle.prdb_members.proofs.laws.law_join_adds_the_pair.Goals as goal
 
 pub returns : goal.returns

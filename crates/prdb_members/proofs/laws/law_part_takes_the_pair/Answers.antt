@@ -1,4 +1,4 @@
-use Rattle.prdb_members.proofs.Both.{part_holds}
+use Rattle.prdb_members.proofs.Ends.{part_holds}
 use Rattle.prdb_members.proofs.laws.law_part_takes_the_pair.Goals as goal
 
 pub returns : goal.returns

@@ -1,7 +1,10 @@
+use Rattle.std.proofs.Common.{length, ap}
 use Rattle.std.proofs.lemmas.Int.{to_z-of_z}
 use Rattle.std.proofs.lemmas.Result.{err_from_is_err_and}
 use Rattle.db_blocks.proofs.Scanned.{drafts_after}
-use Rattle.prdb_members.proofs.MoveEnds.{ids_are, relist_err, relist_ok, relist_place}
+use Rattle.prdb_lists.proofs.MoveEnds.{ids_are}
+use Rattle.prdb_members.proofs.MoveCosts.{relist_read, relist_written}
+use Rattle.prdb_members.proofs.MoveEnds.{relist_err, relist_ok, relist_place}
 use Rattle.prdb_members.proofs.moves.relist.Goals as goal
 
 pub returns-in_err-place-clause-fault : goal.returns-in_err-place-clause-fault
@@ -51,3 +54,34 @@ returns-clause-fault g c =
 pub returns-clause-frame : goal.returns-clause-frame
 returns-clause-frame g c =
     drafts_after g.I.ImageRead c.args.d.now c.find_place.new.d c.write_list.new.d _ _ c.find_place.ensures.frame c.write_list.ensures.frame
+
+pub returns-in_err-place-clause-cost : goal.returns-in_err-place-clause-cost
+returns-in_err-place-clause-cost g c =
+    let fits = c.ranges.entry in
+    let raw = c.find_place.ensures.cost in
+    relist_read c.args.d.now.bytes c.args.d.now.layout c.args.entry (g.I.ImageRead.asked c.args.d.now.image)
+    (g.I.ImageRead.asked c.find_place.new.d.image) (simp to_z-of_z at raw)
+
+pub returns-in_err-others-clause-cost : goal.returns-in_err-others-clause-cost
+returns-in_err-others-clause-cost g c =
+    let fits = c.ranges.entry in
+    let raw = c.find_place.ensures.cost in
+    relist_read c.args.d.now.bytes c.args.d.now.layout c.args.entry (g.I.ImageRead.asked c.args.d.now.image)
+    (g.I.ImageRead.asked c.find_place.new.d.image) (simp to_z-of_z at raw)
+
+pub returns-in_err-ids-clause-cost : goal.returns-in_err-ids-clause-cost
+returns-in_err-ids-clause-cost g c =
+    let fits = c.ranges.entry in
+    let raw = c.find_place.ensures.cost in
+    relist_read c.args.d.now.bytes c.args.d.now.layout c.args.entry (g.I.ImageRead.asked c.args.d.now.image)
+    (g.I.ImageRead.asked c.find_place.new.d.image) (simp to_z-of_z at raw)
+
+pub returns-clause-cost : goal.returns-clause-cost
+returns-clause-cost g c =
+    let fits = c.ranges.entry in
+    let raw = c.find_place.ensures.cost in
+    let entry_raw = c.in_ok-place.ensures.entry in
+    relist_written c.args.d.now.bytes c.in_ok-place.place c.args.d.now.layout c.find_place.new.d.layout c.args.entry
+    (length c.as_slice-more.result.now) (g.I.ImageRead.asked c.args.d.now.image) (g.I.ImageRead.asked c.find_place.new.d.image)
+    (g.I.ImageRead.asked c.write_list.new.d.image) (simp to_z-of_z at entry_raw) c.in_ok-place.ensures.found
+    (ap length c.as_slice-more.ensures.value) c.find_place.ensures.frame.same.layout (simp to_z-of_z at raw) c.write_list.ensures.cost

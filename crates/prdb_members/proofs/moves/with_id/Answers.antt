@@ -1,6 +1,6 @@
 use Rattle.std.proofs.Common.{◌∙◌}
 use Rattle.std.proofs.lemmas.Int.{to_z-of_z}
-use Rattle.prdb_members.proofs.MovedBlock.{put_word}
+use Rattle.prdb_lists.proofs.MovedBlock.{put_word}
 use Rattle.prdb_members.proofs.moves.with_id.Goals as goal
 
 pub returns : goal.returns

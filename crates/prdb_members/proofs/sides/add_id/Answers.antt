@@ -1,16 +1,19 @@
-use Rattle.std.proofs.Common.{List, ℤ, subst, ◌∙◌}
+use Rattle.std.proofs.Common.{◌≤◌, ◌+◌, ℕ, List, ℤ, length, ap, subst, ◌∙◌}
 use Rattle.std.specs.List.{Contains}
 use Rattle.std.proofs.lemmas.Int.{to_z-of_z}
 use Rattle.std.proofs.lemmas.Result.{err_from_is_err_and}
-use Rattle.prdb_members.specs.Changes.{free_for}
-use Rattle.prdb_members.proofs.Places.{list_at, list_err, place_whole}
-use Rattle.prdb_members.proofs.Written.{drafts_then, gained_ok}
+use Rattle.db_image.proofs.ReadSteps.{asks_none}
+use Rattle.prdb_lists.proofs.Places.{list_at}
+use Rattle.prdb_members.specs.Changes.{taken_for}
+use Rattle.prdb_members.specs.Costs.{gain_cost}
+use Rattle.prdb_members.proofs.Costs.{gain_taken, gain_written}
+use Rattle.prdb_members.proofs.Places.{free_fault, gained_ok, list_err}
 use Rattle.prdb_members.proofs.sides.add_id.Goals as goal
 
 pub returns-in_err-more-clause-fault : goal.returns-in_err-more-clause-fault
 returns-in_err-more-clause-fault g c =
     let p = err_from_is_err_and c.from_residual-in_err-more.result c.from_residual-in_err-more.ensures.1 in
-    rw (p.1, p.2) (place_whole c.args.d.now.bytes c.args.place.now c.args.id c.in_err-more.field-0.0 c.in_err-more.ensures.fault)
+    rw (p.1, p.2) (free_fault c.args.d.now.bytes c.args.place.now c.args.id c.in_err-more.field-0.0 c.in_err-more.ensures.fault)
 
 pub returns-clause-bytes : goal.returns-clause-bytes
 returns-clause-bytes g c =
@@ -29,10 +32,23 @@ returns-clause-fault g c =
     let members_raw = c.in_ok-ids.ensures.members in
     let members = simp to_z-of_z at members_raw in
     list_err c.write_list.result
-    (free_for _ _) c.args.d.now.bytes c.more_for.new.d.bytes c.args.place.now c.args.id c.as_slice-ids.result.now c.in_ok-more.ensures.bytes
+    (taken_for _ _) c.args.d.now.bytes c.more_for.new.d.bytes c.args.place.now c.args.id c.as_slice-ids.result.now c.in_ok-more.ensures.bytes
     c.as_slice-ids.ensures.ascending
     (λ x has. (members x).0 (subst (λ (l : List ℤ). Contains l x) c.as_slice-ids.ensures.value has)) c.write_list.ensures.fault
 
-pub returns-clause-frame : goal.returns-clause-frame
-returns-clause-frame g c =
-    drafts_then g.I.ImageRead c.args.d.now c.more_for.new.d c.write_list.new.d _ _ c.in_ok-more.ensures.frame c.write_list.ensures.frame
+pub returns-in_err-ids-clause-cost : goal.returns-in_err-ids-clause-cost
+returns-in_err-ids-clause-cost g c =
+    asks_none (gain_cost c.args.d.now.layout (length c.args.place.now.listed.more.items)) (g.I.ImageRead.asked c.args.d.now.image)
+
+pub returns-in_err-more-clause-cost : goal.returns-in_err-more-clause-cost
+returns-in_err-more-clause-cost g c =
+    gain_taken c.args.d.now.layout (length c.args.place.now.listed.more.items) (g.I.ImageRead.asked c.args.d.now.image)
+    (g.I.ImageRead.asked c.more_for.new.d.image) c.more_for.ensures.cost
+
+pub returns-clause-cost : goal.returns-clause-cost
+returns-clause-cost g c =
+    gain_written c.args.d.now.layout c.more_for.new.d.layout (length c.as_slice-2.result.now) (length c.in_ok-more.more.items)
+    (length c.args.place.now.listed.more.items) (g.I.ImageRead.asked c.args.d.now.image) (g.I.ImageRead.asked c.more_for.new.d.image)
+    (g.I.ImageRead.asked c.write_list.new.d.image) c.more_for.ensures.frame.layout (ap length c.as_slice-2.ensures.value)
+    (subst (λ (l : List ℕ). length c.in_ok-more.more.items ≤ length l + 1) c.as_slice.ensures.value c.in_ok-more.ensures.few)
+    c.more_for.ensures.cost c.write_list.ensures.cost

@@ -1,7 +1,7 @@
 use Rattle.std.proofs.Common.{◌≡◌, true, rules, arith}
 use Rattle.std.proofs.lemmas.Int.{ints}
-use Rattle.prdb_entries.specs.Names.{is_user_name}
-use Rattle.prdb_entries.proofs.Registries.{user_is_record}
+use Rattle.prdb_layout.specs.Names.{is_user_name}
+use Rattle.prdb_layout.proofs.Registries.{user_is_record}
 use Rattle.protection_tests.proofs.records.user.Goals as goal
 
 pub returns : goal.returns

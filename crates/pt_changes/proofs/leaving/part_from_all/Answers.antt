@@ -1,7 +1,7 @@
 use Rattle.std.proofs.Common.{arith, rules}
 use Rattle.std.proofs.lemmas.Int.{to_z-of_z}
 use Rattle.std.proofs.lemmas.Result.{err_from_is_err_and}
-use Rattle.prdb_entries.proofs.Scanned.{drafts_then}
+use Rattle.prdb_layout.proofs.Scanned.{drafts_then}
 use Rattle.pt_service.proofs.Frames.{looked}
 use Rattle.pt_service.proofs.Named.{passed_id}
 use Rattle.pt_database.proofs.Counted.{elements_told}

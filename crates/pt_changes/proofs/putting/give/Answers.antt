@@ -1,7 +1,7 @@
 use Rattle.std.proofs.Common.{arith, rules}
 use Rattle.std.proofs.lemmas.Int.{to_z-of_z}
 use Rattle.std.proofs.lemmas.Result.{err_from_is_err_and}
-use Rattle.prdb_entries.proofs.Scanned.{drafts_then}
+use Rattle.prdb_layout.proofs.Scanned.{drafts_then}
 use Rattle.pt_service.proofs.Named.{passed_id}
 use Rattle.pt_service.proofs.Frames.{drafts_so}
 use Rattle.pt_changes.proofs.Giving.{giving_bytes, giving_fault, giving_more, giving_none}

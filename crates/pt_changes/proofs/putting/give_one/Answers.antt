@@ -1,7 +1,7 @@
 use Rattle.std.proofs.lemmas.Int.{to_z-of_z}
 use Rattle.std.proofs.lemmas.Result.{err_from_is_err_and}
-use Rattle.prdb_entries.specs.RecordEnds.{seen}
-use Rattle.prdb_entries.proofs.Scanned.{drafts_after}
+use Rattle.prdb_layout.specs.RecordEnds.{seen}
+use Rattle.prdb_layout.proofs.Scanned.{drafts_after}
 use Rattle.pt_service.proofs.Frames.{looked}
 use Rattle.pt_changes.specs.Leaving.{MayGive}
 use Rattle.pt_changes.proofs.Giving.{find_cause, gone_cause, one_bytes_ok, put_err}

@@ -1,9 +1,9 @@
 use Rattle.std.proofs.Common.{◌≡◌, Option}
 use Rattle.std.specs.Option.{option_map}
 use Rattle.std.proofs.lemmas.Int.{to_z-of_z}
-use Rattle.prdb_entries.specs.RecordEnds.{seen}
-use Rattle.prdb_entries.specs.Registry.{Registry}
-use Rattle.prdb_entries.specs.declared.records.PrEntry.{PrEntry}
+use Rattle.prdb_layout.specs.RecordEnds.{seen}
+use Rattle.prdb_layout.specs.Registry.{Registry}
+use Rattle.prdb_layout.specs.declared.records.PrEntry.{PrEntry}
 use Rattle.pt_database.proofs.States.{err_so, ok_so}
 use Rattle.pt_database.proofs.finds.entry_of.Goals as goal
 

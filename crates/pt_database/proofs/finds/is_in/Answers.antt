@@ -1,7 +1,7 @@
 use Rattle.std.proofs.Common.{◌≡◌, Bool}
 use Rattle.std.proofs.lemmas.Int.{to_z-of_z}
-use Rattle.prdb_entries.specs.Registry.{Registry}
-use Rattle.prdb_members.specs.Members.{Members}
+use Rattle.prdb_layout.specs.Registry.{Registry}
+use Rattle.prdb_lists.specs.Members.{Members}
 use Rattle.pt_database.proofs.States.{as_looks, pairs_ok}
 use Rattle.pt_database.proofs.finds.is_in.Goals as goal
 

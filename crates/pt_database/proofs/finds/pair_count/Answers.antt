@@ -1,7 +1,7 @@
 use Rattle.std.proofs.Common.{length, ap}
 use Rattle.std.proofs.lemmas.Int.{to_z-of_z}
 use Rattle.std.proofs.lemmas.Result.{err_from_is_err_and}
-use Rattle.prdb_entries.proofs.Scanned.{looks_so}
+use Rattle.prdb_layout.proofs.Scanned.{looks_so}
 use Rattle.pt_database.proofs.Counted.{count_cause, count_told, elements_told}
 use Rattle.pt_database.proofs.States.{as_looks}
 use Rattle.pt_database.proofs.finds.pair_count.Goals as goal

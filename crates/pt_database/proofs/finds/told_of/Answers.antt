@@ -1,5 +1,5 @@
 use Rattle.std.proofs.Common.{sym, subst}
-use Rattle.prdb_entries.specs.RecordEnds.{seen}
+use Rattle.prdb_layout.specs.RecordEnds.{seen}
 use Rattle.pt_service.proofs.Entries.{name_len}
 use Rattle.pt_database.specs.Pages.{HasShortName}
 use Rattle.pt_database.proofs.finds.told_of.Goals as goal

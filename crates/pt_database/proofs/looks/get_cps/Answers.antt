@@ -2,7 +2,7 @@ use Rattle.std.proofs.Common.{◌≤◌, length, refl, arith}
 use Rattle.std.specs.Prelude.{filter}
 use Rattle.std.proofs.lemmas.Int.{to_z-of_z}
 use Rattle.std.proofs.lemmas.Result.{err_from_is_err_and}
-use Rattle.prdb_entries.specs.State.{PrEntry}
+use Rattle.prdb_layout.specs.State.{PrEntry}
 use Rattle.pt_calls.specs.declared.answers.PtAnswer.TheVariants as answer
 use Rattle.pt_service.specs.Meaning.{Answers, counts_for}
 use Rattle.pt_service.specs.State.{State, ids}

@@ -1,7 +1,7 @@
 use Rattle.std.proofs.Common.{◌≤◌, ℕ, List, length, Option, refl, subst, arith}
 use Rattle.std.proofs.lemmas.Int.{to_z-of_z}
 use Rattle.std.proofs.lemmas.Result.{err_from_is_err_and}
-use Rattle.prdb_members.specs.Ends.{HasItsCause}
+use Rattle.prdb_lists.specs.Ends.{HasItsCause}
 use Rattle.pt_service.specs.State.{State}
 use Rattle.pt_database.proofs.Counted.{owned_few, owned_told}
 use Rattle.pt_database.proofs.Ended.{owned_ends, owned_refused}

@@ -1,8 +1,8 @@
 use Rattle.std.proofs.Common.{length, map, FitsSigned, ap, refl, arith, rules}
 use Rattle.std.specs.Int.{w32}
 use Rattle.std.proofs.lemmas.Int.{to_z-of_z}
-use Rattle.prdb_entries.specs.Names.{lowered}
-use Rattle.prdb_entries.specs.Registry.{Registry}
+use Rattle.prdb_layout.specs.Names.{lowered}
+use Rattle.prdb_layout.specs.Registry.{Registry}
 use Rattle.pt_calls.specs.declared.answers.PtAnswer.TheVariants as answer
 use Rattle.pt_calls.specs.declared.calls.PtCall.TheVariants as call
 use Rattle.pt_calls.specs.Meaning.{id_or_anonymous}

@@ -2,9 +2,9 @@ use Rattle.std.proofs.Common.{arith}
 use Rattle.std.specs.Prelude.{FitsSigned}
 use Rattle.std.specs.Int.{w32}
 use Rattle.std.proofs.lemmas.Int.{ints, to_z-of_z}
-use Rattle.prdb_entries.specs.RecordEnds.{seen}
-use Rattle.prdb_entries.specs.Records.{after_insert, after_set_maxima}
-use Rattle.prdb_entries.proofs.Becoming.{ok_then}
+use Rattle.prdb_layout.specs.RecordEnds.{seen}
+use Rattle.prdb_layout.specs.Records.{after_insert, after_set_maxima}
+use Rattle.prdb_layout.proofs.Becoming.{ok_then}
 use Rattle.pt_calls.proofs.NewUsers.{cause_then_err}
 use Rattle.pt_service.proofs.entering.enter.Goals as goal
 

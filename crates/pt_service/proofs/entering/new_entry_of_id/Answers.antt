@@ -3,9 +3,9 @@ use Rattle.std.specs.Prelude.{FitsSigned}
 use Rattle.std.specs.Int.{w32}
 use Rattle.std.proofs.lemmas.Int.{to_z-of_z}
 use Rattle.std.proofs.lemmas.Result.{err_from_is_err_and}
-use Rattle.prdb_entries.specs.Names.{lowered}
-use Rattle.prdb_entries.specs.RecordEnds.{seen}
-use Rattle.prdb_entries.specs.Registry.{AreMaxima}
+use Rattle.prdb_layout.specs.Names.{lowered}
+use Rattle.prdb_layout.specs.RecordEnds.{seen}
+use Rattle.prdb_layout.specs.Registry.{AreMaxima}
 use Rattle.pt_service.specs.State.{is_id}
 use Rattle.pt_service.proofs.Comes.{given_cause, given_comes, given_there}
 use Rattle.pt_service.proofs.Entered.{made_record, raised_are}

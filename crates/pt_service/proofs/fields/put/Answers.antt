@@ -2,7 +2,7 @@ use Rattle.std.proofs.Common.{arith, rules}
 use Rattle.std.specs.Prelude.{FitsSigned}
 use Rattle.std.specs.Int.{w32}
 use Rattle.std.proofs.lemmas.Int.{to_z-of_z}
-use Rattle.prdb_entries.specs.RecordEnds.{seen}
+use Rattle.prdb_layout.specs.RecordEnds.{seen}
 use Rattle.pt_service.proofs.Entries.{record_is}
 use Rattle.pt_service.proofs.Refitted.{refit_err}
 use Rattle.pt_service.proofs.fields.put.Goals as goal

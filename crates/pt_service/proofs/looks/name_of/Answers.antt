@@ -1,4 +1,4 @@
-use Rattle.prdb_entries.specs.RecordEnds.{seen}
+use Rattle.prdb_layout.specs.RecordEnds.{seen}
 use Rattle.pt_service.proofs.Entries.{name_len}
 use Rattle.pt_service.proofs.looks.name_of.Goals as goal
 

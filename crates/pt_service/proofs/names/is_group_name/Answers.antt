@@ -1,7 +1,7 @@
 use Rattle.std.proofs.Common.{◌≡◌, ℕ, ◌+◌, ◌-◌, ◌≤◌, Bool, true, List, length, not, ◌&&◌, take, drop, sym, ap, ◌∙◌, arith}
 use Rattle.std.specs.Str.{bytes_eq}
 use Rattle.std.proofs.lemmas.List.{length-drop, take_all}
-use Rattle.prdb_entries.specs.Registry.{is_text}
+use Rattle.prdb_layout.specs.Registry.{is_text}
 use Rattle.pt_service.specs.Names.{system}
 use Rattle.pt_service.proofs.GroupNames.{with_colon, without_colon}
 use Rattle.pt_service.proofs.names.is_group_name.Goals as goal

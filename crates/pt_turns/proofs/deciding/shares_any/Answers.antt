@@ -1,6 +1,6 @@
 use Rattle.std.proofs.Common.{arith, rules}
 use Rattle.std.proofs.lemmas.Int.{to_z-of_z}
-use Rattle.prdb_entries.specs.RecordEnds.{seen}
+use Rattle.prdb_layout.specs.RecordEnds.{seen}
 use Rattle.pt_service.proofs.Named.{passed_id}
 use Rattle.pt_turns.proofs.Shared.{sharing_all, sharing_more, sharing_none, sharing_one}
 use Rattle.pt_turns.proofs.deciding.shares_any.Goals as goal

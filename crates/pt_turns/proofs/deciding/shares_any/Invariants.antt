@@ -1,4 +1,4 @@
-use Rattle.prdb_entries.specs.RecordEnds.{seen}
+use Rattle.prdb_layout.specs.RecordEnds.{seen}
 use Rattle.pt_turns.proofs.Shared.{Sharing}
 use Rattle.pt_turns.proofs.deciding.shares_any.Given as goal
 

@@ -6,8 +6,8 @@ use Rattle.std.specs.Str.{bytes_eq}
 use Rattle.std.proofs.lemmas.Bool.{false_from_ne_true}
 use Rattle.std.proofs.lemmas.Bool.Decides.{Decides-int_eq}
 use Rattle.std.proofs.lemmas.Int.{ints}
-use Rattle.prdb_entries.specs.RecordEnds.{seen}
-use Rattle.prdb_entries.specs.State.{PrEntry, front_of}
+use Rattle.prdb_layout.specs.RecordEnds.{seen}
+use Rattle.prdb_layout.specs.State.{PrEntry, front_of}
 use Rattle.pt_service.specs.Names.{with_front}
 use Rattle.pt_turns.specs.Deciding.{name_then}
 use Rattle.pt_changes.specs.Under.{is_under}

@@ -3,8 +3,8 @@ use Rattle.std.specs.Prelude.{FitsSigned}
 use Rattle.std.specs.Int.{w32}
 use Rattle.std.proofs.lemmas.Int.{to_z-of_z}
 use Rattle.std.proofs.lemmas.Result.{err_from_is_err_and}
-use Rattle.prdb_entries.specs.Names.{lowered}
-use Rattle.prdb_entries.specs.RecordEnds.{seen}
+use Rattle.prdb_layout.specs.Names.{lowered}
+use Rattle.prdb_layout.specs.RecordEnds.{seen}
 use Rattle.pt_service.proofs.Frames.{drafted_thrice, looked_thrice, no_disk}
 use Rattle.pt_turns.proofs.Decided.{Decides, maxima_cause, raised_good, turn_fault_cause, turn_made, turn_refused, turn_unknown}
 use Rattle.pt_turns.proofs.Fronting.{changed_then}

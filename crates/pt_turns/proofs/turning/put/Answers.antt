@@ -2,7 +2,7 @@ use Rattle.std.proofs.Common.{sym, ◌∙◌, rules, arith}
 use Rattle.std.specs.Prelude.{FitsSigned}
 use Rattle.std.specs.Int.{w32}
 use Rattle.std.proofs.lemmas.Int.{to_z-of_z}
-use Rattle.prdb_entries.specs.RecordEnds.{seen}
+use Rattle.prdb_layout.specs.RecordEnds.{seen}
 use Rattle.pt_service.proofs.Entries.{record_of}
 use Rattle.pt_turns.proofs.Fronting.{bad_name, nothing_left, stand_err}
 use Rattle.pt_turns.proofs.turning.put.Goals as goal

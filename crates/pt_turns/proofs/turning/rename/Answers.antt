@@ -1,8 +1,8 @@
 use Rattle.std.proofs.Common.{ap, ◌∙◌}
 use Rattle.std.proofs.lemmas.Int.{to_z-of_z}
 use Rattle.std.proofs.lemmas.Result.{err_from_is_err_and}
-use Rattle.prdb_entries.specs.RecordEnds.{seen}
-use Rattle.prdb_entries.specs.State.{front_of}
+use Rattle.prdb_layout.specs.RecordEnds.{seen}
+use Rattle.prdb_layout.specs.State.{front_of}
 use Rattle.pt_service.specs.State.{State}
 use Rattle.pt_service.proofs.Frames.{drafted}
 use Rattle.pt_changes.specs.Turning.{MayRename}

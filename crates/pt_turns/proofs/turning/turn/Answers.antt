@@ -6,7 +6,7 @@ use Rattle.std.proofs.lemmas.Bool.{false_from_ne_true}
 use Rattle.std.proofs.lemmas.Bool.Decides.{Decides-int_eq}
 use Rattle.std.proofs.lemmas.Int.{ints, to_z-of_z}
 use Rattle.std.proofs.lemmas.Result.{err_from_is_err_and}
-use Rattle.prdb_entries.specs.RecordEnds.{seen}
+use Rattle.prdb_layout.specs.RecordEnds.{seen}
 use Rattle.pt_turns.proofs.Fronting.{changed_then}
 use Rattle.pt_turns.proofs.Steps.{rename_cause, same_bytes, turn_err, turn_ok}
 use Rattle.pt_turns.proofs.turning.turn.Goals as goal

@@ -3,7 +3,7 @@ use Rattle.std.specs.Prelude.{FitsSigned}
 use Rattle.std.specs.Int.{w32}
 use Rattle.std.proofs.lemmas.Int.{to_z-of_z}
 use Rattle.std.proofs.lemmas.Result.{err_from_is_err_and}
-use Rattle.prdb_entries.specs.RecordEnds.{seen}
+use Rattle.prdb_layout.specs.RecordEnds.{seen}
 use Rattle.pt_changes.specs.Turning.{named}
 use Rattle.pt_changes.proofs.Giving.{find_cause}
 use Rattle.pt_turns.proofs.Fronting.{MayOne, gone_cause, id_of_good, one_bytes_ok, put_err}

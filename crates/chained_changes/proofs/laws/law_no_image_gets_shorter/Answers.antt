@@ -1,5 +1,0 @@
-use Rattle.chained_changes.proofs.Longer.{longer_insert, longer_remove, longer_replace}
-use Rattle.chained_changes.proofs.laws.law_no_image_gets_shorter.Goals as goal
-
-pub returns : goal.returns
-returns c = record { insert = longer_insert; replace = longer_replace; remove = longer_remove }

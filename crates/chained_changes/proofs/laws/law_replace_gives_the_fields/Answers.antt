@@ -1,5 +1,0 @@
-use Rattle.chained_changes.proofs.Empty.{holds_after}
-use Rattle.chained_changes.proofs.laws.law_replace_gives_the_fields.Goals as goal
-
-pub returns : goal.returns
-returns c = holds_after

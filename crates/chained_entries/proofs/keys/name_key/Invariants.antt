@@ -1,5 +1,0 @@
-use Rattle.std.proofs.Common.{◌≡◌, ◌%◌, sum, take}
-use Rattle.chained_entries.proofs.keys.name_key.Given as goal
-
-abbrev pub invariant-loop-byte : goal.invariant-loop-byte
-invariant-loop-byte l = l.key ≡ sum (take l.byte-index l.name) % 256

@@ -1,5 +1,0 @@
-use Rattle.chained_entries.proofs.FirstHolds.{empty_holds}
-use Rattle.chained_entries.proofs.laws.law_empty_image_holds_the_first.Goals as goal
-
-pub returns : goal.returns
-returns c = empty_holds

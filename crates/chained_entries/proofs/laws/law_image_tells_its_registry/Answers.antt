@@ -1,5 +1,0 @@
-use Rattle.chained_entries.proofs.Told.{registry_is}
-use Rattle.chained_entries.proofs.laws.law_image_tells_its_registry.Goals as goal
-
-pub returns : goal.returns
-returns c = registry_is

@@ -1,5 +1,0 @@
-use Rattle.chained_members.proofs.Ends.{join_holds}
-use Rattle.chained_members.proofs.laws.law_join_adds_the_pair.Goals as goal
-
-pub returns : goal.returns
-returns c = join_holds

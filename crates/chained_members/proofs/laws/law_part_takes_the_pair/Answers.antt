@@ -1,5 +1,0 @@
-use Rattle.chained_members.proofs.Ends.{part_holds}
-use Rattle.chained_members.proofs.laws.law_part_takes_the_pair.Goals as goal
-
-pub returns : goal.returns
-returns c = part_holds

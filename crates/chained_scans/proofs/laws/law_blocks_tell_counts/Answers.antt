@@ -1,5 +1,0 @@
-use Rattle.chained_scans.proofs.Told.{counted}
-use Rattle.chained_scans.proofs.laws.law_blocks_tell_counts.Goals as goal
-
-pub returns : goal.returns
-returns c = counted

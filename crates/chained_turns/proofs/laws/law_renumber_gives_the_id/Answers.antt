@@ -1,5 +1,0 @@
-use Rattle.chained_turns.proofs.Steps.{renumber_law}
-use Rattle.chained_turns.proofs.laws.law_renumber_gives_the_id.Goals as goal
-
-pub returns : goal.returns
-returns c = renumber_law

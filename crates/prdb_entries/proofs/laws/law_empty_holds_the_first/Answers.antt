@@ -1,5 +1,0 @@
-use Rattle.prdb_entries.proofs.FirstImage.{empty_holds}
-use Rattle.prdb_entries.proofs.laws.law_empty_holds_the_first.Goals as goal
-
-pub returns : goal.returns
-returns c = empty_holds

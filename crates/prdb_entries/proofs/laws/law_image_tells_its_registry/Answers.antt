@@ -1,5 +1,0 @@
-use Rattle.prdb_entries.proofs.Told.{registry_told}
-use Rattle.prdb_entries.proofs.laws.law_image_tells_its_registry.Goals as goal
-
-pub returns : goal.returns
-returns c = registry_told

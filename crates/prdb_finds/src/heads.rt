@@ -1,0 +1,58 @@
+//! The head of the protection database's image: the two maxima.
+ghost use Rattle.std.specs.Prelude.{◌≡◌, ◌+◌, ◌*◌, ◌<◌, ◌≤◌, ◌^◌, ◌↔◌, IsTrue, IfSome, IfOk, IfErr, IsErrOf, length};
+ghost use Rattle.db_chains.specs.Ends.{LooksAtMost};
+ghost use Rattle.prdb_layout.specs.Records.{maxima_in, signed_at};
+ghost use Rattle.prdb_layout.specs.Registry.{AreMaxima, Registry};
+ghost use Rattle.prdb_lists.specs.Members.{Members};
+ghost use Rattle.prdb_finds.specs.Ends.{HasItsCause};
+ghost use Rattle.prdb_finds.specs.Records.{Holds, whole};
+
+use crate::places::HEAD_LEN;
+use db_blocks::{block_count, word_at};
+use db_image::{Draft, ImageRead, RecordFault};
+use ubik_types::WORD_LEN;
+
+/// Where the greatest user id that was given stands in the head, and behind it the least group id.
+pub(crate) const MAX_USER_AT: u32 = 8;
+
+/// The least group id of the first entries.
+const MAX_GROUP: i32 = -205;
+
+/// The signed number at a place.
+fn signed_at(bytes: &[u8], at: usize) -> i32
+    requires { at + WORD_LEN ≤ length bytes.now }
+    ensures { result ≡ signed_at bytes.now at }
+{
+    word_at(bytes, at).cast_signed()
+}
+
+/// Whether these are maxima that a registry may have.
+fn are_maxima(user: i32, group: i32) -> bool
+    ensures { IsTrue result ↔ AreMaxima user group }
+{
+    user >= 0 && group > i32::MIN && group < 0
+}
+
+/// The maximum user id and the maximum group id. A bad record stands at the first of them where one is out of range.
+pub fn maxima<I: ImageRead>(d: &mut Draft<I>) -> Result<(i32, i32), RecordFault>
+    requires { d.old.len < 2 ^ 31 }
+    ensures found { IfOk result (λ found. IfSome d.old.bytes
+        (λ image. (r : Registry) (m : Members) → Holds image r m → found ≡ (r.max_user, r.max_group))) }
+    ensures exact { IfOk result (λ found. IfSome d.old.bytes (λ image. found ≡ maxima_in (whole image))) }
+    ensures range { IfOk result (λ found. AreMaxima found.0 found.1) }
+    ensures fault { IfErr result (HasItsCause d.old.bytes) }
+    ensures frame { LooksAtMost I.ImageRead (2 * WORD_LEN) d.old d.new (IsErrOf result RecordFault.DiskFault) }
+{
+    if d.len() == 0 {
+        return Ok((0, MAX_GROUP));
+    }
+    block_count(HEAD_LEN, d.len())?;
+    let mut words = [0; 2 * WORD_LEN];
+    d.read(MAX_USER_AT, &mut words).done()?;
+    let user = signed_at(&words, 0);
+    let group = signed_at(&words, WORD_LEN);
+    if !are_maxima(user, group) {
+        return Err(RecordFault::BadRecord { at: MAX_USER_AT });
+    }
+    Ok((user, group))
+}

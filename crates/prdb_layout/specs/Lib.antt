@@ -1,0 +1,9 @@
+pub mod Bytes
+pub mod Names
+pub mod State
+pub mod Meaning
+pub mod Layout
+pub mod Blocks
+pub mod Registry
+pub mod Records
+pub mod RecordEnds

@@ -1,0 +1,17 @@
+//! The protection database's entries: the records over a draft.
+#![tactic(auto)]
+
+mod blocks;
+mod entries;
+mod laws;
+mod names;
+mod records;
+mod scans;
+
+pub use entries::initial_image;
+pub use laws::{law_empty_holds_the_first, law_image_tells_its_registry};
+pub use names::is_user_name;
+pub use records::{
+    PrEntry, draft_over, find_id, find_name, insert, maxima, remove, replace, set_maxima,
+    with_fields,
+};

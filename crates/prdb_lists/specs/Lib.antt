@@ -1,0 +1,10 @@
+pub mod Found
+pub mod Blocks
+pub mod Members
+pub mod Lists
+pub mod Layout
+pub mod Ends
+pub mod Sought
+pub mod Changes
+pub mod Moves
+pub mod Sides

@@ -1,0 +1,134 @@
+//! Whether an entry is looked for, and the ids of all that are.
+ghost use Rattle.std.specs.Prelude.{◌≡◌, ◌+◌, ◌<◌, ◌≤◌, ◌^◌, ◌↔◌, ℤ, IfSome, IfOk, IfErr, IsErrOf};
+ghost use Rattle.std.specs.List.{Contains};
+ghost use Rattle.db_image.specs.Asked.{AsksAtMost};
+ghost use Rattle.db_blocks.specs.Ascending.{AreGood};
+ghost use Rattle.db_blocks.specs.Ends.{HasCause, OnlyLooks};
+ghost use Rattle.prdb_layout.specs.Registry.{Registry};
+ghost use Rattle.prdb_lists.specs.Members.{Members};
+ghost use Rattle.entry_scans.specs.Found.{IsMetAt, TellsWhether};
+ghost use Rattle.entry_scans.specs.Lists.{IsAscending, IsListOf};
+ghost use Rattle.entry_scans.specs.Pages.{is_kind};
+ghost use Rattle.prdb_finds.specs.Ends.{HasItsCause};
+ghost use Rattle.prdb_finds.specs.Records.{Holds};
+ghost use Rattle.prdb_finds.specs.declared.places.TheConstants.{HEAD_LEN};
+ghost use Rattle.prdb_scans.specs.Passes.{AreIds, HasSought};
+
+use crate::first::first_draft;
+use crate::sought::{MORE, is_sought, kind_of};
+use prdb_finds::HEAD_LEN;
+use db_blocks::{Block, Wanted, block_count, block_place, read_block, scan};
+use db_image::{Draft, ImageRead, RecordFault};
+use entry_scans::{Sought, entry_in};
+use std::alloc::Global;
+
+/// What ends a pass: an entry that is looked for, or a block of no kind.
+#[derive(Drop)]
+struct Ending<'a, S: Sought> {
+    sought: &'a S,
+}
+
+impl<'a, S: Sought> Wanted for Ending<'a, S> {
+    ghost use Rattle.prdb_scans.specs.Passes.{ends};
+
+    ghost test = { λ ending. ends (S.test ending.sought.now) };
+
+    fn is_met(&self, block: &Block) -> bool {
+        kind_of(block) > MORE || is_sought(self.sought, block)
+    }
+}
+
+/// Whether some entry of a draft that is not empty is looked for.
+fn pass<I: ImageRead, S: Sought>(d: &mut Draft<I>, sought: &S) -> Result<bool, RecordFault>
+    requires { d.old.len < 2 ^ 31 }
+    ensures found { IfOk result (λ there. IfSome d.old.bytes (HasSought (S.test sought.now) there)) }
+    ensures fault { IfErr result (HasCause d.old.bytes (AreGood HEAD_LEN is_kind)) }
+    ensures frame { OnlyLooks I.ImageRead d.old d.new (IsErrOf result RecordFault.DiskFault) }
+{
+    let Some(found) = scan(d, HEAD_LEN, &Ending { sought })? else {
+        return Ok(false);
+    };
+    if kind_of(&found.block) > MORE {
+        let at = block_place(HEAD_LEN, found.number);
+        return Err(RecordFault::BadRecord { at });
+    }
+    Ok(true)
+}
+
+/// Whether some entry is looked for; an empty draft is read as the first image. The pass ends at
+/// the first.
+pub fn has_entry<I: ImageRead, S: Sought>(
+    alloc: Global,
+    d: &mut Draft<I>,
+    sought: &S,
+) -> Result<bool, RecordFault>
+    requires { d.old.len < 2 ^ 31 }
+    ensures found { IfOk result (λ there. IfSome d.old.bytes (λ image. (r : Registry) (m : Members) → Holds image r m
+        → TellsWhether (S.test sought.now) r there)) }
+    ensures fault { IfErr result (HasItsCause d.old.bytes) }
+    ensures frame { OnlyLooks I.ImageRead d.old d.new (IsErrOf result RecordFault.DiskFault) }
+{
+    if d.len() > 0 {
+        return pass(d, sought);
+    }
+    pass(&mut first_draft(alloc)?, sought)
+}
+
+/// Puts ids into their order, each once.
+fn put_in_order(ids: &mut Vec<i32>)
+    ensures ascending { IsAscending ids.new.items }
+    ensures same { (id : ℤ) → Contains ids.new.items id ↔ Contains ids.old.items id }
+{
+    ids.sort_unstable();
+    ids.dedup();
+}
+
+/// The ids of the entries that are looked for, in a draft that is not empty.
+fn pass_ids<I: ImageRead, S: Sought>(
+    alloc: Global,
+    d: &mut Draft<I>,
+    sought: &S,
+) -> Result<Vec<i32>, RecordFault>
+    requires { d.old.len < 2 ^ 31 }
+    ensures found { IfOk result (λ ids. IfSome d.old.bytes (AreIds (S.test sought.now) ids.items)) }
+    ensures ascending { IfOk result (λ ids. IsAscending ids.items) }
+    ensures fault { IfErr result (HasCause d.old.bytes (AreGood HEAD_LEN is_kind)) }
+    ensures frame { OnlyLooks I.ImageRead d.old d.new (IsErrOf result RecordFault.DiskFault) }
+    ensures cost { AsksAtMost d.old.len (I.asked d.old.image) (I.asked d.new.image) }
+{
+    let count = block_count(HEAD_LEN, d.len())?;
+    let mut ids = Vec::new(alloc);
+    for number in 0..count {
+        let block = read_block(d, HEAD_LEN, number)?;
+        if kind_of(&block) > MORE {
+            let at = block_place(HEAD_LEN, number);
+            return Err(RecordFault::BadRecord { at });
+        }
+        if is_sought(sought, &block) {
+            ids.push(entry_in(&block).id)?;
+        }
+    }
+    put_in_order(&mut ids);
+    Ok(ids)
+}
+
+/// The ids of the entries that are looked for, ascending; an empty draft is read as the first
+/// image. An id that stands in two blocks of a damaged image is told once.
+pub fn ids_where<I: ImageRead, S: Sought>(
+    alloc: Global,
+    d: &mut Draft<I>,
+    sought: &S,
+) -> Result<Vec<i32>, RecordFault>
+    requires { d.old.len < 2 ^ 31 }
+    ensures found { IfOk result (λ ids. IfSome d.old.bytes (λ image. (r : Registry) (m : Members) → Holds image r m
+        → IsListOf (IsMetAt (S.test sought.now) r) ids.items)) }
+    ensures ascending { IfOk result (λ ids. IsAscending ids.items) }
+    ensures fault { IfErr result (HasItsCause d.old.bytes) }
+    ensures frame { OnlyLooks I.ImageRead d.old d.new (IsErrOf result RecordFault.DiskFault) }
+    ensures cost { AsksAtMost d.old.len (I.asked d.old.image) (I.asked d.new.image) }
+{
+    if d.len() > 0 {
+        return pass_ids(alloc, d, sought);
+    }
+    pass_ids(alloc, &mut first_draft(alloc)?, sought)
+}
