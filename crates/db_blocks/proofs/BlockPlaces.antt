@@ -1,5 +1,5 @@
 -- Blocks that are laid into an image, and those that stay.
-use Rattle.std.proofs.Common.{◌≡◌, ◌≢◌, ℕ, ◌+◌, ◌-◌, ◌<◌, ◌≤◌, List, ◌++◌, length, slice_index, take, drop, replicate, sym, ap, subst, ◌∙◌, ⊎_elim, append_assoc, rules, arith}
+use Rattle.std.proofs.Common.{◌≡◌, ◌≢◌, ℕ, ◌+◌, ◌-◌, ◌<◌, ◌≤◌, List, ◌++◌, length, slice_index, take, drop, replicate, sym, ap, subst, ◌∙◌, ⊎_elim, append_assoc, rules, arith, ◌/◌, ◌⊎◌, ◌∷◌}
 use Rattle.std.proofs.lemmas.Bool.{cases_lt}
 use Rattle.std.proofs.lemmas.Grind.{same_number_lists}
 use Rattle.std.proofs.lemmas.List.{places, same_lists, take_at, drop_at, take-append-le, length-drop, length-take-le, get_or-take, get_or-drop}
@@ -17,30 +17,25 @@ changed_laid image bytes at within =
     ap (λ (front : List ℕ). front ++ bytes ++ drop (at + length bytes) image)
     (take-append-le at image (replicate (at - length image) 0) within)
 
-laid_before : (image bytes : List ℕ) (at i : ℕ) → at ≤ length image → i < at → slice_index (laid image at bytes) i ≡ slice_index image i
+pub laid_before : (image bytes : List ℕ) (at i : ℕ) → at ≤ length image → i < at → slice_index (laid image at bytes) i ≡ slice_index image i
 unfolding laid
 laid_before image bytes at i within before = grind (arith, places)
 
-laid_in : (image bytes : List ℕ) (at i : ℕ) → at ≤ length image → i < length bytes
-    → slice_index (laid image at bytes) (at + i) ≡ slice_index bytes i
-unfolding laid
-laid_in image bytes at i within inside = grind (arith, places)
-
-laid_behind : (image bytes : List ℕ) (at i : ℕ) → at + length bytes ≤ length image → at + length bytes ≤ i
+pub laid_behind : (image bytes : List ℕ) (at i : ℕ) → at + length bytes ≤ length image → at + length bytes ≤ i
     → slice_index (laid image at bytes) i ≡ slice_index image i
 unfolding laid
 laid_behind image bytes at i within behind = grind (arith, places)
 
-laid_len : (image bytes : List ℕ) (at : ℕ) → at + length bytes ≤ length image → length (laid image at bytes) ≡ length image
+pub laid_len : (image bytes : List ℕ) (at : ℕ) → at + length bytes ≤ length image → length (laid image at bytes) ≡ length image
 unfolding laid
 laid_len image bytes at within = grind (arith, places)
 
-laid_end : (image bytes : List ℕ) (at : ℕ) → length image ≡ at → length (laid image at bytes) ≡ at + length bytes
+pub laid_end : (image bytes : List ℕ) (at : ℕ) → length image ≡ at → length (laid image at bytes) ≡ at + length bytes
 unfolding laid
 laid_end image bytes at is = grind (arith, places)
 
 -- two images have the same bytes in a part
-part_same : (a b : List ℕ) (at len : ℕ) → at + len ≤ length a → at + len ≤ length b
+pub part_same : (a b : List ℕ) (at len : ℕ) → at + len ≤ length a → at + len ≤ length b
     → ((i : ℕ) → at ≤ i → i < at + len → slice_index a i ≡ slice_index b i) → take len (drop at a) ≡ take len (drop at b)
 part_same a b at len in_a in_b same =
     same_number_lists (take len (drop at a)) (take len (drop at b))
@@ -51,7 +46,7 @@ part_same a b at len in_a in_b same =
     get_or-take len (drop at a) k 0 short ∙ get_or-drop at a k 0 ∙ same (at + k) (omega arith) (omega arith)
     ∙ sym (get_or-take len (drop at b) k 0 short ∙ get_or-drop at b k 0))
 
-take_laid : (image bytes : List ℕ) (at m : ℕ) → at + length bytes ≤ m → m ≤ length image
+pub take_laid : (image bytes : List ℕ) (at m : ℕ) → at + length bytes ≤ m → m ≤ length image
     → take m (laid image at bytes) ≡ laid (take m image) at bytes
 unfolding laid
 take_laid image bytes at m fits within = same_lists _ _ (search (rules, places)) (λ k d h. grind (arith, places))
@@ -83,14 +78,14 @@ apart head image bytes k j n size len within below other =
     (λ i from less. laid_behind image bytes (block_place head k) i (omega arith) (omega arith)))
     (cases_lt j k)
 
-here : (image bytes : List ℕ) (at : ℕ) → at ≤ length image → length bytes ≡ 192 → take 192 (drop at (laid image at bytes)) ≡ bytes
+pub here : (image bytes : List ℕ) (at : ℕ) → at ≤ length image → length bytes ≡ 192 → take 192 (drop at (laid image at bytes)) ≡ bytes
 unfolding laid
 here image bytes at within len =
     ap (λ (x : List ℕ). take 192 (drop at x)) (append_assoc (take at image) bytes (drop (at + length bytes) image))
     ∙ ap (take 192) (drop_at (take at image) (bytes ++ drop (at + length bytes) image) at (length-take-le at image within))
     ∙ take_at bytes (drop (at + length bytes) image) 192 len
 
-front : (image bytes : List ℕ) (at m : ℕ) → m ≤ at → at ≤ length image → take m (laid image at bytes) ≡ take m image
+pub front : (image bytes : List ℕ) (at m : ℕ) → m ≤ at → at ≤ length image → take m (laid image at bytes) ≡ take m image
 unfolding laid
 front image bytes at m before within = same_lists _ _ (search (rules, places)) (λ k d h. grind (arith, places))
 
@@ -145,7 +140,13 @@ head_put head image bytes old_head new_head at n size fits is made =
           (λ i from below. laid_behind image bytes at i (omega arith) (omega arith));
     }
 
-pub block_len : (head : ℕ) (image : List ℕ) (k n : ℕ) → length image ≡ block_place head n → k < n → length (block_in head image k) ≡ 192
-unfolding block_in
-block_len head image k n size below =
-    length-take-le 192 (drop (block_place head k) image) (omega (arith, length-drop (block_place head k) image))
+pub laid_out : (image bytes : List ℕ) (at i : ℕ) → at + length bytes ≤ length image → (i < at) ⊎ (at + length bytes ≤ i)
+    → slice_index (laid image at bytes) i ≡ slice_index image i
+unfolding laid
+laid_out image bytes at i within beside =
+    ⊎_elim (λ (before : i < at). grind (arith, places)) (λ (behind : at + length bytes ≤ i). grind (arith, places)) beside
+
+pub laid_in : (image bytes : List ℕ) (at i : ℕ) → at + length bytes ≤ length image → at ≤ i → i < at + length bytes
+    → slice_index (laid image at bytes) i ≡ slice_index bytes (i - at)
+unfolding laid
+laid_in image bytes at i within from below = grind (arith, places)

@@ -3,15 +3,7 @@ use Rattle.std.proofs.Common.{◌≡◌, ℕ, zero, suc, ◌+◌, ◌<◌, ◌�
 use Rattle.std.proofs.lemmas.Bool.{cases_eq}
 use Rattle.db_blocks.specs.Blocks.{first_from}
 
-less_step : (b : Bool) (a f : ℕ) → suc a ≤ f → a ≤ cond b a f
-less_step true a f h = omega arith
-less_step false a f h = omega arith
-
-first_less : (test : ℕ → Bool) (a n : ℕ) → a ≤ first_from test a n
-first_less test a zero = omega arith
-first_less test a (suc n) = less_step (test a) a (first_from test (suc a) n) (first_less test (suc a) n)
-
-within_step : (b : Bool) (a n f : ℕ) → f ≤ suc a + n → cond b a f ≤ a + suc n
+pub within_step : (b : Bool) (a n f : ℕ) → f ≤ suc a + n → cond b a f ≤ a + suc n
 within_step true a n f h = omega arith
 within_step false a n f h = omega arith
 
@@ -20,7 +12,7 @@ first_within test a zero = omega arith
 first_within test a (suc n) = within_step (test a) a n (first_from test (suc a) n) (first_within test (suc a) n)
 
 -- before it the test does not hold
-not_step : (b : Bool) (a j f : ℕ) (P : Type 0) → j < cond b a f → a ≤ j → (j ≡ a → b ≡ false → P) → (suc a ≤ j → j < f → P) → P
+pub not_step : (b : Bool) (a j f : ℕ) (P : Type 0) → j < cond b a f → a ≤ j → (j ≡ a → b ≡ false → P) → (suc a ≤ j → j < f → P) → P
 not_step true a j f P below from here later = absurd (omega arith)
 not_step false a j f P below from here later =
     ⊎_elim (λ (same : j ≡ a). here same refl) (λ (other : j ≡ a → ⊥). later (omega arith) below) (cases_eq j a)
@@ -33,7 +25,7 @@ first_not test a (suc n) j from below =
     (λ later less. first_not test (suc a) n j later less)
 
 -- and at it the test holds
-met_step : (b : Bool) (test : ℕ → Bool) (a n f : ℕ) → test a ≡ b → cond b a f < a + suc n → (f < suc a + n → test f ≡ true)
+pub met_step : (b : Bool) (test : ℕ → Bool) (a n f : ℕ) → test a ≡ b → cond b a f < a + suc n → (f < suc a + n → test f ≡ true)
     → test (cond b a f) ≡ true
 met_step true test a n f here below later = here
 met_step false test a n f here below later = later (omega arith)
@@ -43,7 +35,7 @@ first_met test a zero below = absurd (omega arith)
 first_met test a (suc n) below = met_step (test a) test a n (first_from test (suc a) n) refl below (first_met test (suc a) n)
 
 -- so a scan finds it
-at_step : (b : Bool) (a f k : ℕ) → (a ≡ k → b ≡ true) → (a < k → b ≡ false) → a ≤ k → (suc a ≤ k → f ≡ k) → cond b a f ≡ k
+pub at_step : (b : Bool) (a f k : ℕ) → (a ≡ k → b ≡ true) → (a < k → b ≡ false) → a ≤ k → (suc a ≤ k → f ≡ k) → cond b a f ≡ k
 at_step true a f k here before from later =
     ⊎_elim (λ (same : a ≡ k). same) (λ (other : a ≡ k → ⊥). let no = before (omega arith) in absurd cc) (cases_eq a k)
 at_step false a f k here before from later =
@@ -56,7 +48,7 @@ first_at test a (suc n) k from below before here =
     at_step (test a) a (first_from test (suc a) n) k (λ same. rw same here) (λ less. before a (omega arith) less) from
     (λ later. first_at test (suc a) n k later (omega arith) (λ j h less. before j (omega arith) less) here)
 
-none_step : (b : Bool) (a n f : ℕ) → b ≡ false → f ≡ suc a + n → cond b a f ≡ a + suc n
+pub none_step : (b : Bool) (a n f : ℕ) → b ≡ false → f ≡ suc a + n → cond b a f ≡ a + suc n
 none_step true a n f fails later = absurd cc
 none_step false a n f fails later = omega arith
 

@@ -2,21 +2,20 @@
 use Rattle.std.proofs.Common.{◌≡◌, ℕ, zero, suc, ◌+◌, ◌*◌, ◌<◌, ◌≤◌, Bool, true, false, cond, List, [], ◌∷◌, ◌++◌, map, take, Option, Some, None, IfSome, Result, Ok, Err, IfOk, length, get_or, refl, sym, ap, subst, ◌∙◌, arith}
 use Rattle.std.specs.List.{AllByRecursion}
 use Rattle.std.specs.List.Sorted.{IsNonDecreasingBy}
-use Rattle.std.proofs.lemmas.List.{length-append, length-take, take_all, take-map}
-use Rattle.std.proofs.lemmas.List.Sorted.{IsNonDecreasingBy-short}
+use Rattle.std.proofs.lemmas.List.{length-append, length-take, take-map}
 use Rattle.db_image.specs.Asked.{AsksAtMost}
 use Rattle.db_image.specs.Draft.{Drafted}
 use Rattle.db_image.specs.declared.faults.RecordFault.{RecordFault}
 use Rattle.db_image.specs.declared.faults.RecordFault.TheVariants.{BadRecord, DiskFault, NoMemory}
 use Rattle.db_image.specs.declared.images.ImageRead.{Ghosts}
-use Rattle.db_image.proofs.ReadSteps.{asks_none, asks_then}
-use Rattle.db_blocks.specs.Ascending.{AreGood, ascending, first_blocks, numbers_met, put_by}
-use Rattle.db_blocks.specs.Blocks.{IsWhole, block_count, block_in, block_place}
+use Rattle.db_image.proofs.ReadSteps.{asks_then}
+use Rattle.db_blocks.specs.Ascending.{AreGood, ascending, numbers_met, put_by}
+use Rattle.db_blocks.specs.Blocks.{IsWhole, block_in, block_place}
 use Rattle.db_blocks.specs.Ends.{HasCause, OnlyLooks}
 use Rattle.db_blocks.specs.Kept.{AreWithin}
 use Rattle.db_blocks.specs.declared.keyed.Kept.{Kept}
 use Rattle.db_blocks.proofs.Ascending.{all_put, all_take, map_put, take_put}
-use Rattle.db_blocks.proofs.Scanned.{count_is, looks_none, looks_so, looks_then}
+use Rattle.db_blocks.proofs.Scanned.{count_is, looks_so, looks_then}
 
 -- what is looked for
 pub record Sort : Type 0 where
@@ -47,26 +46,6 @@ pub record Keeping {I : Type 0} (g : Ghosts I) (first now : Drafted I) (w : Sort
   pub few : length kept ≤ w.most
   pub within : AllByRecursion (λ k. k.number < count) kept
   pub found : IfSome first.bytes (λ image. IsKept w image done kept)
-
-take_none : {X : Type 0} (n : ℕ) → [] ≡ take {A = X} n []
-take_none zero = refl
-take_none (suc n) = refl
-
-found_none : (bytes : Option (List ℕ)) (w : Sort) → IfSome bytes (λ image. IsKept w image 0 [])
-found_none None w = tt
-found_none (Some image) w = ap (map (kept_as w image)) (take_none w.most)
-
-pub keeping_none : {I : Type 0} (g : Ghosts I) (d : Drafted I) (w : Sort) (kept : List Kept) (count : ℕ) → kept ≡ []
-    → IfSome d.bytes (λ image. length image ≡ block_place w.head count) → Keeping g d d w kept count 0
-keeping_none g d w kept count none told = subst (λ (ks : List Kept). Keeping g d d w ks count 0) (sym none) (record {
-  frame = looks_none g d ⊥ (λ h. h);
-  cost = asks_none 0 (g.asked d.image);
-  told = told;
-  order = IsNonDecreasingBy-short key_of [] (omega arith);
-  few = omega arith;
-  within = tt;
-  found = found_none d.bytes w;
-})
 
 -- a block that is not looked for
 past_step : (b : Bool) (xs ys : List ℕ) → b ≡ false → ys ≡ cond b xs ys
@@ -184,45 +163,7 @@ pub keeping_within : {I : Type 0} (g : Ghosts I) (first now : Drafted I) (w : So
     → Keeping g first now w kept count done → AreWithin w.head len kept
 keeping_within g first now w kept count done len size k = all_within w.head len count kept size k.within
 
-pub keeping_cost : {I : Type 0} (g : Ghosts I) (first now : Drafted I) (w : Sort) (kept : List Kept) (count done : ℕ) (len : ℕ)
-    → 192 * done ≤ len
-    → Keeping g first now w kept count done → AsksAtMost len (g.asked first.image) (g.asked now.image)
-keeping_cost g first now w kept count done len fits k =
-    asks_then (192 * done) 0 len (g.asked first.image) (g.asked now.image) (g.asked now.image) k.cost (asks_none 0 (g.asked now.image))
-    (omega arith)
-
--- one more block was read
-pub keeping_read : {I : Type 0} (g : Ghosts I) (first now next : Drafted I) (w : Sort) (kept : List Kept) (count done : ℕ) (len : ℕ)
-    → 192 * (done + 1) ≤ len
-    → Keeping g first now w kept count done → AsksAtMost 192 (g.asked now.image) (g.asked next.image)
-    → AsksAtMost len (g.asked first.image) (g.asked next.image)
-keeping_read g first now next w kept count done len fits k cost =
-    asks_then (192 * done) 192 len (g.asked first.image) (g.asked now.image) (g.asked next.image) k.cost cost (omega arith)
-
 -- ---- a bad record
-
-both : (b : Bool) → b ≡ true → b ≡ false → ⊥
-both true is not = absurd cc
-both false is not = absurd cc
-
-bad_at : (bytes : Option (List ℕ)) (head count done : ℕ) (fits : List ℕ → Bool) (block : List ℕ) (fault : RecordFault) (at : ℕ)
-    → fault ≡ BadRecord at
-    → IfSome bytes (λ image. length image ≡ block_place head count) → done < count
-    → IfSome bytes (λ image. block ≡ block_in head image done)
-    → fits block ≡ false → HasCause bytes (AreGood head fits) fault
-bad_at None head count done fits block fault at is told below here fails = subst (HasCause None (AreGood head fits)) (sym is) tt
-bad_at (Some image) head count done fits block fault at is told below here fails =
-    subst (HasCause (Some image) (AreGood head fits)) (sym is) (λ good.
-    let n : block_count head image ≡ count = count_is head image count told in
-    both (fits block) (ap fits here ∙ good.each done (omega arith)) fails)
-
-pub keeping_bad : {I : Type 0} (g : Ghosts I) (first now : Drafted I) (w : Sort) (kept : List Kept) (count done : ℕ) (fits : List ℕ
-    → Bool) (block : List ℕ) (at : ℕ)
-    → Keeping g first now w kept count done → done < count → IfSome now.bytes (λ image. block ≡ block_in w.head image done)
-    → fits block ≡ false → HasCause first.bytes (AreGood w.head fits) (BadRecord at)
-keeping_bad g first now w kept count done fits block at k below here fails =
-    bad_at first.bytes w.head count done fits block (BadRecord at) at refl k.told below
-    (subst (λ (b : Option (List ℕ)). IfSome b (λ image. block ≡ block_in w.head image done)) k.frame.same.bytes here) fails
 
 -- an image of another length has no such blocks
 pub bad_so : (bytes : Option (List ℕ)) (head : ℕ) (fits : List ℕ → Bool) (fault : RecordFault) → HasCause bytes (IsWhole head) fault
@@ -240,16 +181,6 @@ pub record Reading {I : Type 0} (g : Ghosts I) (first now : Drafted I) (head : �
   pub cost : AsksAtMost (192 * done) (g.asked first.image) (g.asked now.image)
   pub count : length blocks ≡ done
   pub found : IfSome first.bytes (λ image. blocks ≡ map (block_in head image) (map (λ (k : Kept). k.number) (take done kept)))
-
-read_none : (bytes : Option (List ℕ)) (head : ℕ) (kept : List Kept)
-    → IfSome bytes (λ image. [] ≡ map (block_in head image) (map (λ (k : Kept). k.number) (take 0 kept)))
-read_none None head kept = tt
-read_none (Some image) head kept = refl
-
-pub reading_none : {I : Type 0} (g : Ghosts I) (d : Drafted I) (head : ℕ) (kept : List Kept) (blocks : List (List ℕ)) → blocks ≡ []
-    → Reading g d d head kept blocks 0
-reading_none g d head kept blocks none = subst (λ (bs : List (List ℕ)). Reading g d d head kept bs 0) (sym none)
-    (record { frame = looks_none g d ⊥ (λ h. h); cost = asks_none 0 (g.asked d.image); count = refl; found = read_none d.bytes head kept })
 
 take_next : (f : Kept → List ℕ) (kept : List Kept) (i : ℕ) (d : Kept) → i < length kept
     → map f (take (suc i) kept) ≡ map f (take i kept) ++ f (get_or kept i d) ∷ []
@@ -290,43 +221,7 @@ reading_more g first now next head kept blocks after block i d failed r looks co
       (get_or kept i d).number)) r.frame.same.bytes is) push r.found;
 }
 
-read_all : (bytes : Option (List ℕ)) (head : ℕ) (kept : List Kept) (blocks : List (List ℕ)) (done : ℕ) → done ≡ length kept
-    → IfSome bytes (λ image. blocks ≡ map (block_in head image) (map (λ (k : Kept). k.number) (take done kept)))
-    → IfSome bytes (λ image. blocks ≡ map (block_in head image) (map (λ (k : Kept). k.number) kept))
-read_all None head kept blocks done all so = tt
-read_all (Some image) head kept blocks done all so =
-    so ∙ ap (λ (ks : List Kept). map (block_in head image) (map (λ (k : Kept). k.number) ks)) (take_all done kept (omega arith))
-
-pub reading_all : {I : Type 0} (g : Ghosts I) (first now : Drafted I) (head : ℕ) (kept : List Kept) (blocks : List (List ℕ)) (done : ℕ)
-    → done ≡ length kept
-    → Reading g first now head kept blocks done
-    → IfSome first.bytes (λ image. blocks ≡ map (block_in head image) (map (λ (k : Kept). k.number) kept))
-reading_all g first now head kept blocks done all r = read_all first.bytes head kept blocks done all r.found
-
-pub reading_cost : {I : Type 0} (g : Ghosts I) (first now next : Drafted I) (head : ℕ) (kept : List Kept) (blocks : List (List ℕ))
-    (done more : ℕ) → done + more ≤ length kept
-    → Reading g first now head kept blocks done → AsksAtMost (192 * more) (g.asked now.image) (g.asked next.image)
-    → AsksAtMost (192 * length kept) (g.asked first.image) (g.asked next.image)
-reading_cost g first now next head kept blocks done more fits r cost =
-    asks_then (192 * done) (192 * more) (192 * length kept) (g.asked first.image) (g.asked now.image) (g.asked next.image) r.cost cost
-    (omega arith)
-
 -- ---- what was found, by what was kept and read
-
-pub blocks_are : (bytes : Option (List ℕ)) (head most : ℕ) (test : List ℕ → Bool) (key : List ℕ
-    → ℕ) (kept : List Kept) (blocks : List (List ℕ))
-    → IfSome bytes (λ image. map (λ (k : Kept). k.number) kept ≡ take most (numbers_met head test key image))
-    → IfSome bytes (λ image. blocks ≡ map (block_in head image) (map (λ (k : Kept). k.number) kept))
-    → IfSome bytes (λ image. blocks ≡ first_blocks head test key most image)
-blocks_are None head most test key kept blocks are read = tt
-blocks_are (Some image) head most test key kept blocks are read = read ∙ ap (map (block_in head image)) are
-
-pub read_so : (bytes : Option (List ℕ)) (head : ℕ) (fits : List ℕ → Bool) (fault : RecordFault) → HasCause bytes (λ image. Unit {0}) fault
-    → HasCause bytes (AreGood head fits) fault
-read_so bytes head fits DiskFault cause = tt
-read_so None head fits (BadRecord at) cause = tt
-read_so (Some image) head fits (BadRecord at) cause = absurd (cause tt)
-read_so bytes head fits NoMemory cause = tt
 
 pub few_so : {X : Type 0} (r : Result X RecordFault) (f : X → ℕ) (n most : ℕ) → n ≤ most → IfOk r (λ x. f x ≡ n) → IfOk r (λ x. f x ≤ most)
 few_so (Ok x) f n most fits is = omega arith

@@ -7,3 +7,4 @@ pub mod Maps
 pub mod Numbers
 pub mod Order
 pub mod Scanned
+pub mod Lengths

@@ -1,5 +1,5 @@
 -- Numbers in four places.
-use Rattle.std.proofs.Common.{◌≡◌, ℕ, ◌+◌, ◌*◌, ◌/◌, ◌%◌, ◌^◌, ◌<◌, List, [], ◌∷◌, ap, arith}
+use Rattle.std.proofs.Common.{◌≡◌, ℕ, ◌+◌, ◌*◌, ◌/◌, ◌%◌, ◌^◌, ◌<◌, [], ◌∷◌, ap, arith}
 use Rattle.std.specs.Int.{w32, byte_at, from_be_bytes}
 use Rattle.db_blocks.specs.Bytes.{number_word, word}
 

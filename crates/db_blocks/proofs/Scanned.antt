@@ -149,3 +149,17 @@ pub scan_none : {I : Type 0} (g : Ghosts I) (first now : Drafted I) (head : ℕ)
     → Scanned g first now head test count count
     → IfSome first.bytes (λ image. IsFirst head test image None)
 scan_none g first now head test count s = none_so first.bytes head test count s.told s.before
+
+-- one change after another
+pub drafts_then : {I : Type 0} (g : Ghosts I) (a b c : Drafted I) (first failed : Type 0) → OnlyDrafts g a b first → OnlyDrafts g b c failed
+    → OnlyDrafts g a c failed
+drafts_then g a b c first failed r s = record {
+  layout = s.layout ∙ r.layout;
+  reads = record {
+    held = s.reads.held ∙ r.reads.held;
+    size = s.reads.size ∙ r.reads.size;
+    came = g.comes_on a.image b.image c.image r.reads.came s.reads.came;
+    never_falls = omega (arith, r.reads.never_falls, s.reads.never_falls);
+    cause = λ h. omega (arith, r.reads.never_falls, s.reads.cause h);
+  };
+}

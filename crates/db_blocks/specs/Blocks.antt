@@ -1,10 +1,11 @@
 -- An image as a head and blocks of one length behind it, whatever its bytes are (own).
-use Rattle.std.specs.Prelude.{ℕ, zero, suc, ◌≡◌, ◌+◌, ◌-◌, ◌*◌, ◌/◌, ◌<◌, Bool, List, length, take, drop, Option, Some, None, if◌then◌else◌}
+use Rattle.std.specs.Prelude.{ℕ, zero, suc, ◌≡◌, ◌+◌, ◌-◌, ◌*◌, ◌/◌, ◌<◌, Bool, List, length, take, drop, Option, Some, None, if◌then◌else◌, ◌⊎◌, ◌&&◌, ◌==◌, ◌∷◌, ◌++◌}
 use Rattle.std.specs.Int.{w32, from_be_bytes}
 use Rattle.ubik_types.specs.Image.{changed}
 use Rattle.ubik_types.specs.declared.images.Change.TheVariants.{Put}
 use Rattle.db_blocks.specs.declared.blocks.TheConstants.{BLOCK_LEN}
 use Rattle.db_blocks.specs.declared.scans.Found.{Found}
+use Rattle.db_blocks.specs.Bytes.{zeros}
 
 -- the word that stands at a place
 abbrev pub word_at : List ℕ → ℕ → ℕ
@@ -44,3 +45,11 @@ IsFirst head test image (Some f) =
 -- the image in which a block is another one, or one more
 abbrev pub with_block : (head : ℕ) → ℕ → List ℕ → List ℕ → List ℕ
 with_block head k block image = changed image (Put (block_place head k) block)
+
+-- what a block is: 0 free, 1 an entry, 2 a continuation of an entry's pairs
+abbrev pub kind_of : List ℕ → ℕ
+kind_of block = word_at block 0
+
+-- bytes with so many zero bytes laid from a position on
+abbrev pub blanked : (at len : ℕ) → List ℕ → List ℕ
+blanked at len bytes = changed bytes (Put at (zeros len))

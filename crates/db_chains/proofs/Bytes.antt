@@ -2,13 +2,14 @@
 use Rattle.std.proofs.Common.{◌≡◌, ℕ, ◌+◌, ◌<◌, ◌≤◌, ◌⊎◌, List, ◌++◌, length, slice_index, take, drop, refl, sym, ap, subst, ◌∙◌, ⊎_elim, append_assoc, arith}
 use Rattle.std.specs.Int.{w32, from_be_bytes}
 use Rattle.std.proofs.lemmas.Grind.{same_number_lists}
-use Rattle.std.proofs.lemmas.List.{places, take_at, drop_at, length-drop, length-take-le, get_or-take, get_or-drop}
+use Rattle.std.proofs.lemmas.List.{take_at, drop_at, length-drop, length-take-le, get_or-take, get_or-drop}
 use Rattle.ubik_types.specs.Image.{changed}
 use Rattle.ubik_types.specs.declared.images.Change.TheVariants.{Put}
-use Rattle.db_blocks.specs.Blocks.{word_at}
-use Rattle.db_blocks.specs.Bytes.{number_word}
-use Rattle.db_blocks.proofs.BlockPlaces.{changed_laid, laid}
+use Rattle.db_blocks.specs.Blocks.{word_at, blanked}
+use Rattle.db_blocks.specs.Bytes.{number_word, zeros}
+use Rattle.db_blocks.proofs.BlockPlaces.{changed_laid, laid, laid_len, laid_before, laid_behind}
 use Rattle.db_blocks.proofs.Numbers.{number_told}
+use Rattle.db_blocks.proofs.Lengths.{length-zeros}
 use Rattle.db_chains.specs.Changes.{put_word}
 
 -- an image is no shorter, and has other bytes in this range alone
@@ -20,19 +21,6 @@ pub record StaysBut (at len : ℕ) (old new : List ℕ) : Type 0 where
 -- a word lies apart from a range
 abbrev pub IsApart : (at len q : ℕ) → Type 0
 IsApart at len q = (q + 4 ≤ at) ⊎ (at + len ≤ q)
-
-laid_before : (image bytes : List ℕ) (at i : ℕ) → at ≤ length image → i < at → slice_index (laid image at bytes) i ≡ slice_index image i
-unfolding laid
-laid_before image bytes at i within before = grind (arith, places)
-
-laid_behind : (image bytes : List ℕ) (at i : ℕ) → at + length bytes ≤ length image → at + length bytes ≤ i
-    → slice_index (laid image at bytes) i ≡ slice_index image i
-unfolding laid
-laid_behind image bytes at i within behind = grind (arith, places)
-
-laid_len : (image bytes : List ℕ) (at : ℕ) → at + length bytes ≤ length image → length (laid image at bytes) ≡ length image
-unfolding laid
-laid_len image bytes at within = grind (arith, places)
 
 laid_here : (image bytes : List ℕ) (at : ℕ) → at ≤ length image → length bytes ≡ 4 → take 4 (drop at (laid image at bytes)) ≡ bytes
 unfolding laid
@@ -82,3 +70,11 @@ unfolding put_word
 word_here image at n within =
     ap (λ (b : List ℕ). from_be_bytes w32 (take 4 (drop at b))) (changed_laid image (number_word n) at (omega arith))
     ∙ ap (from_be_bytes w32) (laid_here image (number_word n) at (omega arith) refl) ∙ number_told n
+
+pub blanked_stays : (at len : ℕ) (bytes : List ℕ) → at + len ≤ length bytes → StaysBut at len bytes (blanked at len bytes)
+blanked_stays at len bytes within =
+    subst (λ (n : ℕ). StaysBut at n bytes (blanked at len bytes)) (length-zeros len) (put_stays bytes (zeros len) at (omega
+    (arith, length-zeros len)))
+
+pub blanked_len : (at len : ℕ) (bytes : List ℕ) → at + len ≤ length bytes → length (blanked at len bytes) ≡ length bytes
+blanked_len at len bytes within = put_len bytes (zeros len) at (omega (arith, length-zeros len))

@@ -38,14 +38,6 @@ bad_count (Some image) l test at len fault is told other =
     subst (IsBadWhere (Some image) (IsBad l test at)) (sym is)
     (inl (sym told, λ whole. other (block_count l.head image) (sym told ∙ whole)))
 
--- a fault that is no bad record
-pub no_bad : (bytes : Option (List ℕ)) (bad : List ℕ → ℕ → Type 0) (fault : RecordFault) → IsBadWhere bytes (λ image at. ⊥) fault
-    → IsBadWhere bytes bad fault
-no_bad bytes bad DiskFault cause = tt
-no_bad bytes bad NoMemory cause = tt
-no_bad None bad (BadRecord at) cause = tt
-no_bad (Some image) bad (BadRecord at) cause = absurd cause
-
 passed_none : (l : Links) (test : ℕ → List ℕ → Bool) (image : List ℕ) (place : ℕ) → passed l test image 0 place ≡ []
 unfolding passed
 passed_none l test image place = refl

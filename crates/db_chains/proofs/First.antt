@@ -19,10 +19,6 @@ none_at : (b : Bool) (w : ℕ) → b ≡ true → None ≡ cond b None (Some w)
 none_at true w is = refl
 none_at false w is = absurd cc
 
-some_at : (b : Bool) (w : ℕ) → b ≡ false → Some w ≡ cond b None (Some w)
-some_at true w is = absurd cc
-some_at false w is = refl
-
 keeps : (b : Bool) (x y : List ℕ) → b ≡ true → x ≡ cond b x y
 keeps true x y is = refl
 keeps false x y is = absurd cc
@@ -62,12 +58,6 @@ none_chain (Some image) b l at word step same stands none = λ ws chain.
     (all.0, subst (λ (o : Option (List ℕ)). IsSomeAnd o (λ new. HasChain l new at (drop 1 ws))) (sym same) all.1)
 
 -- ---- there is one
-
-pub some_word : (a : Option (List ℕ)) (at word : ℕ) → IfSome a (λ image. word ≡ word_at image at) → word ≢ 0
-    → IfSome a (λ image. Some word ≡ first_at image at)
-some_word None at word stands some = tt
-some_word (Some image) at word stands some =
-    ap Some stands ∙ some_at (word_at image at == 0) (word_at image at) (ne_eqb (word_at image at) 0 (λ none. some (stands ∙ none)))
 
 pub some_bytes : (a b c : Option (List ℕ)) (l : Links) (at word : ℕ) → b ≡ a → IfSome a (λ image. word ≡ word_at image at) → word ≢ 0
     → c ≡ option_map (taken_out l at) b → c ≡ option_map (without_first l at) a

@@ -1,5 +1,5 @@
 -- What the calls on free blocks say of a draft, where its bytes are told.
-use Rattle.std.proofs.Common.{◌≡◌, ◌≢◌, ℕ, ◌+◌, ◌-◌, ◌*◌, ◌<◌, ◌≤◌, Bool, true, false, cond, List, [], Option, Some, None, IfSome, length, drop, refl, sym, ap, subst, ◌∙◌, arith}
+use Rattle.std.proofs.Common.{◌≡◌, ◌≢◌, ℕ, ◌+◌, ◌-◌, ◌*◌, ◌<◌, ◌≤◌, Bool, true, false, cond, List, Option, Some, None, IfSome, length, drop, refl, sym, ap, subst, ◌∙◌, arith}
 use Rattle.std.specs.Prelude.{◌==◌, IsSomeAnd, slice_get}
 use Rattle.std.specs.List.{AllByRecursion}
 use Rattle.std.specs.Option.{option_map}
@@ -114,12 +114,6 @@ a_first f block image n some =
       is.1,
     )
 
-pub number_new : (a : Option (List ℕ)) (f : FreeBlocks) (count len : ℕ) → IfSome a (λ image. length image ≡ len)
-    → len ≡ block_place f.head count → IfSome a (λ image. None ≡ first_at image f.first)
-    → IfSome a (λ image. count + 1 ≡ next_number f image)
-number_new None f count len told size none = tt
-number_new (Some image) f count len told size none = (no_first f [] image count (told ∙ size) none).2
-
 pub bytes_taken_new : (a b c : Option (List ℕ)) (f : FreeBlocks) (block : List ℕ) (count len : ℕ) → IfSome a (λ image. length image ≡ len)
     → len ≡ block_place f.head count → IfSome a (λ image. None ≡ first_at image f.first)
     → b ≡ option_map (without_first (free_links f) f.first) a → c ≡ option_map (with_new f count block) b
@@ -143,11 +137,6 @@ is_taken_new (Some image) b c f block count len free told size full none first s
     some_and c (with_new f count block image) (IsTaken f block image (count + 1))
     (second ∙ ap (option_map (with_new f count block)) first ∙ ap (λ (x : List ℕ). Some (with_new f count block x)) n.0)
     (taken_new f block image count free (told ∙ size) full n.3)
-
-pub number_first : (a : Option (List ℕ)) (f : FreeBlocks) (n : ℕ) → IfSome a (λ image. Some n ≡ first_at image f.first)
-    → IfSome a (λ image. n ≡ next_number f image)
-number_first None f n some = tt
-number_first (Some image) f n some = (a_first f [] image n some).2
 
 pub bytes_taken_first : (a b c : Option (List ℕ)) (f : FreeBlocks) (block : List ℕ) (n place : ℕ) → place ≡ block_place f.head (n - 1)
     → IfSome a (λ image. Some n ≡ first_at image f.first) → b ≡ option_map (without_first (free_links f) f.first) a

@@ -29,10 +29,10 @@ split_at n (w ∷ ws) (suc i) below at =
     let s = split_at n ws i (omega arith) at in
     record { front = w ∷ s.front; back = s.back; all = ap (λ (t : List ℕ). w ∷ t) s.all }
 
-here : (w v : ℕ) (ws : List ℕ) → v ≡ w → Contains (w ∷ ws) v
+pub here : (w v : ℕ) (ws : List ℕ) → v ≡ w → Contains (w ∷ ws) v
 here w v ws same = (0, omega arith, sym same)
 
-later : (w v : ℕ) (ws : List ℕ) → Contains ws v → Contains (w ∷ ws) v
+pub later : (w v : ℕ) (ws : List ℕ) → Contains ws v → Contains (w ∷ ws) v
 later w v ws has = (suc has.0, omega (arith, has.1), has.2)
 
 -- a word of the list without another one, and a word of the list that is another one
@@ -58,7 +58,7 @@ in_front w (f ∷ front) back has =
     (λ (same : w ≡ f). here f w (front ++ back) same)
     (first_or_rest f w front has.0 has.1 has.2)
 
-all_at : (P : ℕ → Type 0) (ws : List ℕ) (w i : ℕ) → AllByRecursion P ws → i < length ws → get_or ws i w ≡ w → P w
+pub all_at : (P : ℕ → Type 0) (ws : List ℕ) (w i : ℕ) → AllByRecursion P ws → i < length ws → get_or ws i w ≡ w → P w
 all_at P [] w i all below at = absurd (omega arith)
 all_at P (v ∷ ws) w zero all below at = subst P at all.0
 all_at P (v ∷ ws) w (suc i) all below at = all_at P ws w i all.1 (omega arith) at

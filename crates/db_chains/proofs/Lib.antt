@@ -3,6 +3,7 @@ pub mod Bytes
 pub mod Changed
 pub mod Clauses
 pub mod Counted
+pub mod Drafted
 pub mod Ended
 pub mod Entered
 pub mod First
@@ -16,6 +17,7 @@ pub mod Listed
 pub mod Others
 pub mod Paths
 pub mod Results
+pub mod Split
 pub mod Stops
 pub mod Walked
 pub mod Words

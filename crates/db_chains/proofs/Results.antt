@@ -1,6 +1,7 @@
 -- What is said of one answer, by what is said of another.
-use Rattle.std.proofs.Common.{◌≡◌, ℕ, ◌+◌, ◌*◌, ◌≤◌, List, Option, Result, Ok, Err, IfErr, sym, ap, ◌∙◌, arith}
+use Rattle.std.proofs.Common.{◌≡◌, ℕ, ◌+◌, ◌*◌, ◌≤◌, List, Option, Result, Ok, Err, IfErr, sym, ap, ◌∙◌, arith, ◌-◌, Some, None, subst}
 use Rattle.std.specs.Prelude.{OnOk}
+use Rattle.std.specs.Option.{option_map}
 use Rattle.db_image.specs.Draft.{Drafted, put_cost}
 use Rattle.db_image.specs.Images.{IsOfImage, ReadsAtMost}
 use Rattle.db_image.specs.declared.faults.RecordFault.{RecordFault}
@@ -51,13 +52,6 @@ drafts_on g m n most a b c first failed r s fits =
     record { reads = s.drafts.reads; asked = s.cost } fits in
     drafted g most a c failed (s.drafts.layout ∙ r.looks.same.layout) all
 
--- the same, after more was looked at
-pub looks_drafts : {I : Type 0} (g : Ghosts I) (m most : ℕ) (a b : Drafted I) (first failed : Type 0) → LooksAtMost g m a b first → m ≤ most
-    → (failed → first) → DraftsAtMost g most a b failed
-looks_drafts g m most a b first failed r fits so =
-    drafted g most a b failed r.looks.same.layout
-    (reads_within g m most a.image b.image first failed record { reads = r.looks.reads; asked = r.cost } fits so)
-
 fits_twice : (b c a : ℕ) → b ≡ a → c ≡ a → b + c ≤ 2 * a
 fits_twice b c a one two = omega arith
 
@@ -99,3 +93,18 @@ drafts_so g most a b failed now r so =
 
 pub no_memory : {T : Type 0} (r : Result T RecordFault) (e : RecordFault) → r ≡ Err e → e ≡ NoMemory → r ≡ Err DiskFault → ⊥
 no_memory r e is none other = absurd cc
+
+pub cause_so : (a : Option (List ℕ)) (P Q : List ℕ → Type 0) (fault : RecordFault) → ((image : List ℕ) → P image → Q image)
+    → HasCause a Q fault → HasCause a P fault
+cause_so a P Q DiskFault so cause = tt
+cause_so a P Q NoMemory so cause = tt
+cause_so None P Q (BadRecord at) so cause = tt
+cause_so (Some image) P Q (BadRecord at) so cause = λ is. cause (so image is)
+
+pub cause_at : (a b : Option (List ℕ)) (f : List ℕ → List ℕ) (P Q : List ℕ → Type 0) (fault : RecordFault) → b ≡ option_map f a
+    → ((image : List ℕ) → P image → Q (f image)) → HasCause b Q fault → HasCause a P fault
+cause_at a b f P Q DiskFault made so cause = tt
+cause_at a b f P Q NoMemory made so cause = tt
+cause_at None b f P Q (BadRecord at) made so cause = tt
+cause_at (Some image) b f P Q (BadRecord at) made so cause = λ is.
+    subst (λ (o : Option (List ℕ)). HasCause o Q (BadRecord at)) made cause (so image is)

@@ -7,7 +7,7 @@ use Rattle.db_image.specs.Draft.{Drafted}
 use Rattle.db_image.specs.declared.images.ImageRead.{Ghosts}
 use Rattle.db_image.proofs.ReadSteps.{asks_none, asks_then}
 use Rattle.db_blocks.specs.Blocks.{block_place, word_at}
-use Rattle.db_blocks.proofs.Scanned.{looks_none, looks_so, looks_then}
+use Rattle.db_blocks.proofs.Scanned.{looks_so, looks_then}
 use Rattle.db_chains.specs.declared.links.Links.{Links}
 use Rattle.db_chains.specs.Links.{is_right, next_place}
 use Rattle.db_chains.specs.Chains.{HasChain}
@@ -16,9 +16,6 @@ use Rattle.db_chains.specs.Walks.{meets, most_words, passed, place_behind, stop_
 use Rattle.db_chains.proofs.Paths.{IsPath, passed_path, path_chain, path_front}
 
 -- ---- frames
-
-pub looks_free : {I : Type 0} (g : Ghosts I) (d : Drafted I) (failed : Type 0) → ¬ failed → LooksAtMost g 0 d d failed
-looks_free g d failed not = record { looks = looks_none g d failed not; cost = asks_none 0 (g.asked d.image) }
 
 pub looks_on : {I : Type 0} (g : Ghosts I) (m n most : ℕ) (a b c : Drafted I) (first failed : Type 0) → LooksAtMost g m a b first
     → LooksAtMost g n b c failed → m + n ≤ most → LooksAtMost g most a c failed
@@ -216,9 +213,3 @@ walked_cost_here g first now l test at count left place word step w =
     (inl refl)
     (asks_then (4 + 192 * (count * l.kinds - left)) 0 (4 + 192 * (count * l.kinds - left) + 0) (g.asked first.image) (g.asked now.image)
     (g.asked now.image) w.frame.cost (asks_none 0 (g.asked now.image)) (omega arith))
-
-pub costs_any : (bytes : Option (List ℕ)) (l : Links) (at m : ℕ) (before after : Option ℕ) → m ≤ 4 → AsksAtMost m before after
-    → IfSome bytes (λ image. (ws : List ℕ) → HasChain l image at ws → AsksAtMost (4 + 192 * length ws) before after)
-costs_any None l at m before after few asks = tt
-costs_any (Some image) l at m before after few asks = λ ws chain. asks_then m 0 (4 + 192 * length ws) before after after asks
-    (asks_none 0 after) (omega arith)

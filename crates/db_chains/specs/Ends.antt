@@ -1,10 +1,11 @@
 -- What a call on chains leaves, what it costs, and when it answers a bad record.
-use Rattle.std.specs.Prelude.{ℕ, ◌≡◌, ◌≢◌, ◌+◌, ◌*◌, ◌⊎◌, ◌∷◌, ◌++◌, false, List, Option, IfSome, length}
+use Rattle.std.specs.Prelude.{ℕ, ◌≡◌, ◌≢◌, ◌+◌, ◌*◌, ◌⊎◌, ◌∷◌, ◌++◌, false, List, Option, IfSome, length, ◌-◌, ◌&&◌, ◌==◌, if◌then◌else◌}
 use Rattle.db_image.specs.Asked.{AsksAtMost}
-use Rattle.db_image.specs.Draft.{Drafted}
+use Rattle.db_image.specs.Draft.{Drafted, put_cost}
 use Rattle.db_image.specs.declared.faults.RecordFault.{RecordFault}
 use Rattle.db_image.specs.declared.faults.RecordFault.TheVariants.{DiskFault, BadRecord, NoMemory}
 use Rattle.db_image.specs.declared.images.ImageRead.{Ghosts}
+use Rattle.db_image.specs.declared.services.Layout.{Layout}
 use Rattle.db_blocks.specs.Blocks.{IsWhole, word_at}
 use Rattle.db_blocks.specs.Ends.{OnlyDrafts, OnlyLooks}
 use Rattle.db_chains.specs.declared.links.Links.{Links}
@@ -56,3 +57,11 @@ IsBadFirst l at image bad =
 -- an image of a head and whole blocks has a chain with a word
 abbrev pub HasWord : Links → (at w : ℕ) → List ℕ → Type 0
 HasWord l at w image = IsWhole l.head image × ((front back : List ℕ) × HasChain l image at (front ++ w ∷ back))
+
+-- how many bytes are read at most where a word comes in front of a chain
+abbrev pub first_cost : Layout → ℕ
+first_cost layout = 4 + 2 * put_cost layout 4
+
+-- and where a word goes out of a chain, in an image of this length
+abbrev pub out_cost : Links → Layout → (len : ℕ) → ℕ
+out_cost l layout len = walk_cost l len + 4 + 2 * put_cost layout 4

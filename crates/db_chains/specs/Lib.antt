@@ -3,6 +3,7 @@ pub mod Chains
 pub mod Changes
 pub mod Ends
 pub mod Free
+pub mod Keys
 pub mod Links
 pub mod Others
 pub mod Sought

@@ -94,10 +94,6 @@ id_found (Some image) own id found is =
 
 -- ---- one of three ids
 
-or_true : (b : Bool) → (b || true) ≡ true
-or_true true = refl
-or_true false = refl
-
 three : (q a b c x y z : Bool) → ((q && (a || b || c)) || (x || y || z)) ≡ (((q && a) || x) || ((q && b) || y) || ((q && c) || z))
 three false a b c x y z = refl
 three true true b c x y z = refl

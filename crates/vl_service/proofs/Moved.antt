@@ -1,6 +1,5 @@
 -- A server's other address.
-use Rattle.std.proofs.Common.{◌≡◌, ℕ, zero, suc, ◌<◌, ◌≤◌, Bool, true, false, not, ◌&&◌, ◌||◌, cond, eqb, List, [], ◌∷◌, length, Option, Some, None, IfSome, refl, sym, ap, subst, ◌∙◌, arith}
-use Rattle.std.specs.Prelude.{slice_set}
+use Rattle.std.proofs.Common.{◌≡◌, ℕ, zero, suc, ◌<◌, Bool, true, false, not, ◌&&◌, ◌||◌, cond, eqb, List, [], ◌∷◌, length, Option, Some, None, IfSome, refl, sym, ap, subst, ◌∙◌, arith}
 use Rattle.std.specs.List.{list_any}
 use Rattle.std.specs.Option.{option_map}
 use Rattle.std.proofs.lemmas.Bool.{eq-eqb}
@@ -76,13 +75,6 @@ any_site None host es none low is are = tt
 any_site (Some image) host [] none low is are = λ s holds. ap not (is ∙ eq-eqb 0 0 refl) ∙ no_site_there (Some image) host low are s holds
 any_site (Some image) host (e ∷ es) none low is are = λ s holds.
     ap not (is ∙ test_other (suc (length es)) 0 (some_not es)) ∙ site_there (Some image) host e low (λ t held. (are t held).0) s holds
-
--- ---- the places
-
-set_behind : (xs : List ℕ) (k v : ℕ) → length xs ≤ k → slice_set xs k v ≡ xs
-set_behind [] k v behind = refl
-set_behind (x ∷ xs) zero v behind = absurd (omega arith)
-set_behind (x ∷ xs) (suc k) v behind = ap (λ (ys : List ℕ). x ∷ ys) (set_behind xs k v (omega arith))
 
 -- ---- the verdict
 

@@ -1,9 +1,6 @@
 -- Which chain a name or an id stands in, and where it begins in the head (own).
-use Rattle.std.specs.Prelude.{ℕ, ◌+◌, ◌*◌, ◌%◌, List, sum}
-
--- the sum of the bytes of a name, modulo the number of chains
-abbrev pub name_key : List ℕ → ℕ
-name_key name = sum name % 256
+use Rattle.std.specs.Prelude.{ℕ, ◌+◌, ◌*◌, ◌%◌, List}
+use Rattle.db_chains.specs.Keys.{name_key}
 
 -- an id, modulo the number of chains
 abbrev pub id_key : ℕ → ℕ

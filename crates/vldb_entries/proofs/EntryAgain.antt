@@ -8,14 +8,14 @@ use Rattle.std.proofs.lemmas.List.Elements.{at_from_Contains}
 use Rattle.std.proofs.lemmas.List.FromFn.{fill_by_all, length-range_with_len}
 use Rattle.std.proofs.lemmas.List.Sums.{position_or_len_is, passes_at_first, fails_before_first}
 use Rattle.std.proofs.lemmas.Nat.{from_be_bytes-to_be_bytes_4}
-use Rattle.db_blocks.specs.Blocks.{word_at}
+use Rattle.db_blocks.specs.Blocks.{word_at, kind_of}
 use Rattle.db_blocks.proofs.Maps.{test_other}
 use Rattle.db_blocks.specs.Bytes.{word, words, zeros, filled}
+use Rattle.db_blocks.proofs.Lengths.{length-zeros}
 use Rattle.vldb_entries.specs.declared.entries.VlEntry.{VlEntry}
 use Rattle.vldb_entries.specs.declared.entries.VlSite.{VlSite}
 use Rattle.vldb_entries.specs.Location.{is_name_byte, is_name, IsRecord, IsSmall}
-use Rattle.vldb_entries.specs.Forms.{block_of, entry_in, kind_of, name_in, numbers_of, place_of, site_in}
-use Rattle.vldb_entries.proofs.HeadRead.{length-zeros}
+use Rattle.vldb_entries.specs.Forms.{block_of, entry_in, name_in, numbers_of, place_of, site_in}
 
 -- ---- the fields behind the numbers
 

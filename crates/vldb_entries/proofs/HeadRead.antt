@@ -7,12 +7,9 @@ use Rattle.std.proofs.lemmas.List.FromFn.{fill_by_all}
 use Rattle.std.proofs.lemmas.Nat.{from_be_bytes-to_be_bytes_4}
 use Rattle.db_blocks.specs.Blocks.{word_at}
 use Rattle.db_blocks.specs.Bytes.{number_word, word, words, zeros}
+use Rattle.db_blocks.proofs.Lengths.{length-zeros}
 use Rattle.vldb_entries.specs.Location.{Location, first_location}
 use Rattle.vldb_entries.specs.Forms.{addresses_in, head_of, next_in, whole}
-
-pub length-zeros : (n : ℕ) → length (zeros n) ≡ n
-unfolding zeros
-length-zeros n = length-replicate {A = ℕ} n 0
 
 -- a word in the front of an image
 in_front : (image : List ℕ) (len at more : ℕ) → at + more ≡ len → 4 ≤ more → word_at (take len image) at ≡ word_at image at

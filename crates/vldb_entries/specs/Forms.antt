@@ -2,7 +2,7 @@
 use Rattle.std.specs.Prelude.{ℕ, ◌+◌, ◌*◌, ◌&&◌, ◌||◌, ◌==◌, Bool, not, List, [], ◌∷◌, ◌++◌, length, map, take, drop, slice_index, min, if◌then◌else◌}
 use Rattle.std.specs.List.{before_first, position_or_len, range_with_len}
 use Rattle.std.specs.Str.{bytes_eq}
-use Rattle.db_blocks.specs.Blocks.{block_count, block_in, word_at}
+use Rattle.db_blocks.specs.Blocks.{block_count, block_in, word_at, kind_of}
 use Rattle.db_blocks.specs.Bytes.{number_word, words, zeros, filled}
 use Rattle.vldb_entries.specs.declared.entries.VlEntry.{VlEntry}
 use Rattle.vldb_entries.specs.declared.entries.VlSite.{VlSite}
@@ -30,10 +30,6 @@ unfoldable pub block_of : List ℕ → VlEntry → List ℕ
 block_of addresses e =
     words (numbers_of e) ++ zeros 16 ++ filled NAME_FIELD e.name ++ filled SITES_FIELD (map (λ site. place_of addresses site.host) e.sites)
     ++ filled SITES_FIELD (map (λ site. site.partition) e.sites) ++ filled SITES_FIELD (map (λ site. site.flags) e.sites) ++ zeros 37
-
--- what a block is: 0 free, 1 an entry
-abbrev pub kind_of : List ℕ → ℕ
-kind_of block = word_at block 0
 
 -- ---- an image
 

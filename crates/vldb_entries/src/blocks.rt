@@ -1,8 +1,8 @@
 //! Entries, read from their blocks.
 ghost use Rattle.std.specs.Prelude.{◌≡◌, ◌==◌, ◌<◌, ◌∷◌, slice_index, map, min, IfOk};
 ghost use Rattle.std.specs.List.{position, position_or_len, range_with_len};
-ghost use Rattle.db_blocks.specs.Blocks.{word_at};
-ghost use Rattle.vldb_entries.specs.Forms.{entry_in, has_id_in, has_name, kind_of, name_in, site_in};
+ghost use Rattle.db_blocks.specs.Blocks.{word_at, kind_of};
+ghost use Rattle.vldb_entries.specs.Forms.{entry_in, has_id_in, has_name, name_in, site_in};
 ghost use Rattle.vldb_entries.specs.declared.layout.TheConstants.{COUNT_AT, SITES_FIELD};
 
 use crate::entries::{SiteList, VlEntry, VlSite};

@@ -5,12 +5,13 @@ use Rattle.std.specs.List.{AllByRecursion, flat_map}
 use Rattle.std.proofs.lemmas.List.{drop-drop, drop-replicate, drop_at, length-append, length-replicate, take-replicate}
 use Rattle.db_blocks.specs.Blocks.{word_at}
 use Rattle.db_blocks.specs.Bytes.{word, words, zeros}
+use Rattle.db_blocks.proofs.Lengths.{length-zeros}
 use Rattle.db_chains.specs.declared.links.Links.{Links}
 use Rattle.db_chains.specs.Visits.{Visits}
 use Rattle.vldb_chains.specs.Places.{id_links, name_links}
 use Rattle.vldb_entries.specs.Location.{IsLocation, first_location}
 use Rattle.vldb_entries.specs.Forms.{blocks_in, head_of, whole}
-use Rattle.vldb_entries.proofs.HeadRead.{length-head, length-words, length-zeros, whole_empty}
+use Rattle.vldb_entries.proofs.HeadRead.{length-head, length-words, whole_empty}
 use Rattle.vldb_records.specs.Records.{Holds, IsIdWord, IsLaidOut, IsNameWord, id_place, name_place, unlinked_head}
 use Rattle.vldb_records.proofs.HeadTold.{take_all}
 

@@ -1,15 +1,15 @@
 -- What is read of an entry's block does not rest on its next words.
-use Rattle.std.proofs.Common.{◌≡◌, ℕ, zero, suc, ◌+◌, ◌<◌, ◌≤◌, inl, List, ◌∷◌, ◌++◌, length, slice_index, take, drop, map, min, refl, sym, ap, subst, ◌∙◌, arith}
+use Rattle.std.proofs.Common.{◌≡◌, ℕ, zero, suc, ◌+◌, ◌<◌, ◌≤◌, inl, List, ◌∷◌, ◌++◌, length, slice_index, take, drop, map, min, refl, sym, ap, ◌∙◌, arith}
 use Rattle.std.specs.List.{range_with_len}
 use Rattle.std.proofs.lemmas.List.{drop_at, length-append, length-drop, length-take-le}
-use Rattle.db_blocks.specs.Blocks.{block_in, block_place, word_at, IsWhole}
+use Rattle.db_blocks.specs.Blocks.{block_in, block_place, word_at, IsWhole, kind_of, blanked}
 use Rattle.db_blocks.specs.Bytes.{zeros}
 use Rattle.db_blocks.proofs.BlockPlaces.{changed_laid, laid}
-use Rattle.db_chains.proofs.Bytes.{StaysBut, put_len, put_stays, word_stays}
+use Rattle.db_blocks.proofs.Lengths.{length-zeros}
+use Rattle.db_chains.proofs.Bytes.{word_stays, blanked_stays}
 use Rattle.vldb_entries.specs.declared.entries.VlSite.{VlSite}
-use Rattle.vldb_entries.specs.Forms.{block_at, blocks_in, entry_in, kind_of, name_in, site_in}
-use Rattle.vldb_entries.proofs.HeadRead.{length-zeros}
-use Rattle.vldb_records.specs.Records.{blanked, unlinked, unlinked_free}
+use Rattle.vldb_entries.specs.Forms.{block_at, blocks_in, entry_in, name_in, site_in}
+use Rattle.vldb_records.specs.Records.{unlinked, unlinked_free}
 
 -- a block behind the head is a whole one
 pub block_len : (image : List ℕ) (k : ℕ) → IsWhole 3132 image → k < blocks_in image → length (block_at image k) ≡ 192
@@ -20,14 +20,6 @@ block_len image k whole below = length-take-le 192 (drop (block_place 3132 k) im
       (block_place 3132 k) image,
   whole,
 ))
-
-pub blanked_stays : (at len : ℕ) (bytes : List ℕ) → at + len ≤ length bytes → StaysBut at len bytes (blanked at len bytes)
-blanked_stays at len bytes within =
-    subst (λ (n : ℕ). StaysBut at n bytes (blanked at len bytes)) (length-zeros len) (put_stays bytes (zeros len) at (omega
-    (arith, length-zeros len)))
-
-pub blanked_len : (at len : ℕ) (bytes : List ℕ) → at + len ≤ length bytes → length (blanked at len bytes) ≡ length bytes
-blanked_len at len bytes within = put_len bytes (zeros len) at (omega (arith, length-zeros len))
 
 -- the numbers of an entry
 pub number_stays : (block : List ℕ) (q : ℕ) → length block ≡ 192 → q + 4 ≤ 36 → word_at block q ≡ word_at (unlinked block) q

@@ -2,10 +2,10 @@
 use Rattle.std.proofs.Common.{◌≡◌, ℕ, ◌+◌, ◌-◌, ◌/◌, ◌<◌, ◌≤◌, ◌⊎◌, inl, inr, ⊎_elim, List, [], ◌∷◌, length, slice_index, refl, sym, ap, subst, ◌∙◌, arith}
 use Rattle.std.proofs.lemmas.Bool.{cases_lt}
 use Rattle.std.proofs.lemmas.Grind.{same_number_lists}
-use Rattle.std.proofs.lemmas.List.{places}
-use Rattle.db_blocks.specs.Blocks.{block_count, block_in, word_at}
+use Rattle.db_blocks.specs.Blocks.{block_count, block_in, word_at, blanked}
 use Rattle.db_blocks.specs.Bytes.{zeros}
-use Rattle.db_blocks.proofs.BlockPlaces.{changed_laid, laid}
+use Rattle.db_blocks.proofs.BlockPlaces.{changed_laid, laid, laid_out, laid_in, laid_len}
+use Rattle.db_blocks.proofs.Lengths.{length-zeros}
 use Rattle.db_chains.specs.declared.links.Links.{Links}
 use Rattle.db_chains.specs.Chains.{HasChain}
 use Rattle.db_chains.specs.Free.{free_links}
@@ -14,28 +14,12 @@ use Rattle.db_chains.specs.Others.{NamesSame}
 use Rattle.db_chains.proofs.Framed.{named_stays}
 use Rattle.db_chains.proofs.Words.{right_names}
 use Rattle.db_chains.specs.Visits.{Visits}
+use Rattle.db_chains.proofs.Bytes.{blanked_len}
 use Rattle.vldb_chains.specs.Places.{free_blocks, id_links, name_links}
 use Rattle.vldb_entries.specs.Forms.{block_at, blocks_in}
-use Rattle.vldb_entries.proofs.HeadRead.{length-zeros}
-use Rattle.vldb_records.proofs.Fields.{blanked_len}
-use Rattle.vldb_records.specs.Records.{HasFree, IsFree, blanked, unlinked_head}
+use Rattle.vldb_records.specs.Records.{HasFree, IsFree, unlinked_head}
 
 -- ---- bytes laid beside one another
-
-pub laid_len : (image bytes : List ℕ) (at : ℕ) → at + length bytes ≤ length image → length (laid image at bytes) ≡ length image
-unfolding laid
-laid_len image bytes at within = grind (arith, places)
-
-pub laid_out : (image bytes : List ℕ) (at i : ℕ) → at + length bytes ≤ length image → (i < at) ⊎ (at + length bytes ≤ i)
-    → slice_index (laid image at bytes) i ≡ slice_index image i
-unfolding laid
-laid_out image bytes at i within beside =
-    ⊎_elim (λ (before : i < at). grind (arith, places)) (λ (behind : at + length bytes ≤ i). grind (arith, places)) beside
-
-pub laid_in : (image bytes : List ℕ) (at i : ℕ) → at + length bytes ≤ length image → at ≤ i → i < at + length bytes
-    → slice_index (laid image at bytes) i ≡ slice_index bytes (i - at)
-unfolding laid
-laid_in image bytes at i within from below = grind (arith, places)
 
 -- in a range, or beside it
 pub around : (at len i : ℕ) → ((at ≤ i) × (i < at + len)) ⊎ ((i < at) ⊎ (at + len ≤ i))
@@ -50,9 +34,6 @@ AreBeside p m q n = (p + m ≤ q) ⊎ (q + n ≤ p)
 
 beside : (p m q n i : ℕ) → AreBeside p m q n → p ≤ i → i < p + m → (i < q) ⊎ (q + n ≤ i)
 beside p m q n i apart from below = ⊎_elim (λ (a : p + m ≤ q). inl (omega arith)) (λ (b : q + n ≤ p). inr (omega arith)) apart
-
-turned : (p m q n : ℕ) → AreBeside p m q n → AreBeside q n p m
-turned p m q n apart = ⊎_elim (λ (a : p + m ≤ q). inr a) (λ (b : q + n ≤ p). inl b) apart
 
 swap_at : (xs b c : List ℕ) (p q i : ℕ) → p + length b ≤ length xs → q + length c ≤ length xs → AreBeside p (length b) q (length c)
     → slice_index (laid (laid xs p b) q c) i ≡ slice_index (laid (laid xs q c) p b) i

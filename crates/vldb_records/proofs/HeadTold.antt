@@ -5,19 +5,18 @@ use Rattle.std.specs.List.{range_with_len}
 use Rattle.std.proofs.lemmas.List.{drop-take, take-take, length-take-le}
 use Rattle.db_image.specs.declared.faults.RecordFault.{RecordFault}
 use Rattle.db_image.specs.declared.faults.RecordFault.TheVariants.{DiskFault, BadRecord, NoMemory}
-use Rattle.db_blocks.specs.Blocks.{word_at, IsWhole}
+use Rattle.db_blocks.specs.Blocks.{word_at, IsWhole, blanked}
 use Rattle.db_blocks.specs.Ends.{HasCause}
 use Rattle.db_chains.specs.declared.links.Links.{Links}
 use Rattle.db_chains.specs.Chains.{HasChain}
 use Rattle.db_chains.specs.Ends.{IsBadWhere}
-use Rattle.db_chains.proofs.Bytes.{word_stays}
+use Rattle.db_chains.proofs.Bytes.{word_stays, blanked_len, blanked_stays}
 use Rattle.db_chains.proofs.Words.{right_names}
 use Rattle.vldb_entries.specs.Location.{Location, first_location}
 use Rattle.vldb_entries.specs.Forms.{addresses_in, blocks_in, head_of, next_in, whole}
 use Rattle.vldb_entries.proofs.HeadRead.{addresses_of, length-head, next_of, whole_empty, whole_same}
-use Rattle.vldb_records.specs.Records.{Holds, IsLaidOut, blanked, unlinked_head}
+use Rattle.vldb_records.specs.Records.{Holds, IsLaidOut, unlinked_head}
 use Rattle.vldb_records.specs.Ends.{HoldsSome}
-use Rattle.vldb_records.proofs.Fields.{blanked_len, blanked_stays}
 
 -- ---- words of the head
 

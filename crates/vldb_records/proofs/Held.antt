@@ -10,14 +10,16 @@ use Rattle.db_blocks.specs.Blocks.{word_at}
 use Rattle.db_blocks.specs.Bytes.{number_word, word, words, zeros}
 use Rattle.db_blocks.proofs.BlockPlaces.{head_put, laid}
 use Rattle.db_blocks.proofs.Maps.{some_same}
+use Rattle.db_blocks.proofs.Lengths.{length-zeros}
 use Rattle.db_chains.proofs.Bytes.{put_stays, word_stays}
-use Rattle.vldb_chains.specs.Keys.{id_key, name_key}
+use Rattle.db_chains.specs.Keys.{name_key}
+use Rattle.vldb_chains.specs.Keys.{id_key}
 use Rattle.vldb_chains.specs.Places.{id_links, name_links}
 use Rattle.vldb_entries.specs.declared.entries.VlEntry.{VlEntry}
 use Rattle.vldb_entries.specs.Location.{Location, IsLocation, MayBePlaces, relocated, with_next_volume, with_places}
 use Rattle.vldb_entries.specs.Forms.{block_at, block_of, blocks_in, head_of, next_in, whole}
 use Rattle.vldb_records.specs.Changes.{after_set_next, after_set_places}
-use Rattle.vldb_entries.proofs.HeadRead.{length-words, length-zeros, whole_same}
+use Rattle.vldb_entries.proofs.HeadRead.{length-words, whole_same}
 use Rattle.vldb_entries.proofs.Locations.{location_next}
 use Rattle.vldb_entries.proofs.Relocated.{location_places, same_block}
 use Rattle.vldb_records.specs.Records.{Holds, IsBlockOf, IsFree, IsIdWord, IsLaidOut, IsNameWord, IsNumberOf, id_of, id_place, name_place, unlinked, unlinked_head}

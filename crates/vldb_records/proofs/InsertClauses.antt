@@ -1,15 +1,10 @@
 -- What an insertion says of a draft, where its bytes are told.
 use Rattle.std.proofs.Common.{◌≡◌, ℕ, ◌+◌, ◌≤◌, List, Option, Some, None, IfSome, IsSomeAnd, sym, ap, subst, ◌∙◌}
 use Rattle.std.specs.Option.{option_map}
-use Rattle.db_image.specs.Draft.{Drafted}
-use Rattle.db_image.specs.Images.{ReadsAtMost}
 use Rattle.db_image.specs.declared.faults.RecordFault.{RecordFault}
 use Rattle.db_image.specs.declared.faults.RecordFault.TheVariants.{DiskFault, BadRecord, NoMemory}
-use Rattle.db_image.specs.declared.images.ImageRead.{Ghosts}
-use Rattle.db_image.specs.declared.services.Layout.{Layout}
-use Rattle.db_image.proofs.ReadSteps.{reads_then}
 use Rattle.db_blocks.specs.Ends.{HasCause}
-use Rattle.db_chains.specs.Ends.{DraftsAtMost, HasSome, LooksAtMost}
+use Rattle.db_chains.specs.Ends.{HasSome}
 use Rattle.db_chains.specs.Free.{free_links, next_number, with_taken}
 use Rattle.vldb_chains.specs.Places.{free_blocks}
 use Rattle.vldb_entries.specs.declared.entries.VlEntry.{VlEntry}
@@ -19,23 +14,6 @@ use Rattle.vldb_records.specs.Records.{Holds}
 use Rattle.vldb_records.specs.Changes.{after_insert, entered}
 use Rattle.vldb_records.specs.Ends.{HoldsSome}
 use Rattle.vldb_records.proofs.Inserted.{holds_inserted}
-
--- ---- frames
-
--- one change after another, whose bytes are counted by the blocks that the draft keeps
-pub drafts_after : {I : Type 0} (g : Ghosts I) (m : ℕ) (cost : Layout → ℕ) (most : ℕ) (a b c : Drafted I) (first failed : Type 0)
-    → DraftsAtMost g m a b first → DraftsAtMost g (cost b.layout) b c failed → m + cost a.layout ≤ most → DraftsAtMost g most a c failed
-drafts_after g m cost most a b c first failed r s fits =
-    let same : cost b.layout ≡ cost a.layout = ap cost r.drafts.layout in
-    let all : ReadsAtMost g most a.image c.image failed =
-    reads_then g m (cost b.layout) most a.image b.image c.image first failed record { reads = r.drafts.reads; asked = r.cost }
-    record { reads = s.drafts.reads; asked = s.cost } (subst (λ (n : ℕ). m + n ≤ most) (sym same) fits) in
-    record { drafts = record { layout = s.drafts.layout ∙ r.drafts.layout; reads = all.reads }; cost = all.asked }
-
-pub looks_draft : {I : Type 0} (g : Ghosts I) (most : ℕ) (a b : Drafted I) (failed : Type 0) → LooksAtMost g most a b failed
-    → DraftsAtMost g most a b failed
-looks_draft g most a b failed r =
-    record { drafts = record { layout = r.looks.same.layout; reads = r.looks.reads }; cost = r.cost }
 
 -- ---- bytes
 

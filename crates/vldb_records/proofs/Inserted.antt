@@ -2,18 +2,19 @@
 use Rattle.std.proofs.Common.{◌≡◌, ◌≢◌, ℕ, zero, suc, ◌+◌, ◌-◌, ◌*◌, ◌/◌, ◌%◌, ◌<◌, ◌≤◌, ◌⊎◌, inl, inr, ⊎_elim, true, not, ◌&&◌, ◌||◌, eqb, List, Some, None, take, refl, sym, ap, subst, ◌∙◌, arith}
 use Rattle.std.specs.List.{All, Contains}
 use Rattle.std.proofs.lemmas.Bool.{cases_eq, eq-eqb}
-use Rattle.db_blocks.specs.Blocks.{IsWhole, word_at}
+use Rattle.db_blocks.specs.Blocks.{IsWhole, word_at, kind_of}
 use Rattle.db_blocks.specs.Bytes.{words, zeros}
 use Rattle.db_blocks.proofs.BlockPlaces.{changed_laid, laid}
 use Rattle.db_blocks.proofs.Maps.{some_same, under_other, under_same}
 use Rattle.db_chains.specs.Free.{next_number, with_taken}
 use Rattle.db_chains.proofs.Words.{in_block}
 use Rattle.db_chains.proofs.Entered.{visits_as}
-use Rattle.vldb_chains.specs.Keys.{id_key, name_key}
+use Rattle.db_chains.specs.Keys.{name_key}
+use Rattle.vldb_chains.specs.Keys.{id_key}
 use Rattle.vldb_chains.specs.Places.{free_blocks, id_links, name_links}
 use Rattle.vldb_entries.specs.declared.entries.VlEntry.{VlEntry}
 use Rattle.vldb_entries.specs.Location.{IsLocation, IsRecord, Location, MayEnter, has_id, with_entered, without_entry}
-use Rattle.vldb_entries.specs.Forms.{block_at, block_of, blocks_in, entry_in, head_of, kind_of, whole}
+use Rattle.vldb_entries.specs.Forms.{block_at, block_of, blocks_in, entry_in, head_of, whole}
 use Rattle.vldb_entries.proofs.EntryAgain.{entry_again, kind_again, length-block, not_zero}
 use Rattle.vldb_entries.proofs.Locations.{each_without, location_entered}
 use Rattle.vldb_records.specs.Records.{HasFree, Holds, IsBlockOf, IsFree, IsIdWord, IsLaidOut, IsNameWord, IsNumberOf, id_of, id_place, name_place, unlinked, unlinked_head}

@@ -1,7 +1,7 @@
 -- What a word that goes out of a chain leaves of an image.
 use Rattle.std.proofs.Common.{◌≡◌, ◌≢◌, ℕ, ◌+◌, ◌*◌, ◌<◌, ◌≤◌, ◌⊎◌, inl, inr, ⊎_elim, true, List, ◌∷◌, ◌++◌, length, take, refl, sym, ap, subst, ◌∙◌, arith}
 use Rattle.std.specs.List.{Contains}
-use Rattle.db_blocks.specs.Blocks.{IsWhole, block_count, block_place, word_at}
+use Rattle.db_blocks.specs.Blocks.{IsWhole, block_count, block_place, word_at, kind_of}
 use Rattle.db_chains.specs.declared.links.Links.{Links}
 use Rattle.db_chains.specs.Chains.{HasChain}
 use Rattle.db_chains.specs.Changes.{put_word, taken_out, without}
@@ -12,7 +12,7 @@ use Rattle.db_chains.proofs.Changed.{behind_free, head_free, next_within, stands
 use Rattle.db_chains.proofs.Framed.{block_mark}
 use Rattle.db_chains.proofs.Words.{right, right_names}
 use Rattle.vldb_chains.specs.Places.{id_links, name_links}
-use Rattle.vldb_entries.specs.Forms.{block_at, blocks_in, kind_of}
+use Rattle.vldb_entries.specs.Forms.{block_at, blocks_in}
 use Rattle.vldb_records.specs.Records.{unlinked, unlinked_head}
 use Rattle.vldb_records.proofs.Fields.{block_len, number_stays}
 use Rattle.vldb_records.proofs.HeadSet.{ids_are, name_are}

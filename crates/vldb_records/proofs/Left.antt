@@ -13,7 +13,7 @@ use Rattle.db_chains.proofs.Bytes.{IsApart}
 use Rattle.db_chains.proofs.Words.{right_names}
 use Rattle.db_chains.specs.Visits.{Visits}
 use Rattle.db_chains.proofs.Entered.{visits_as}
-use Rattle.vldb_chains.specs.Keys.{id_chain, id_key, name_chain, name_key}
+use Rattle.vldb_chains.specs.Keys.{id_chain, id_key, name_chain}
 use Rattle.vldb_chains.specs.Places.{free_blocks, id_links, name_links}
 use Rattle.vldb_entries.specs.Forms.{blocks_in, name_in}
 use Rattle.vldb_records.specs.Records.{id_place, name_place}
@@ -22,6 +22,7 @@ use Rattle.vldb_records.specs.Ends.{HasIdWord}
 use Rattle.vldb_records.proofs.HeadSet.{free_are, ids_are, name_are}
 use Rattle.vldb_records.proofs.Kept.{KeepsEntries, entries_then, ids_entries, keeps_out, names_entries, word_out}
 use Rattle.db_chains.proofs.Leaving.{stands, take_keyed, take_other_sort, take_other_visits}
+use Rattle.db_chains.specs.Keys.{name_key}
 use Rattle.vldb_records.proofs.Stages.{ids_apart, ids_free, ids_names, names_apart, names_free, names_ids}
 use Rattle.vldb_records.proofs.Stays.{count_same, whole_on}
 

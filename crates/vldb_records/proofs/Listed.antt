@@ -5,14 +5,14 @@ use Rattle.std.proofs.lemmas.Bool.{and_from, and_parts, eqb-true, false_from_ne_
 use Rattle.db_blocks.specs.Ascending.{AreGood, ascending, first_blocks, numbers_met}
 use Rattle.db_image.specs.declared.faults.RecordFault.{RecordFault}
 use Rattle.db_image.specs.declared.faults.RecordFault.TheVariants.{DiskFault, BadRecord, NoMemory}
-use Rattle.db_blocks.specs.Blocks.{IsWhole}
+use Rattle.db_blocks.specs.Blocks.{IsWhole, kind_of}
 use Rattle.db_blocks.specs.Ends.{HasCause}
 use Rattle.db_blocks.proofs.Order.{AreApart, IsOrder, order_behind, order_least, order_of}
 use Rattle.vldb_entries.specs.declared.entries.VlEntry.{VlEntry}
 use Rattle.vldb_records.specs.declared.listings.Listing.{Listing}
 use Rattle.vldb_records.specs.Listing.{AreListed, IsNextListed, is_listed, is_listed_above, is_listed_in, rw_in}
 use Rattle.vldb_entries.specs.Location.{Location, IsSmall, first_location}
-use Rattle.vldb_entries.specs.Forms.{block_at, block_of, blocks_in, entry_in, kind_of, whole}
+use Rattle.vldb_entries.specs.Forms.{block_at, block_of, blocks_in, entry_in, whole}
 use Rattle.vldb_records.specs.Records.{Holds, unlinked}
 use Rattle.vldb_entries.proofs.EntryAgain.{entry_again, entry_small, kind_again, rw_again}
 use Rattle.vldb_entries.proofs.HeadRead.{length-head, whole_empty}

@@ -12,7 +12,7 @@ use Rattle.db_image.specs.declared.images.ImageRead.{Ghosts}
 use Rattle.db_image.proofs.ReadSteps.{asks_none, asks_then}
 use Rattle.db_image.specs.declared.faults.RecordFault.{RecordFault}
 use Rattle.db_image.specs.declared.faults.RecordFault.TheVariants.{DiskFault, BadRecord, NoMemory}
-use Rattle.db_blocks.specs.Blocks.{block_count, block_in, block_place, word_at}
+use Rattle.db_blocks.specs.Blocks.{block_count, block_in, block_place, word_at, kind_of}
 use Rattle.db_blocks.specs.Ends.{HasCause}
 use Rattle.db_chains.specs.declared.links.Links.{Links}
 use Rattle.db_chains.specs.declared.walks.Link.{Link}
@@ -23,15 +23,16 @@ use Rattle.db_chains.specs.Free.{IsNumber}
 use Rattle.db_chains.specs.Links.{AreLinks, block_of}
 use Rattle.db_chains.specs.Walks.{IsFound, first_met, meets, most_words, passed, place_behind, stop_place}
 use Rattle.db_chains.proofs.Words.{right_names}
-use Rattle.vldb_chains.specs.Keys.{id_chain, id_key, name_chain, name_key}
+use Rattle.vldb_chains.specs.Keys.{id_chain, id_key, name_chain}
 use Rattle.vldb_chains.specs.Places.{free_blocks, id_links, name_links}
 use Rattle.vldb_entries.specs.declared.entries.VlEntry.{VlEntry}
 use Rattle.vldb_entries.specs.Location.{Location, IsNamed, IsOfId, first_location, has_id}
-use Rattle.vldb_entries.specs.Forms.{addresses_in, block_at, blocks_in, entry_in, has_id_in, has_name, head_of, kind_of, name_in, whole, block_of as form_of}
+use Rattle.vldb_entries.specs.Forms.{addresses_in, block_at, blocks_in, entry_in, has_id_in, has_name, head_of, name_in, whole, block_of as form_of}
 use Rattle.vldb_entries.proofs.EntryAgain.{backup_again, entry_again, kind_again, name_again, ro_again, rw_again}
 use Rattle.vldb_records.specs.Records.{Holds, IsBlockOf, IsFree, IsLaidOut, id_of, unlinked}
 use Rattle.vldb_records.specs.Ends.{HoldsSome}
 use Rattle.db_chains.specs.Sought.{EndsChain, IsInChain}
+use Rattle.db_chains.specs.Keys.{name_key}
 use Rattle.vldb_records.specs.Sought.{IsRead}
 use Rattle.vldb_records.proofs.Fields.{block_len, entry_stays, free_kind, name_stays, number_stays}
 use Rattle.vldb_entries.proofs.HeadRead.{whole_empty, whole_same}

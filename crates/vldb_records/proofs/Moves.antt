@@ -8,7 +8,9 @@ use Rattle.db_blocks.specs.Blocks.{word_at}
 use Rattle.db_blocks.specs.Ends.{HasCause}
 use Rattle.db_chains.specs.Ends.{HasWord}
 use Rattle.db_chains.proofs.Entered.{visits_as}
-use Rattle.vldb_chains.specs.Keys.{id_key, name_chain, name_key}
+use Rattle.db_chains.specs.Keys.{name_key}
+use Rattle.db_chains.proofs.Results.{cause_at, cause_so}
+use Rattle.vldb_chains.specs.Keys.{id_key, name_chain}
 use Rattle.vldb_chains.specs.Places.{id_links, name_links}
 use Rattle.vldb_entries.specs.declared.entries.VlEntry.{VlEntry}
 use Rattle.vldb_entries.specs.Location.{IsLocation, Location}
@@ -21,7 +23,7 @@ use Rattle.vldb_records.specs.Ends.{HasEntry, HasIdWord}
 use Rattle.vldb_records.proofs.Fields.{block_len, name_stays}
 use Rattle.vldb_records.proofs.Left.{IsStep, id_in, id_there}
 use Rattle.vldb_records.proofs.Moving.{IdWords, IsMoving, NameWords, NoWords, moved_id, moved_name, none_are, own_word}
-use Rattle.vldb_records.proofs.RemoveClauses.{cause_at, cause_so, has_name}
+use Rattle.vldb_records.proofs.RemoveClauses.{has_name}
 use Rattle.vldb_records.proofs.Removed.{IsUnused, first_step, id_told, number_same, own_kind}
 
 pub moving : (n : ℕ) (block image : List ℕ) (h : HasEntry n block image) → IsMoving h.state image n

@@ -3,7 +3,7 @@ use Rattle.std.proofs.Common.{◌≡◌, ◌≢◌, ℕ, ◌+◌, ◌-◌, ◌*�
 use Rattle.std.specs.Str.{bytes_eq}
 use Rattle.std.proofs.lemmas.Bool.{cases_Bool, cases_eq, eq-eqb, ne_eqb}
 use Rattle.std.proofs.lemmas.Slice.Eq.{bytes_eq-Decides}
-use Rattle.db_blocks.specs.Blocks.{block_count, block_place, word_at}
+use Rattle.db_blocks.specs.Blocks.{block_count, block_place, word_at, kind_of}
 use Rattle.db_chains.specs.declared.links.Links.{Links}
 use Rattle.db_chains.specs.Chains.{HasChain}
 use Rattle.db_chains.specs.Changes.{put_in, put_word, taken_out, without}
@@ -16,16 +16,17 @@ use Rattle.db_chains.proofs.Changed.{behind_free, head_free, next_within, stands
 use Rattle.db_chains.proofs.Framed.{block_mark}
 use Rattle.db_chains.proofs.Entered.{put_keyed, put_other_sort, put_other_visits, visits_as}
 use Rattle.db_chains.proofs.Words.{right_from}
-use Rattle.vldb_chains.specs.Keys.{id_key, name_key}
+use Rattle.vldb_chains.specs.Keys.{id_key}
 use Rattle.vldb_chains.specs.Places.{free_blocks, id_links, name_links}
 use Rattle.vldb_entries.specs.Location.{IsLocation, Location}
 use Rattle.vldb_entries.specs.declared.entries.VlEntry.{VlEntry}
-use Rattle.vldb_entries.specs.Forms.{block_at, blocks_in, kind_of}
+use Rattle.vldb_entries.specs.Forms.{block_at, blocks_in}
 use Rattle.vldb_records.specs.Records.{IsIdWord, IsLaidOut, IsNameWord, id_of, id_place, name_place}
 use Rattle.vldb_records.specs.Changes.{first_by_id, id_moved, name_moved, without_id}
 use Rattle.vldb_records.proofs.HeadSet.{free_are, ids_are, name_are}
 use Rattle.vldb_records.proofs.Kept.{KeepsEntries, entries_then, kind_stays}
 use Rattle.db_chains.proofs.Leaving.{stands}
+use Rattle.db_chains.specs.Keys.{name_key}
 use Rattle.vldb_records.proofs.Left.{AreInOne, AreUnused, IsStep, Less, step_id, step_name, words_apart}
 use Rattle.vldb_records.proofs.Removed.{IsUnused, number_same}
 use Rattle.vldb_records.proofs.Stages.{ids_apart, ids_free, ids_names, names_apart, names_free, names_ids}

@@ -1,7 +1,6 @@
 -- The word of the entry that has a read-write id: a walk along the chain of the id stops there.
-use Rattle.std.proofs.Common.{◌≡◌, ℕ, zero, suc, ◌+◌, ◌-◌, ◌*◌, ◌/◌, ◌%◌, ◌<◌, ◌≤◌, ⊎_elim, Bool, true, false, List, [], ◌∷◌, ◌++◌, Option, Some, length, get_or, refl, sym, ap, subst, ◌∙◌, arith}
-use Rattle.std.proofs.lemmas.Bool.{cases_Bool}
-use Rattle.db_blocks.specs.Blocks.{block_in, word_at}
+use Rattle.std.proofs.Common.{◌≡◌, ℕ, ◌+◌, ◌-◌, ◌*◌, ◌/◌, ◌%◌, ◌<◌, ◌≤◌, Bool, true, List, ◌∷◌, ◌++◌, Option, Some, length, refl, sym, ap, subst, ◌∙◌, arith}
+use Rattle.db_blocks.specs.Blocks.{block_in, word_at, kind_of}
 use Rattle.db_blocks.proofs.Maps.{some_same}
 use Rattle.db_chains.specs.declared.links.Links.{Links}
 use Rattle.db_chains.specs.declared.walks.Link.{Link}
@@ -9,17 +8,17 @@ use Rattle.db_chains.specs.Chains.{HasChain}
 use Rattle.db_chains.specs.Links.{block_of}
 use Rattle.db_chains.specs.Walks.{meets, place_behind, stop_place}
 use Rattle.db_chains.proofs.Changed.{stands_behind}
-use Rattle.db_chains.proofs.Paths.{Misses}
 use Rattle.db_chains.proofs.Stops.{stop_behind}
 use Rattle.db_chains.proofs.Words.{right_names}
 use Rattle.vldb_chains.specs.Keys.{id_chain, id_key}
 use Rattle.vldb_chains.specs.Places.{id_links}
 use Rattle.vldb_entries.specs.declared.entries.VlEntry.{VlEntry}
 use Rattle.vldb_entries.specs.Location.{Location, has_id}
-use Rattle.vldb_entries.specs.Forms.{block_at, blocks_in, has_id_in, kind_of, whole}
+use Rattle.vldb_entries.specs.Forms.{block_at, blocks_in, has_id_in, whole}
 use Rattle.vldb_records.specs.Changes.{word_of_id}
 use Rattle.vldb_records.specs.Records.{Holds, IsBlockOf, IsNumberOf, id_of, unlinked}
 use Rattle.db_chains.specs.Sought.{IsInChain}
+use Rattle.db_chains.proofs.Split.{IsSplit, split_first}
 use Rattle.vldb_records.proofs.Fields.{block_len}
 use Rattle.vldb_records.proofs.HeadSet.{ids_are}
 use Rattle.vldb_records.proofs.Inserted.{own_id}
@@ -52,41 +51,6 @@ entry_of image s own f link holds at found =
     record { some = some; within = within; block = subst (λ (x : VlEntry). IsBlockOf s x (block_at old (n - 1))) is g.1 }
 
 -- ---- the first word that is what is looked for
-
-record IsSplit (l : Links) (test : ℕ → List ℕ → Bool) (image ws : List ℕ) : Type 0 where
-  front : List ℕ
-  word : ℕ
-  back : List ℕ
-  all : front ++ word ∷ back ≡ ws
-  misses : Misses l test image front
-  met : meets l test image word ≡ true
-
-split_first : (l : Links) (test : ℕ → List ℕ → Bool) (image ws : List ℕ) (w i : ℕ) → i < length ws → get_or ws i w ≡ w
-    → meets l test image w ≡ true → IsSplit l test image ws
-split_first l test image [] w i below at met = absurd (omega arith)
-split_first l test image (v ∷ ws) w zero below at met = record {
-  front = [];
-  word = v;
-  back = ws;
-  all = refl;
-  misses = tt;
-  met = ap (meets l test image) at ∙ met;
-}
-split_first l test image (v ∷ ws) w (suc i) below at met =
-    ⊎_elim
-    (λ (is : meets l test image v ≡ true).
-    let r : IsSplit l test image (v ∷ ws) = record { front = []; word = v; back = ws; all = refl; misses = tt; met = is } in r)
-    (λ (other : meets l test image v ≡ false).
-    let rest = split_first l test image ws w i (omega arith) at met in
-    let r : IsSplit l test image (v ∷ ws) = record {
-      front = v ∷ rest.front;
-      word = rest.word;
-      back = rest.back;
-      all = ap (λ (t : List ℕ). v ∷ t) rest.all;
-      misses = (other, rest.misses);
-      met = rest.met;
-    } in r)
-    (cases_Bool (meets l test image v))
 
 -- a walk stops there
 met_link : (l : Links) (test : ℕ → List ℕ → Bool) (image : List ℕ) (at : ℕ) (ws : List ℕ) → 0 < l.step → HasChain l image at ws

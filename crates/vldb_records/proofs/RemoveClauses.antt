@@ -2,12 +2,9 @@
 use Rattle.std.proofs.Common.{◌≡◌, ℕ, ◌+◌, ◌-◌, ◌*◌, ◌/◌, ◌<◌, ◌≤◌, List, Option, Some, None, IfSome, IsSome, IsSomeAnd, length, refl, sym, ap, subst, ◌∙◌, arith}
 use Rattle.std.specs.Option.{option_map}
 use Rattle.db_image.specs.Draft.{Drafted}
-use Rattle.db_image.specs.Images.{ReadsAtMost}
 use Rattle.db_image.specs.declared.faults.RecordFault.{RecordFault}
 use Rattle.db_image.specs.declared.faults.RecordFault.TheVariants.{DiskFault, BadRecord, NoMemory}
 use Rattle.db_image.specs.declared.images.ImageRead.{Ghosts}
-use Rattle.db_image.specs.declared.services.Layout.{Layout}
-use Rattle.db_image.proofs.ReadSteps.{reads_then}
 use Rattle.db_blocks.specs.Blocks.{word_at}
 use Rattle.db_blocks.specs.Ends.{HasCause, OnlyLooks}
 use Rattle.db_chains.specs.Changes.{without}
@@ -16,7 +13,9 @@ use Rattle.db_chains.specs.Free.{free_links, with_freed}
 use Rattle.db_chains.specs.declared.links.Links.{Links}
 use Rattle.db_chains.specs.declared.walks.Link.{Link}
 use Rattle.db_chains.proofs.Freed.{freed}
-use Rattle.vldb_chains.specs.Keys.{id_chain, name_chain, name_key}
+use Rattle.db_chains.specs.Keys.{name_key}
+use Rattle.db_chains.proofs.Results.{cause_so, cause_at}
+use Rattle.vldb_chains.specs.Keys.{id_chain, name_chain}
 use Rattle.vldb_chains.specs.Places.{free_blocks, id_links, name_links}
 use Rattle.vldb_entries.specs.declared.entries.VlEntry.{VlEntry}
 use Rattle.vldb_entries.specs.Location.{Location, has_id, without_entry}
@@ -37,17 +36,6 @@ use Rattle.vldb_records.proofs.Taken.{free_all}
 
 -- ---- frames
 
--- one change after another of a draft that keeps its length, whose bytes are counted by its blocks and its length
-pub drafts_on : {I : Type 0} (g : Ghosts I) (m : ℕ) (cost : Layout → ℕ → ℕ) (most : ℕ) (a b c : Drafted I) (first failed : Type 0)
-    → DraftsAtMost g m a b first → b.len ≡ a.len → DraftsAtMost g (cost b.layout b.len) b c failed → m + cost a.layout a.len ≤ most
-    → DraftsAtMost g most a c failed
-drafts_on g m cost most a b c first failed r len s fits =
-    let same : cost b.layout b.len ≡ cost a.layout a.len = ap (λ (l : Layout). cost l b.len) r.drafts.layout ∙ ap (cost a.layout) len in
-    let all : ReadsAtMost g most a.image c.image failed =
-    reads_then g m (cost b.layout b.len) most a.image b.image c.image first failed record { reads = r.drafts.reads; asked = r.cost }
-    record { reads = s.drafts.reads; asked = s.cost } (subst (λ (n : ℕ). m + n ≤ most) (sym same) fits) in
-    record { drafts = record { layout = s.drafts.layout ∙ r.drafts.layout; reads = all.reads }; cost = all.asked }
-
 pub looks_on : {I : Type 0} (g : Ghosts I) (most : ℕ) (a b : Drafted I) (failed : Type 0) → OnlyLooks g a b failed
     → CostsAtMost g most a b → DraftsAtMost g most a b failed
 looks_on g most a b failed looks cost =
@@ -58,21 +46,6 @@ looks_on g most a b failed looks cost =
 pub there : {X : Type 0} (o : Option X) → IsSome o → (x : X) × (o ≡ Some x)
 there None some = absurd cc
 there (Some x) some = (x, refl)
-
-pub cause_so : (a : Option (List ℕ)) (P Q : List ℕ → Type 0) (fault : RecordFault) → ((image : List ℕ) → P image → Q image)
-    → HasCause a Q fault → HasCause a P fault
-cause_so a P Q DiskFault so cause = tt
-cause_so a P Q NoMemory so cause = tt
-cause_so None P Q (BadRecord at) so cause = tt
-cause_so (Some image) P Q (BadRecord at) so cause = λ is. cause (so image is)
-
-pub cause_at : (a b : Option (List ℕ)) (f : List ℕ → List ℕ) (P Q : List ℕ → Type 0) (fault : RecordFault) → b ≡ option_map f a
-    → ((image : List ℕ) → P image → Q (f image)) → HasCause b Q fault → HasCause a P fault
-cause_at a b f P Q DiskFault made so cause = tt
-cause_at a b f P Q NoMemory made so cause = tt
-cause_at None b f P Q (BadRecord at) made so cause = tt
-cause_at (Some image) b f P Q (BadRecord at) made so cause = λ is.
-    subst (λ (o : Option (List ℕ)). HasCause o Q (BadRecord at)) made cause (so image is)
 
 -- ---- an entry's block goes out of its chains
 

@@ -3,7 +3,7 @@ use Rattle.std.proofs.Common.{◌≡◌, ◌≢◌, ℕ, zero, suc, ◌+◌, ◌
 use Rattle.std.specs.List.{AllByRecursion, Contains}
 use Rattle.std.proofs.lemmas.Bool.{cases_eq}
 use Rattle.std.proofs.lemmas.List.{length-take-le}
-use Rattle.db_blocks.specs.Blocks.{IsWhole, block_place, with_block, word_at}
+use Rattle.db_blocks.specs.Blocks.{IsWhole, block_place, with_block, word_at, kind_of}
 use Rattle.db_blocks.specs.Bytes.{number_word, zeros}
 use Rattle.db_blocks.proofs.BlockPlaces.{changed_laid, head_put, laid, put_block}
 use Rattle.db_blocks.proofs.Maps.{some_same, under_other}
@@ -21,11 +21,11 @@ use Rattle.db_chains.proofs.Stops.{above_behind}
 use Rattle.db_chains.proofs.Words.{in_block, right}
 use Rattle.db_chains.specs.Visits.{Visits}
 use Rattle.db_chains.proofs.Entered.{visits_as}
-use Rattle.vldb_chains.specs.Keys.{id_key, name_key}
+use Rattle.vldb_chains.specs.Keys.{id_key}
 use Rattle.vldb_chains.specs.Places.{free_blocks, id_links, name_links}
 use Rattle.vldb_entries.specs.declared.entries.VlEntry.{VlEntry}
 use Rattle.vldb_entries.specs.Location.{IsLocation, Location, without_entry}
-use Rattle.vldb_entries.specs.Forms.{block_at, block_of, blocks_in, head_of, kind_of, name_in}
+use Rattle.vldb_entries.specs.Forms.{block_at, block_of, blocks_in, head_of, name_in}
 use Rattle.vldb_entries.proofs.EntryAgain.{backup_again, kind_again, name_again, ro_again, rw_again}
 use Rattle.vldb_entries.proofs.Locations.{each_without}
 use Rattle.vldb_records.specs.Records.{HasFree, IsBlockOf, IsFree, IsIdWord, IsLaidOut, IsNameWord, IsNumberOf, id_of, id_place, name_place, unlinked, unlinked_free, unlinked_head}
@@ -34,6 +34,7 @@ use Rattle.vldb_records.proofs.HeadSet.{free_are}
 use Rattle.vldb_records.proofs.Inserted.{form_same, not_free}
 use Rattle.vldb_records.proofs.Kept.{entries_stay, kind_stays}
 use Rattle.db_chains.proofs.Leaving.{all_of, among_all, among_this, place_kind}
+use Rattle.db_chains.specs.Keys.{name_key}
 use Rattle.vldb_records.proofs.Left.{AreUnused, IsIn, IsStep, Less, LessIds, id_in}
 use Rattle.vldb_records.proofs.Stays.{blanked_same, count_same, front_stays, unlinked_first, whole_on}
 use Rattle.vldb_records.proofs.Taken.{ids_not_free, names_not_free}

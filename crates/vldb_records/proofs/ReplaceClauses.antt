@@ -7,6 +7,7 @@ use Rattle.db_image.specs.declared.faults.RecordFault.{RecordFault}
 use Rattle.db_blocks.specs.Blocks.{block_place}
 use Rattle.db_blocks.specs.Ends.{HasCause}
 use Rattle.db_chains.specs.declared.walks.Link.{Link}
+use Rattle.db_chains.proofs.Results.{cause_so}
 use Rattle.vldb_entries.specs.declared.entries.VlEntry.{VlEntry}
 use Rattle.vldb_entries.specs.Location.{IsRecord, Location, MayEnter, MayReplace, with_entered}
 use Rattle.vldb_entries.specs.Forms.{addresses_in, block_at, block_of, whole}
@@ -15,11 +16,11 @@ use Rattle.vldb_entries.proofs.HeadRead.{whole_same}
 use Rattle.vldb_entries.proofs.Locations.{location_entered}
 use Rattle.vldb_records.specs.Records.{Holds, IsLaidOut}
 use Rattle.vldb_records.specs.Changes.{after_replace, moved, with_fields, word_of_id}
-use Rattle.vldb_records.specs.Ends.{HasEntry, HoldsSome}
+use Rattle.vldb_records.specs.Ends.{HasEntry}
 use Rattle.vldb_records.proofs.HeadTold.{laid_addresses}
 use Rattle.vldb_records.proofs.Held.{holds_from}
 use Rattle.vldb_records.proofs.OwnWord.{IsFoundBy, own_number}
-use Rattle.vldb_records.proofs.RemoveClauses.{HasOne, cause_so, there}
+use Rattle.vldb_records.proofs.RemoveClauses.{HasOne, there}
 use Rattle.vldb_records.proofs.Replaced.{laid_replaced}
 
 pub fields_made : (a b c : Option (List ℕ)) (k place : ℕ) (block numbers rest : List ℕ) → place ≡ block_place 3132 k
@@ -43,12 +44,6 @@ pub may_cause : (a : Option (List ℕ)) (own : ℕ) (may : Location → Type 0) 
     → HasCause a (λ image. (s : Location) × Holds image s × may s) fault
 may_cause a own may fault wants cause =
     cause_so a (λ image. (s : Location) × Holds image s × may s) (HasOne own) fault (λ image one. (one.0, one.1, wants one.0 one.2)) cause
-
-pub some_cause : (a b : Option (List ℕ)) (own : ℕ) (fault : RecordFault) → b ≡ a → HasCause b HoldsSome fault
-    → HasCause a (HasOne own) fault
-some_cause a b own fault same cause =
-    cause_so a (HasOne own) HoldsSome fault (λ image one. (one.0, one.1))
-    (subst (λ (o : Option (List ℕ)). HasCause o HoldsSome fault) same cause)
 
 -- ---- what a replacement makes
 

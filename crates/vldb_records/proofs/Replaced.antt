@@ -1,17 +1,18 @@
 -- The image after an entry was replaced holds the database with the other one.
 use Rattle.std.proofs.Common.{◌≡◌, ◌≢◌, ℕ, ◌+◌, ◌-◌, ◌*◌, ◌/◌, ◌%◌, ◌<◌, ◌⊎◌, inl, inr, ⊎_elim, true, List, Some, None, length, refl, sym, ap, subst, ◌∙◌, arith}
 use Rattle.std.proofs.lemmas.Bool.{cases_eq}
-use Rattle.db_blocks.specs.Blocks.{block_place, word_at}
+use Rattle.db_blocks.specs.Blocks.{block_place, word_at, kind_of}
 use Rattle.db_blocks.proofs.Maps.{some_same, under_other, under_same}
 use Rattle.db_chains.specs.Links.{next_place}
 use Rattle.db_chains.proofs.Words.{in_block}
 use Rattle.db_chains.specs.Visits.{Visits}
 use Rattle.db_chains.proofs.Entered.{visits_as}
-use Rattle.vldb_chains.specs.Keys.{id_key, name_key}
+use Rattle.db_chains.specs.Keys.{name_key}
+use Rattle.vldb_chains.specs.Keys.{id_key}
 use Rattle.vldb_chains.specs.Places.{id_links, name_links}
 use Rattle.vldb_entries.specs.declared.entries.VlEntry.{VlEntry}
 use Rattle.vldb_entries.specs.Location.{IsLocation, IsRecord, Location, MayEnter, has_id, with_entered, without_entry}
-use Rattle.vldb_entries.specs.Forms.{block_at, block_of, blocks_in, head_of, kind_of}
+use Rattle.vldb_entries.specs.Forms.{block_at, block_of, blocks_in, head_of}
 use Rattle.vldb_entries.proofs.EntryAgain.{length-block}
 use Rattle.vldb_entries.proofs.Locations.{each_without, location_entered}
 use Rattle.vldb_records.specs.Records.{HasFree, IsBlockOf, IsFree, IsIdWord, IsLaidOut, IsNameWord, IsNumberOf, id_of, id_place, name_place, unlinked, unlinked_head}

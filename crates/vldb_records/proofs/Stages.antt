@@ -1,7 +1,7 @@
 -- The chains of an image while a block comes in front of those of its entry, one after the other.
 use Rattle.std.proofs.Common.{◌≡◌, ◌≢◌, ℕ, ◌+◌, ◌*◌, ◌/◌, ◌%◌, ◌<◌, ◌≤◌, ◌⊎◌, inl, inr, ⊎_elim, true, Bool, cond, List, length, refl, sym, ap, subst, ◌∙◌, arith}
 use Rattle.std.proofs.lemmas.Bool.{cases_eq, cases_order, eq-eqb, ne_eqb}
-use Rattle.db_blocks.specs.Blocks.{IsWhole, block_count, block_place, word_at}
+use Rattle.db_blocks.specs.Blocks.{IsWhole, block_count, block_place, word_at, kind_of}
 use Rattle.db_chains.specs.declared.links.Links.{Links}
 use Rattle.db_chains.specs.Chains.{HasChain}
 use Rattle.db_chains.specs.Changes.{put_in}
@@ -12,10 +12,11 @@ use Rattle.db_chains.proofs.Entered.{put_keyed, put_other_sort, put_other_visits
 use Rattle.db_chains.proofs.Framed.{block_mark}
 use Rattle.db_chains.proofs.Words.{right_from}
 use Rattle.db_chains.specs.Visits.{Visits}
-use Rattle.vldb_chains.specs.Keys.{id_key, name_key}
+use Rattle.db_chains.specs.Keys.{name_key}
+use Rattle.vldb_chains.specs.Keys.{id_key}
 use Rattle.vldb_chains.specs.Places.{free_blocks, id_links, name_links}
 use Rattle.vldb_entries.specs.declared.entries.VlEntry.{VlEntry}
-use Rattle.vldb_entries.specs.Forms.{block_at, blocks_in, kind_of}
+use Rattle.vldb_entries.specs.Forms.{block_at, blocks_in}
 use Rattle.vldb_records.specs.Records.{id_of, id_place, name_place, unlinked}
 use Rattle.vldb_records.specs.Changes.{entered, first_by_id}
 use Rattle.vldb_records.proofs.Fields.{block_len, number_stays}

@@ -3,20 +3,20 @@ use Rattle.std.proofs.Common.{◌≡◌, ◌≢◌, ℕ, ◌+◌, ◌-◌, ◌*�
 use Rattle.std.proofs.lemmas.Bool.{cases_eq}
 use Rattle.std.proofs.lemmas.Grind.{same_number_lists}
 use Rattle.std.proofs.lemmas.List.{get_or-take, length-take-le}
-use Rattle.db_blocks.specs.Blocks.{IsWhole, block_place, word_at}
+use Rattle.db_blocks.specs.Blocks.{IsWhole, block_place, word_at, blanked}
 use Rattle.db_blocks.specs.Bytes.{number_word, zeros}
-use Rattle.db_blocks.proofs.BlockPlaces.{head_put, laid}
+use Rattle.db_blocks.proofs.BlockPlaces.{head_put, laid, laid_in, laid_out, laid_len}
+use Rattle.db_blocks.proofs.Lengths.{length-zeros}
 use Rattle.db_chains.specs.declared.links.Links.{Links}
 use Rattle.db_chains.specs.Changes.{put_in, put_word}
 use Rattle.db_chains.specs.Links.{next_place}
-use Rattle.db_chains.proofs.Bytes.{IsApart, StaysBut, word_len, word_put, word_stays}
+use Rattle.db_chains.proofs.Bytes.{IsApart, StaysBut, word_len, word_put, word_stays, blanked_len}
 use Rattle.db_chains.proofs.Framed.{block_stays, byte_stays}
 use Rattle.db_chains.proofs.Free.{beside}
 use Rattle.vldb_entries.specs.Forms.{block_at, blocks_in}
-use Rattle.vldb_entries.proofs.HeadRead.{length-zeros}
-use Rattle.vldb_records.specs.Records.{blanked, unlinked, unlinked_head}
-use Rattle.vldb_records.proofs.Fields.{blanked_len, block_len}
-use Rattle.vldb_records.proofs.HeadSet.{AreBeside, around, blanked_laid, blanked_swap, laid_in, laid_len, laid_out}
+use Rattle.vldb_records.specs.Records.{unlinked, unlinked_head}
+use Rattle.vldb_records.proofs.Fields.{block_len}
+use Rattle.vldb_records.proofs.HeadSet.{AreBeside, around, blanked_laid, blanked_swap}
 
 -- ---- bytes without the words of chains
 

@@ -4,7 +4,7 @@ use Rattle.std.specs.Prelude.{slice_get, unwrap_or}
 use Rattle.std.specs.List.{Contains}
 use Rattle.std.proofs.lemmas.Bool.{cases_eq, eq-eqb, ne_eqb}
 use Rattle.std.proofs.lemmas.List.{length-take-le}
-use Rattle.db_blocks.specs.Blocks.{IsWhole, block_place, with_block, word_at}
+use Rattle.db_blocks.specs.Blocks.{IsWhole, block_place, with_block, word_at, kind_of}
 use Rattle.db_blocks.specs.Bytes.{number_word, words}
 use Rattle.db_blocks.proofs.BlockPlaces.{IsPut, add_block, head_put, laid, put_block}
 use Rattle.db_blocks.proofs.Scanned.{count_is}
@@ -22,7 +22,7 @@ use Rattle.db_chains.specs.Visits.{Visits}
 use Rattle.vldb_chains.specs.Places.{free_blocks, id_links, name_links}
 use Rattle.vldb_entries.specs.declared.entries.VlEntry.{VlEntry}
 use Rattle.vldb_entries.specs.Location.{IsRecord, Location}
-use Rattle.vldb_entries.specs.Forms.{block_at, block_of, blocks_in, head_of, kind_of}
+use Rattle.vldb_entries.specs.Forms.{block_at, block_of, blocks_in, head_of}
 use Rattle.vldb_entries.proofs.EntryAgain.{kind_again, length-block}
 use Rattle.vldb_records.specs.Records.{IsBlockOf, IsFree, IsIdWord, IsLaidOut, IsNameWord, id_place, name_place, unlinked_head}
 use Rattle.db_chains.proofs.Entered.{first_or_rest}

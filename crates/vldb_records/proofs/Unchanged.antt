@@ -7,7 +7,8 @@ use Rattle.std.proofs.lemmas.Slice.Eq.{bytes_eq-Decides}
 use Rattle.ubik_types.specs.Image.{changed}
 use Rattle.ubik_types.specs.declared.images.Change.TheVariants.{Put}
 use Rattle.db_blocks.specs.Blocks.{IsWhole, block_place, word_at}
-use Rattle.db_blocks.proofs.BlockPlaces.{changed_laid, laid}
+use Rattle.db_blocks.proofs.BlockPlaces.{changed_laid, laid, laid_in, laid_out, laid_len}
+use Rattle.db_chains.proofs.Bytes.{blanked_stays}
 use Rattle.vldb_entries.specs.declared.entries.VlEntry.{VlEntry}
 use Rattle.vldb_entries.specs.Location.{Location}
 use Rattle.vldb_entries.specs.Forms.{block_at, block_of, blocks_in, name_in, whole}
@@ -15,8 +16,8 @@ use Rattle.vldb_entries.proofs.EntryAgain.{length-block, name_again}
 use Rattle.vldb_entries.proofs.HeadRead.{whole_same}
 use Rattle.vldb_records.specs.Records.{Holds, unlinked}
 use Rattle.vldb_records.specs.Changes.{after_replace, id_moved, moved, name_moved, with_fields, word_of_id}
-use Rattle.vldb_records.proofs.Fields.{blanked_stays, block_len, name_stays}
-use Rattle.vldb_records.proofs.HeadSet.{around, laid_in, laid_len, laid_out}
+use Rattle.vldb_records.proofs.Fields.{block_len, name_stays}
+use Rattle.vldb_records.proofs.HeadSet.{around}
 use Rattle.vldb_records.proofs.HeadTold.{laid_addresses, none_in}
 use Rattle.vldb_records.proofs.OwnWord.{own_number}
 use Rattle.vldb_records.proofs.Removed.{id_told}

@@ -5,26 +5,25 @@ use Rattle.std.proofs.lemmas.Grind.{same_number_lists}
 use Rattle.std.proofs.lemmas.List.{get_or-drop, get_or-take, length-drop, length-take-le}
 use Rattle.ubik_types.specs.Image.{changed}
 use Rattle.ubik_types.specs.declared.images.Change.TheVariants.{Put}
-use Rattle.db_blocks.specs.Blocks.{IsWhole, block_count, block_in, block_place, word_at}
+use Rattle.db_blocks.specs.Blocks.{IsWhole, block_count, block_in, block_place, word_at, kind_of}
 use Rattle.db_blocks.specs.Bytes.{words}
-use Rattle.db_blocks.proofs.BlockPlaces.{changed_laid}
+use Rattle.db_blocks.proofs.BlockPlaces.{changed_laid, laid_in}
 use Rattle.db_chains.specs.declared.links.Links.{Links}
 use Rattle.db_chains.specs.Chains.{HasChain}
 use Rattle.db_chains.specs.Free.{free_links}
 use Rattle.db_chains.specs.Links.{is_right, mark_place, next_place}
-use Rattle.db_chains.proofs.Bytes.{IsApart, StaysBut, put_len, put_stays, word_stays}
+use Rattle.db_chains.proofs.Bytes.{IsApart, StaysBut, put_len, put_stays, word_stays, blanked_stays}
 use Rattle.db_chains.proofs.Framed.{block_mark, block_stays, byte_stays}
 use Rattle.db_chains.proofs.Words.{right, right_names}
 use Rattle.db_chains.proofs.Words.{right_from}
 use Rattle.vldb_chains.specs.Places.{free_blocks, id_links, name_links}
 use Rattle.vldb_entries.specs.declared.entries.VlEntry.{VlEntry}
 use Rattle.vldb_entries.specs.Location.{IsRecord}
-use Rattle.vldb_entries.specs.Forms.{block_at, block_of, blocks_in, kind_of}
+use Rattle.vldb_entries.specs.Forms.{block_at, block_of, blocks_in}
 use Rattle.vldb_entries.proofs.EntryAgain.{length-block}
 use Rattle.vldb_records.specs.Records.{unlinked}
 use Rattle.vldb_records.specs.Changes.{with_fields}
-use Rattle.vldb_records.proofs.Fields.{blanked_stays, block_len}
-use Rattle.vldb_records.proofs.HeadSet.{laid_in}
+use Rattle.vldb_records.proofs.Fields.{block_len}
 use Rattle.vldb_records.proofs.Inserted.{unlinked_form}
 use Rattle.vldb_records.proofs.Stays.{count_same, unlinked_same, whole_on}
 

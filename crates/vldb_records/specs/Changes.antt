@@ -6,7 +6,7 @@ use Rattle.ubik_types.specs.declared.images.Change.TheVariants.{Put}
 use Rattle.db_blocks.specs.Blocks.{block_place, word_at}
 use Rattle.db_blocks.specs.Bytes.{word, words}
 use Rattle.db_chains.specs.Changes.{put_in, without}
-use Rattle.db_chains.specs.Ends.{walk_cost}
+use Rattle.db_chains.specs.Ends.{walk_cost, first_cost, out_cost}
 use Rattle.db_chains.specs.Walks.{stop_place}
 use Rattle.db_chains.specs.declared.links.Links.{Links}
 use Rattle.db_image.specs.Draft.{put_cost}
@@ -44,11 +44,8 @@ after_insert e image =
     let old = whole image in
     entered (next_number free_blocks old) e (with_taken free_blocks (block_of (addresses_in old) e) old)
 
--- How many bytes are read at most: where a word comes in front of a chain, where the words of an entry come in front of its chains, and
--- where an entry is inserted, which reads the addresses and may write the first head.
-abbrev pub first_cost : Layout → ℕ
-first_cost layout = 4 + 2 * put_cost layout 4
-
+-- How many bytes are read at most: where the words of an entry come in front of its chains, and where an entry is inserted, which reads the
+-- addresses and may write the first head.
 abbrev pub enter_cost : Layout → ℕ
 enter_cost layout = 4 * first_cost layout
 
@@ -78,11 +75,8 @@ after_remove id image =
     let n = word_of_id id old / 4 in
     with_freed free_blocks n (left n (block_at old (n - 1)) old)
 
--- How many bytes are read at most where a word goes out of a chain, where the words of an entry go out of its chains, and where an entry is
--- removed, in an image of this length: a walk along each of these chains, one to find the entry, and one along the free blocks.
-abbrev pub out_cost : Links → Layout → (len : ℕ) → ℕ
-out_cost l layout len = walk_cost l len + 4 + 2 * put_cost layout 4
-
+-- How many bytes are read at most where the words of an entry go out of its chains, and where an entry is removed, in an image of this
+-- length: a walk along each of these chains, one to find the entry, and one along the free blocks.
 abbrev pub leave_cost : Layout → (len : ℕ) → ℕ
 leave_cost layout len = out_cost name_links layout len + 3 * out_cost id_links layout len
 

@@ -4,10 +4,10 @@ use Rattle.std.specs.List.{list_any}
 use Rattle.vldb_entries.specs.declared.entries.VlEntry.{VlEntry}
 use Rattle.vldb_entries.specs.declared.entries.VlSite.{VlSite}
 use Rattle.vldb_records.specs.declared.listings.Listing.{Listing}
-use Rattle.db_blocks.specs.Blocks.{word_at}
+use Rattle.db_blocks.specs.Blocks.{word_at, kind_of}
 use Rattle.vldb_entries.specs.declared.layout.TheConstants.{RW_AT}
 use Rattle.vldb_entries.specs.Location.{Location}
-use Rattle.vldb_entries.specs.Forms.{entry_in, kind_of}
+use Rattle.vldb_entries.specs.Forms.{entry_in}
 
 -- on a partition, none for any
 abbrev pub is_on : Option ℕ → VlSite → Bool

@@ -1,15 +1,14 @@
 -- How an image holds the location database with its chains (layout of format 1).
 use Rattle.std.specs.Prelude.{ℕ, ◌≡◌, ◌≢◌, ◌+◌, ◌-◌, ◌*◌, ◌/◌, ◌%◌, ◌<◌, ◌≤◌, ◌⊎◌, ◌==◌, List, take, Some, if◌then◌else◌}
 use Rattle.std.specs.List.{Contains}
-use Rattle.ubik_types.specs.Image.{changed}
-use Rattle.ubik_types.specs.declared.images.Change.TheVariants.{Put}
-use Rattle.db_blocks.specs.Blocks.{IsWhole, word_at}
+use Rattle.db_blocks.specs.Blocks.{IsWhole, word_at, blanked}
 use Rattle.db_blocks.specs.Bytes.{zeros}
 use Rattle.db_blocks.specs.declared.blocks.TheConstants.{BLOCK_LEN}
 use Rattle.db_chains.specs.Chains.{HasChain}
 use Rattle.db_chains.specs.Free.{IsAscending, free_links}
 use Rattle.db_chains.specs.Visits.{Visits}
-use Rattle.vldb_chains.specs.Keys.{id_key, name_key}
+use Rattle.db_chains.specs.Keys.{name_key}
+use Rattle.vldb_chains.specs.Keys.{id_key}
 use Rattle.vldb_chains.specs.Places.{free_blocks, id_links, name_links}
 use Rattle.vldb_entries.specs.declared.entries.VlEntry.{VlEntry}
 use Rattle.vldb_entries.specs.Location.{IsLocation, Location}
@@ -17,10 +16,6 @@ use Rattle.vldb_entries.specs.Forms.{block_at, block_of, blocks_in, head_of, who
 use Rattle.vldb_entries.specs.declared.layout.TheConstants.{HEAD_LEN}
 
 -- ---- without the words of chains
-
--- bytes with so many zero bytes laid from a position on
-abbrev pub blanked : (at len : ℕ) → List ℕ → List ℕ
-blanked at len bytes = changed bytes (Put at (zeros len))
 
 -- an entry's block without its four next words, by the name and by the three ids
 unfoldable pub unlinked : List ℕ → List ℕ

@@ -4,11 +4,11 @@ ghost use Rattle.db_image.specs.Images.{IsOfImage};
 ghost use Rattle.db_blocks.specs.Ends.{Becomes};
 ghost use Rattle.db_blocks.specs.declared.blocks.TheConstants.{BLOCK_LEN};
 ghost use Rattle.db_chains.specs.Changes.{IsPlaced};
-ghost use Rattle.db_chains.specs.Ends.{DraftsAtMost};
+ghost use Rattle.db_chains.specs.Ends.{DraftsAtMost, first_cost};
 ghost use Rattle.db_chains.specs.Free.{IsNumber};
 ghost use Rattle.vldb_chains.specs.Places.{free_blocks, id_links};
 ghost use Rattle.vldb_entries.specs.Location.{IsRecord, MayEnter, with_entered};
-ghost use Rattle.vldb_records.specs.Changes.{after_insert, enter_cost, entered, first_by_id, first_cost, insert_cost};
+ghost use Rattle.vldb_records.specs.Changes.{after_insert, enter_cost, entered, first_by_id, insert_cost};
 ghost use Rattle.vldb_records.specs.Ends.{HasItsCause, Makes};
 ghost use Rattle.vldb_entries.specs.declared.layout.TheConstants.{HEAD_LEN};
 

@@ -2,14 +2,14 @@
 ghost use Rattle.std.specs.Prelude.{◌≡◌, ◌+◌, ◌*◌, ◌<◌, ◌≤◌, ◌^◌, ℕ, Bool, List, IfSome, IfOk, IfErr, IsErrOf, length, map, min, not, ◌==◌};
 ghost use Rattle.std.specs.List.{AllByRecursion, list_any, range_with_len};
 ghost use Rattle.db_blocks.specs.Ascending.{first_blocks};
-ghost use Rattle.db_blocks.specs.Blocks.{word_at};
+ghost use Rattle.db_blocks.specs.Blocks.{word_at, kind_of};
 ghost use Rattle.db_blocks.specs.Ends.{OnlyLooks};
 ghost use Rattle.db_blocks.specs.declared.blocks.TheConstants.{BLOCK_LEN};
 ghost use Rattle.db_chains.specs.Ends.{CostsAtMost};
 ghost use Rattle.vldb_records.specs.Ends.{HasItsCause};
 ghost use Rattle.vldb_records.specs.Listing.{AreListed, is_listed_in, is_listed_site, is_on, rw_in};
 ghost use Rattle.vldb_entries.specs.Location.{Location, IsSmall};
-ghost use Rattle.vldb_entries.specs.Forms.{entry_in, kind_of, site_in, whole};
+ghost use Rattle.vldb_entries.specs.Forms.{entry_in, site_in, whole};
 ghost use Rattle.vldb_records.specs.Records.{Holds};
 ghost use Rattle.vldb_entries.specs.declared.layout.TheConstants.{ADDRESSES_LEN, COUNT_AT, HEAD_LEN, RW_AT, SITES_FIELD};
 

@@ -1,10 +1,10 @@
 //! An entry less: its words out of the chains of its name and its ids, and its block among the free ones.
 ghost use Rattle.std.specs.Prelude.{◌≡◌, ◌+◌, ◌<◌, ◌≤◌, ◌^◌, IfErr, IsErrOf, IsSome, OnOk};
 ghost use Rattle.db_blocks.specs.Ends.{Becomes, HasCause};
-ghost use Rattle.db_chains.specs.Ends.{DraftsAtMost};
+ghost use Rattle.db_chains.specs.Ends.{DraftsAtMost, out_cost};
 ghost use Rattle.vldb_chains.specs.Places.{id_links};
 ghost use Rattle.vldb_entries.specs.Location.{without_entry};
-ghost use Rattle.vldb_records.specs.Changes.{after_remove, leave_cost, left, out_cost, remove_cost, without_id};
+ghost use Rattle.vldb_records.specs.Changes.{after_remove, leave_cost, left, remove_cost, without_id};
 ghost use Rattle.vldb_records.specs.Ends.{HasCauseWhere, HasEntry, HasIdWord, Makes};
 ghost use Rattle.vldb_entries.specs.declared.layout.TheConstants.{HEAD_LEN};
 

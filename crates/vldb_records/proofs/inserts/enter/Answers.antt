@@ -1,8 +1,9 @@
 use Rattle.std.proofs.Common.{◌*◌, arith}
 use Rattle.std.proofs.lemmas.Result.{err_from_is_err_and}
 use Rattle.db_chains.proofs.Results.{drafts_so, err_same}
-use Rattle.vldb_records.specs.Changes.{enter_cost, first_cost}
-use Rattle.vldb_records.proofs.InsertClauses.{drafts_after}
+use Rattle.db_chains.specs.Ends.{first_cost}
+use Rattle.db_chains.proofs.Drafted.{drafts_after}
+use Rattle.vldb_records.specs.Changes.{enter_cost}
 use Rattle.vldb_records.proofs.inserts.enter.Goals as goal
 
 pub returns-in_err-enter_id-2-clause-frame : goal.returns-in_err-enter_id-2-clause-frame

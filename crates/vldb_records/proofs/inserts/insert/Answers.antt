@@ -5,9 +5,10 @@ use Rattle.db_image.specs.Draft.{put_cost}
 use Rattle.db_image.specs.declared.services.Layout.{Layout}
 use Rattle.db_chains.specs.Free.{take_cost}
 use Rattle.db_chains.proofs.Results.{drafts_so, err_same, ok_so}
+use Rattle.db_chains.proofs.Drafted.{drafts_after, looks_draft}
 use Rattle.vldb_entries.specs.Forms.{whole}
 use Rattle.vldb_records.specs.Changes.{enter_cost, insert_cost}
-use Rattle.vldb_records.proofs.InsertClauses.{drafts_after, free_fault, insert_makes, inserted, looks_draft}
+use Rattle.vldb_records.proofs.InsertClauses.{free_fault, insert_makes, inserted}
 use Rattle.vldb_records.proofs.inserts.insert.Goals as goal
 
 pub returns-in_err-number-clause-frame : goal.returns-in_err-number-clause-frame

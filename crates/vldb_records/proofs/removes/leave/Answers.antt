@@ -1,9 +1,11 @@
 use Rattle.std.proofs.Common.{◌+◌, arith}
 use Rattle.std.proofs.lemmas.Result.{err_from_is_err_and}
 use Rattle.db_chains.proofs.Results.{drafts_so, err_same, err_so}
+use Rattle.db_chains.specs.Ends.{out_cost}
+use Rattle.db_chains.proofs.Drafted.{drafts_on}
 use Rattle.vldb_chains.specs.Places.{id_links, name_links}
-use Rattle.vldb_records.specs.Changes.{leave_cost, out_cost}
-use Rattle.vldb_records.proofs.RemoveClauses.{backup_cause, drafts_on, name_cause, name_made, ro_cause, ro_made, rw_cause, rw_made}
+use Rattle.vldb_records.specs.Changes.{leave_cost}
+use Rattle.vldb_records.proofs.RemoveClauses.{backup_cause, name_cause, name_made, ro_cause, ro_made, rw_cause, rw_made}
 use Rattle.vldb_records.proofs.removes.leave.Goals as goal
 
 pub returns-in_err-take_out-clause-fault : goal.returns-in_err-take_out-clause-fault

@@ -3,9 +3,10 @@ use Rattle.std.proofs.lemmas.Result.{err_from_is_err_and}
 use Rattle.db_chains.proofs.Results.{err_so, ok_so}
 use Rattle.db_chains.specs.Ends.{walk_cost}
 use Rattle.db_chains.specs.Free.{free_cost}
+use Rattle.db_chains.proofs.Drafted.{drafts_on}
 use Rattle.vldb_chains.specs.Places.{free_blocks, id_links}
 use Rattle.vldb_records.specs.Changes.{leave_cost, remove_cost}
-use Rattle.vldb_records.proofs.RemoveClauses.{drafts_on, find_cause, free_cause, leave_cause, looks_on, none_cause, removed_bytes, removed_makes}
+use Rattle.vldb_records.proofs.RemoveClauses.{find_cause, free_cause, leave_cause, looks_on, none_cause, removed_bytes, removed_makes}
 use Rattle.vldb_records.proofs.removes.remove.Goals as goal
 
 pub returns-in_err-link-clause-fault : goal.returns-in_err-link-clause-fault

@@ -1,10 +1,10 @@
 use Rattle.std.proofs.Common.{◌+◌, arith}
 use Rattle.std.proofs.lemmas.Result.{err_from_is_err_and}
 use Rattle.db_chains.proofs.Results.{drafts_so, err_same, err_so}
+use Rattle.db_chains.proofs.Drafted.{drafts_on}
 use Rattle.vldb_chains.specs.Places.{id_links, name_links}
 use Rattle.vldb_records.specs.Changes.{move_cost, moves_cost}
 use Rattle.vldb_records.proofs.Moves.{backup_cause, name_cause, name_made, ro_cause, ro_made, rw_cause, rw_made}
-use Rattle.vldb_records.proofs.RemoveClauses.{drafts_on}
 use Rattle.vldb_records.proofs.replaces.move_to.Goals as goal
 
 pub returns-in_err-move_name-clause-fault : goal.returns-in_err-move_name-clause-fault

@@ -4,11 +4,11 @@ use Rattle.db_image.specs.declared.faults.RecordFault.TheVariants.{BadRecord}
 use Rattle.db_image.specs.declared.services.Layout.{Layout}
 use Rattle.db_chains.proofs.Results.{drafts_so, err_same, ok_so}
 use Rattle.db_chains.specs.Ends.{walk_cost}
+use Rattle.db_chains.proofs.Drafted.{drafts_on, looks_draft}
 use Rattle.vldb_chains.specs.Places.{id_links}
 use Rattle.vldb_entries.specs.Location.{MayReplace}
 use Rattle.vldb_records.specs.Changes.{fields_cost, moves_cost, replace_cost}
-use Rattle.vldb_records.proofs.InsertClauses.{looks_draft}
-use Rattle.vldb_records.proofs.RemoveClauses.{drafts_on, find_cause, leave_cause, looks_on, none_cause}
+use Rattle.vldb_records.proofs.RemoveClauses.{find_cause, leave_cause, looks_on, none_cause}
 use Rattle.vldb_records.proofs.ReplaceClauses.{may_cause, replaced_bytes, replaced_makes}
 use Rattle.vldb_records.proofs.replaces.replace.Goals as goal
 
