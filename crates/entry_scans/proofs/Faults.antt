@@ -4,8 +4,9 @@ use Rattle.db_image.specs.Draft.{Drafted}
 use Rattle.db_image.specs.declared.faults.RecordFault.{RecordFault}
 use Rattle.db_image.specs.declared.faults.RecordFault.TheVariants.{DiskFault, BadRecord, NoMemory}
 use Rattle.db_image.specs.declared.images.ImageRead.{Ghosts}
+use Rattle.db_blocks.specs.Blocks.{kind_of}
 use Rattle.prdb_layout.specs.RecordEnds.{HasCause}
-use Rattle.prdb_layout.specs.Records.{Holds, IsLaidOut, block_in, kind_of}
+use Rattle.prdb_layout.specs.Records.{Holds, IsLaidOut, block_in}
 use Rattle.prdb_layout.specs.State.{PrEntry}
 use Rattle.prdb_layout.proofs.LaidOut.{bad_block}
 use Rattle.entry_scans.proofs.Passed.{Passed}

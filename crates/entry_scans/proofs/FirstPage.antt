@@ -1,17 +1,16 @@
 -- The blocks that one pass gives are those of the first entries.
-use Rattle.std.proofs.Common.{◌≡◌, ℕ, ℤ, pos, negsuc, zero, suc, ◌+◌, ◌<◌, ◌≤◌, ◌+ℤ◌, Bool, true, List, [], ◌∷◌, Option, Some, None, IfSome, Result, Ok, Err, IfOk, map, take, refl, sym, ap, subst, ◌∙◌, inl, inr, arith}
+use Rattle.std.proofs.Common.{◌≡◌, ℕ, ℤ, pos, negsuc, zero, suc, ◌+◌, ◌<◌, ◌≤◌, ◌+ℤ◌, Bool, true, List, [], ◌∷◌, Option, Some, None, IfSome, Result, Ok, Err, IfOk, map, take, refl, sym, ap, subst, ◌∙◌, inl, arith}
 use Rattle.std.specs.Prelude.{◌≤ℤ◌}
-use Rattle.std.specs.List.{AllByRecursion}
 use Rattle.std.proofs.lemmas.Bool.{false_from_ne_true}
 use Rattle.db_image.specs.declared.faults.RecordFault.{RecordFault}
 use Rattle.db_blocks.specs.Ascending.{first_blocks, numbers_met}
-use Rattle.db_blocks.specs.Blocks.{block_in as db_block_in}
-use Rattle.db_blocks.proofs.Order.{AreApart, IsIn, IsOrder, order_behind, order_least, order_of}
+use Rattle.db_blocks.specs.Blocks.{block_in as db_block_in, kind_of}
+use Rattle.db_blocks.proofs.Order.{AreApart, IsOrder, order_behind, order_least, order_of}
 use Rattle.prdb_layout.specs.Blocks.{block_count}
-use Rattle.prdb_layout.specs.Records.{Holds, IsLaidOut, block_in, entry_in, kind_of, whole}
+use Rattle.prdb_layout.specs.Records.{Holds, IsLaidOut, block_in, entry_in, whole}
 use Rattle.prdb_layout.specs.Registry.{Registry, IsRegistry}
 use Rattle.prdb_layout.specs.State.{PrEntry, IsId}
-use Rattle.entry_scans.specs.Pages.{AreFirst, IsOfEntry, rank_in}
+use Rattle.entry_scans.specs.Pages.{AreFirst, rank_in}
 use Rattle.entry_scans.specs.Sought.{is_sought}
 use Rattle.entry_scans.proofs.Ranks.{id_low, low_next, rank_back, rank_next, rank_same, rank_up}
 use Rattle.entry_scans.proofs.Told.{sought_from, sought_parts}
@@ -135,18 +134,6 @@ firsts test r image valid laid (suc n) low from (k ∷ ks) o start =
           (order_behind (test_of test image) (key_of image) (block_count image) low k ks o) (from_next test image k m.id),
     )
 
--- ---- and their blocks
-
-of_entries : (test : PrEntry → Bool) (r : Registry) (image : List ℕ) → IsRegistry r → IsLaidOut image r → (n : ℕ) (ks : List ℕ)
-    → ((k : ℕ) → IsIn k ks → (k < block_count image) × (test_of test image k ≡ true))
-    → AllByRecursion (IsOfEntry image) (map (db_block_in 2112 image) (take n ks))
-of_entries test r image valid laid zero ks each = tt
-of_entries test r image valid laid (suc n) [] each = tt
-of_entries test r image valid laid (suc n) (k ∷ ks) each =
-    let here = each k (inl refl) in
-    let m = met_at test r image k valid laid here.0 here.1 in
-    ((k, here.0, m.kind, same_block image k), of_entries test r image valid laid n ks (λ j there. each j (inr there)))
-
 -- ---- of what the bytes hold
 
 order_at : (test : PrEntry → Bool) (r : Registry) (image : List ℕ) → IsRegistry r → IsLaidOut image r
@@ -163,15 +150,6 @@ page_found (Some image) test most blocks is = λ r holds.
     (firsts test r (whole image) holds.valid holds.laid most 0 (negsuc 2147483646) (numbers_met 2112 (is_sought test) rank_in (whole image))
     (order_at test r (whole image) holds.valid holds.laid) (from_least test r (whole image) holds.valid holds.laid))
 
-page_there : (bytes : Option (List ℕ)) (test : PrEntry → Bool) (most : ℕ) (blocks : List (List ℕ))
-    → IfSome bytes (λ image. blocks ≡ first_blocks 2112 (is_sought test) rank_in most (whole image))
-    → IfSome bytes (λ image. (r : Registry) → Holds image r → AllByRecursion (IsOfEntry (whole image)) blocks)
-page_there None test most blocks is = tt
-page_there (Some image) test most blocks is = λ r holds.
-    let o = order_at test r (whole image) holds.valid holds.laid in
-    subst (AllByRecursion (IsOfEntry (whole image))) (sym is)
-    (of_entries test r (whole image) holds.valid holds.laid most (numbers_met 2112 (is_sought test) rank_in (whole image)) o.each)
-
 pub ok_found : {X : Type 0} (res : Result X RecordFault) (items : X → List (List ℕ)) (bytes : Option (List ℕ))
     (test : PrEntry → Bool) (most : ℕ)
     → IfOk res (λ x. IfSome bytes (λ image. items x ≡ first_blocks 2112 (is_sought test) rank_in most (whole image)))
@@ -179,10 +157,3 @@ pub ok_found : {X : Type 0} (res : Result X RecordFault) (items : X → List (Li
     → AreFirst test r (negsuc 2147483646) most (map entry_in (items x))))
 ok_found (Err fault) items bytes test most is = tt
 ok_found (Ok x) items bytes test most is = page_found bytes test most (items x) is
-
-pub ok_there : {X : Type 0} (res : Result X RecordFault) (items : X → List (List ℕ)) (bytes : Option (List ℕ))
-    (test : PrEntry → Bool) (most : ℕ)
-    → IfOk res (λ x. IfSome bytes (λ image. items x ≡ first_blocks 2112 (is_sought test) rank_in most (whole image)))
-    → IfOk res (λ x. IfSome bytes (λ image. (r : Registry) → Holds image r → AllByRecursion (IsOfEntry (whole image)) (items x)))
-ok_there (Err fault) items bytes test most is = tt
-ok_there (Ok x) items bytes test most is = page_there bytes test most (items x) is

@@ -4,5 +4,4 @@ pub mod FirstPage
 pub mod InOrder
 pub mod Passed
 pub mod Ranks
-pub mod Scanned
 pub mod Told

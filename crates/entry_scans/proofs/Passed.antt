@@ -5,10 +5,10 @@ use Rattle.std.proofs.lemmas.Bool.{cases_eq}
 use Rattle.std.proofs.lemmas.List.Elements.{Contains-append_left, Contains-push, Contains-push_cases}
 use Rattle.db_image.specs.Draft.{Drafted}
 use Rattle.db_image.specs.declared.images.ImageRead.{Ghosts}
-use Rattle.prdb_layout.specs.RecordEnds.{OnlyLooks}
+use Rattle.db_blocks.specs.Ends.{OnlyLooks}
+use Rattle.db_blocks.proofs.Scanned.{looks_none, looks_so, looks_then}
 use Rattle.prdb_layout.specs.Records.{block_in, block_place, entry_in}
 use Rattle.prdb_layout.specs.State.{PrEntry}
-use Rattle.prdb_layout.proofs.Scanned.{looks_none, looks_so, looks_then}
 use Rattle.entry_scans.specs.Sought.{is_sought}
 
 -- ---- the blocks

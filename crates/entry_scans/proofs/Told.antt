@@ -1,18 +1,19 @@
 -- What a pass found is what the registry has.
-use Rattle.std.proofs.Common.{◌≡◌, ℕ, ℤ, ◌<◌, Bool, true, false, eqb, List, [], Option, Some, None, IfSome, length, sym, ap, subst, ◌∙◌, ⊎_elim, arith}
+use Rattle.std.proofs.Common.{◌≡◌, ℕ, ℤ, ◌<◌, Bool, true, eqb, List, Option, Some, None, IfSome, length, sym, ap, subst, ◌∙◌}
 use Rattle.std.specs.List.{Contains}
-use Rattle.std.proofs.lemmas.Bool.{cases_Bool, and_parts, and_from, eqb-true, eq-eqb}
+use Rattle.std.proofs.lemmas.Bool.{and_parts, and_from, eqb-true, eq-eqb}
 use Rattle.db_image.specs.Draft.{Drafted}
 use Rattle.db_image.specs.declared.images.ImageRead.{Ghosts}
+use Rattle.db_blocks.specs.Blocks.{kind_of}
 use Rattle.prdb_layout.specs.Blocks.{block_count}
-use Rattle.prdb_layout.specs.Records.{Holds, IsLaidOut, block_in, block_place, entry_in, kind_of}
+use Rattle.prdb_layout.specs.Records.{Holds, IsLaidOut, block_in, block_place, entry_in}
 use Rattle.prdb_layout.specs.Registry.{Registry, IsRegistry}
 use Rattle.prdb_layout.specs.State.{PrEntry}
 use Rattle.prdb_layout.proofs.LaidOut.{count_is, whole_same}
-use Rattle.entry_scans.specs.Found.{IsMetAt, TellsWhether}
+use Rattle.entry_scans.specs.Found.{IsMetAt}
 use Rattle.entry_scans.specs.Lists.{IsAscending, IsListOf}
 use Rattle.entry_scans.specs.Sought.{is_sought}
-use Rattle.entry_scans.proofs.Passed.{AreIds, Passed, block_first}
+use Rattle.entry_scans.proofs.Passed.{AreIds, Passed}
 
 pub laid_at : (image : List ℕ) (r : Registry) → 0 < length image → Holds image r → IsLaidOut image r
 laid_at image r some holds = subst (λ (i : List ℕ). IsLaidOut i r) (whole_same image some) holds.laid
@@ -33,48 +34,6 @@ met_at : (test : PrEntry → Bool) (image : List ℕ) (r : Registry) (k : ℕ) �
     → IsMetAt test r (entry_in (block_in image k)).id
 met_at test image r k laid below met =
     let p = sought_parts test (block_in image k) met in (entry_in (block_in image k), laid.there k below p.0, p.1)
-
--- ---- whether there is one
-
-true_so : (bytes : Option (List ℕ)) (test : PrEntry → Bool) (count n : ℕ) (block : List ℕ)
-    → IfSome bytes (λ image. length image ≡ block_place count)
-    → IfSome bytes (λ image. 0 < length image) → n < count → IfSome bytes (λ image. block ≡ block_in image n) → is_sought test block ≡ true
-    → IfSome bytes (λ image. (r : Registry) → Holds image r → TellsWhether test r true)
-true_so None test count n block told some below is met = tt
-true_so (Some image) test count n block told some below is met = λ r holds.
-    let c : block_count image ≡ count = count_is image count told in (
-      (entry_in (block_in image n)).id,
-      met_at test image r n (laid_at image r some holds) (omega arith) (ap (is_sought test) (sym is) ∙ met),
-    )
-
-pub scan_true : {I : Type 0} (g : Ghosts I) (first now : Drafted I) (test : PrEntry → Bool) (ids : List ℤ) (count done : ℕ) (block : List ℕ)
-    → IfSome first.bytes (λ image. 0 < length image) → Passed g first now test ids count done → done < count
-    → IfSome now.bytes (λ image. block ≡ block_in image done) → is_sought test block ≡ true
-    → IfSome first.bytes (λ image. (r : Registry) → Holds image r → TellsWhether test r true)
-scan_true g first now test ids count done block some p below is met =
-    true_so first.bytes test count done block p.told some below (block_first first.bytes now.bytes block done p.frame.same.bytes is) met
-
-none_at : (test : PrEntry → Bool) (image : List ℕ) (r : Registry) → IsLaidOut image r → AreIds test image (block_count image) []
-    → TellsWhether test r false
-none_at test image r laid are = λ id e at.
-    let o = laid.only id e at in
-    ⊎_elim
-    (λ (yes : test e ≡ true).
-    let there = are.all o.0 o.1 (sought_from test (block_in image o.0) o.2 (ap test o.3 ∙ yes)) in absurd (omega (arith, there.1)))
-    (λ (no : test e ≡ false). no)
-    (cases_Bool (test e))
-
-false_so : (bytes : Option (List ℕ)) (test : PrEntry → Bool) (count : ℕ) → IfSome bytes (λ image. length image ≡ block_place count)
-    → IfSome bytes (λ image. 0 < length image) → IfSome bytes (λ image. AreIds test image count [])
-    → IfSome bytes (λ image. (r : Registry) → Holds image r → TellsWhether test r false)
-false_so None test count told some are = tt
-false_so (Some image) test count told some are = λ r holds.
-    none_at test image r (laid_at image r some holds) (subst (λ (n : ℕ). AreIds test image n []) (sym (count_is image count told)) are)
-
-pub scan_false : {I : Type 0} (g : Ghosts I) (first now : Drafted I) (test : PrEntry → Bool) (count : ℕ)
-    → IfSome first.bytes (λ image. 0 < length image)
-    → Passed g first now test [] count count → IfSome first.bytes (λ image. (r : Registry) → Holds image r → TellsWhether test r false)
-scan_false g first now test count some p = false_so first.bytes test count p.told some p.are
 
 -- ---- their ids
 

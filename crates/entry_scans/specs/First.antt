@@ -1,12 +1,8 @@
 -- The entries of the first image.
-use Rattle.std.specs.Prelude.{ℕ, ℤ, ◌≡◌, ◌<◌, List, [], length}
-use Rattle.prdb_layout.specs.Records.{Holds, block_in, whole}
+use Rattle.std.specs.Prelude.{ℕ, ℤ, ◌<◌, List, [], length}
+use Rattle.prdb_layout.specs.Records.{Holds}
 use Rattle.prdb_layout.specs.Registry.{Registry, with_maxima}
 
 -- an image that is not empty holds what the empty one does, but for the maxima
 abbrev pub HasTheFirst : List ℕ → Type 0
 HasTheFirst image = (0 < length image) × ((r : Registry) → Holds [] r → (user : ℤ) × (group : ℤ) × Holds image (with_maxima user group r))
-
--- and its blocks are those of the first image
-abbrev pub HasFirstBlocks : List ℕ → Type 0
-HasFirstBlocks image = (length image ≡ length (whole [])) × ((k : ℕ) → block_in image k ≡ block_in (whole []) k)

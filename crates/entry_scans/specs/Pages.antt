@@ -1,8 +1,8 @@
 -- The first entries of a registry that meet a test, ascending by id, and the blocks in which they stand (own).
 use Rattle.std.specs.Prelude.{ℕ, ℤ, pos, negsuc, zero, suc, ◌≡◌, ◌+◌, ◌-◌, ◌<◌, ◌+ℤ◌, ◌≤ℤ◌, nat_le, Bool, true, false, List, [], ◌∷◌, Some}
 use Rattle.prdb_layout.specs.Blocks.{block_count}
-use Rattle.prdb_layout.specs.Bytes.{word_at}
-use Rattle.prdb_layout.specs.Records.{block_in, entry_in, kind_of}
+use Rattle.db_blocks.specs.Blocks.{word_at, kind_of}
+use Rattle.prdb_layout.specs.Records.{block_in, entry_in}
 use Rattle.prdb_layout.specs.Registry.{Registry}
 use Rattle.prdb_layout.specs.State.{PrEntry}
 use Rattle.prdb_layout.specs.declared.blocks.TheConstants.{PAIR_COUNT_AT}

@@ -1,6 +1,7 @@
 -- What a pass over the blocks looks for.
 use Rattle.std.specs.Prelude.{ℕ, Bool, ◌&&◌, ◌==◌, List}
-use Rattle.prdb_layout.specs.Records.{entry_in, kind_of}
+use Rattle.db_blocks.specs.Blocks.{kind_of}
+use Rattle.prdb_layout.specs.Records.{entry_in}
 use Rattle.prdb_layout.specs.State.{PrEntry}
 
 -- a block is that of an entry which meets a test

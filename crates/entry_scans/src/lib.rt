@@ -1,10 +1,8 @@
-//! The entries of the protection database's image that meet a test, found in one pass over its blocks.
+//! What is looked for among the entries of the protection database, and entries as they stand in a block.
 #![tactic(auto)]
 
-mod pages;
 mod scans;
 mod views;
 
-pub use pages::first_where;
-pub use scans::{Sought, has_entry, ids_where};
-pub use views::{EntryView, entry_in, pair_count_in};
+pub use scans::{MORE, Sought, ids_where, is_sought};
+pub use views::{EntryView, entry_in, kind_of, pair_count_in};

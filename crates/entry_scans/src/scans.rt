@@ -1,30 +1,31 @@
-//! One pass over the blocks of a draft.
-ghost use Rattle.std.specs.Prelude.{◌≡◌, ◌+◌, ◌<◌, ◌≤◌, ◌^◌, ◌↔◌, ℤ, Bool, IfSome, IfOk, IfErr, IsErrOf, IsSomeAnd, length};
+//! What is looked for among the entries, and one pass over the blocks of a draft without words of chains.
+ghost use Rattle.std.specs.Prelude.{◌≡◌, ◌+◌, ◌<◌, ◌≤◌, ◌^◌, ◌↔◌, ℤ, Bool, IfSome, IfOk, IfErr, IsErrOf, length};
 ghost use Rattle.std.specs.List.{Contains};
-ghost use Rattle.prdb_layout.specs.RecordEnds.{HasCause, OnlyLooks};
-ghost use Rattle.prdb_layout.specs.Records.{Holds, block_in, block_place, kind_of};
+ghost use Rattle.db_blocks.specs.Blocks.{kind_of};
+ghost use Rattle.db_blocks.specs.Ends.{OnlyLooks};
+ghost use Rattle.prdb_layout.specs.RecordEnds.{HasCause};
+ghost use Rattle.prdb_layout.specs.Records.{Holds, block_in, block_place};
 ghost use Rattle.prdb_layout.specs.Registry.{Registry};
 ghost use Rattle.prdb_layout.specs.State.{PrEntry};
-ghost use Rattle.entry_scans.specs.First.{HasFirstBlocks, HasTheFirst};
-ghost use Rattle.entry_scans.specs.Found.{IsMetAt, TellsWhether};
+ghost use Rattle.entry_scans.specs.Found.{IsMetAt};
 ghost use Rattle.entry_scans.specs.Lists.{IsAscending, IsListOf};
 ghost use Rattle.entry_scans.specs.Sought.{is_sought};
 ghost use Rattle.entry_scans.specs.Views.{viewed};
 
 use crate::views::{EntryView, entry_in, kind_of};
 use db_blocks::{BLOCK_LEN, Block, block_count, block_place};
-use db_image::{Draft, ImageRead, RecordFault, VecImage};
-use prdb_layout::{draft_over, set_maxima};
+use db_image::{Draft, ImageRead, RecordFault};
+use prdb_layout::first_draft;
 use std::alloc::Global;
 
 /// The length of an image's head, in bytes.
-pub(crate) const HEAD_LEN: u32 = 2112;
+const HEAD_LEN: u32 = 2112;
 
 /// The first word of an entry's block.
 const ENTRY: u32 = 1;
 
 /// The greatest first word of a block, which a continuation of an entry's pairs has.
-pub(crate) const MORE: u32 = 2;
+pub const MORE: u32 = 2;
 
 /// What is looked for among the entries.
 pub trait Sought {
@@ -36,7 +37,7 @@ pub trait Sought {
 }
 
 /// Whether a block is that of an entry which is looked for.
-pub(crate) fn is_sought<S: Sought>(sought: &S, block: &Block) -> bool
+pub fn is_sought<S: Sought>(sought: &S, block: &Block) -> bool
     ensures { result ≡ is_sought (S.test sought.now) block.now }
 {
     kind_of(block) == ENTRY && sought.is_met(entry_in(block))
@@ -58,25 +59,6 @@ fn read_block<I: ImageRead>(d: &mut Draft<I>, number: u32) -> Result<Block, Reco
         });
     }
     Ok(block)
-}
-
-/// Whether some entry of a draft that is not empty is looked for.
-fn scan<I: ImageRead, S: Sought>(d: &mut Draft<I>, sought: &S) -> Result<bool, RecordFault>
-    requires len { d.old.len < 2 ^ 31 }
-    requires some { IfSome d.old.bytes (λ image. 0 < length image) }
-    ensures found { IfOk result (λ there. IfSome d.old.bytes (λ image. (r : Registry) → Holds image r
-        → TellsWhether (S.test sought.now) r there)) }
-    ensures fault { IfErr result (HasCause d.old.bytes Holds) }
-    ensures frame { OnlyLooks I.ImageRead d.old d.new (IsErrOf result RecordFault.DiskFault) }
-{
-    let count = block_count(HEAD_LEN, d.len())?;
-    for number in 0..count {
-        let block = read_block(d, number)?;
-        if is_sought(sought, &block) {
-            return Ok(true);
-        }
-    }
-    Ok(false)
 }
 
 /// Puts ids into their order, each once.
@@ -114,38 +96,8 @@ fn scan_ids<I: ImageRead, S: Sought>(
     Ok(ids)
 }
 
-/// A draft with the entries of the first image. Maxima that are set to what they are change nothing, so others are set.
-pub(crate) fn first_draft(alloc: Global) -> Result<Draft<VecImage>, RecordFault>
-    ensures entries { IfOk result (λ d. IsSomeAnd d.bytes HasTheFirst) }
-    ensures blocks { IfOk result (λ d. IsSomeAnd d.bytes HasFirstBlocks) }
-    ensures len { IfOk result (λ d. d.len < 2 ^ 31) }
-    ensures fault { IfErr result (λ fault. fault ≡ RecordFault.NoMemory) }
-{
-    let mut d = draft_over(alloc, VecImage::new(alloc, &[])?);
-    set_maxima(alloc, &mut d, 1, -1)?;
-    Ok(d)
-}
-
-/// Whether some entry is looked for; an empty draft is read as the first image.
-pub fn has_entry<I: ImageRead, S: Sought>(
-    alloc: Global,
-    d: &mut Draft<I>,
-    sought: &S,
-) -> Result<bool, RecordFault>
-    requires { d.old.len < 2 ^ 31 }
-    ensures found { IfOk result (λ there. IfSome d.old.bytes (λ image. (r : Registry) → Holds image r
-        → TellsWhether (S.test sought.now) r there)) }
-    ensures fault { IfErr result (HasCause d.old.bytes Holds) }
-    ensures frame { OnlyLooks I.ImageRead d.old d.new (IsErrOf result RecordFault.DiskFault) }
-{
-    if d.len() > 0 {
-        return scan(d, sought);
-    }
-    scan(&mut first_draft(alloc)?, sought)
-}
-
-/// The ids of the entries that are looked for, ascending; an empty draft is read as the first image. An id that stands in two
-/// blocks of a damaged image is told once.
+/// The ids of the entries that are looked for, ascending; an empty draft, the only one for which it is called, is read as the first image.
+/// An id that stands in two blocks of a damaged image is told once.
 pub fn ids_where<I: ImageRead, S: Sought>(
     alloc: Global,
     d: &mut Draft<I>,

@@ -1,8 +1,9 @@
 //! Entries as they stand in a block.
 ghost use Rattle.std.specs.Prelude.{◌≡◌, ◌+◌, ◌≤◌, ◌==◌, length};
 ghost use Rattle.std.specs.List.{position, position_or_len};
+ghost use Rattle.db_blocks.specs.Blocks.{kind_of};
 ghost use Rattle.prdb_layout.specs.Blocks.{block_name};
-ghost use Rattle.prdb_layout.specs.Records.{entry_in, kind_of, signed_at};
+ghost use Rattle.prdb_layout.specs.Records.{entry_in, signed_at};
 ghost use Rattle.entry_scans.specs.Pages.{pair_count_in};
 ghost use Rattle.entry_scans.specs.Views.{viewed};
 
@@ -42,7 +43,7 @@ pub struct EntryView<'a> {
 }
 
 /// What a block is, by its first word.
-pub(crate) fn kind_of(block: &Block) -> u32
+pub fn kind_of(block: &Block) -> u32
     ensures { result ≡ kind_of block.now }
 {
     word_at(block, 0)

@@ -1,57 +1,14 @@
 -- Blocks that are laid into an image, and those that stay.
-use Rattle.std.proofs.Common.{◌≡◌, ◌≢◌, ℕ, ℤ, ◌+◌, ◌-◌, ◌<◌, ◌≤◌, List, ◌++◌, length, slice_index, take, drop, replicate, refl, sym, ap, subst, ◌∙◌, ⊎_elim, append_assoc, rules, arith}
+use Rattle.std.proofs.Common.{◌≡◌, ◌≢◌, ℕ, ℤ, ◌+◌, ◌-◌, ◌<◌, ◌≤◌, List, ◌++◌, length, take, drop, refl, sym, ap, subst, ◌∙◌, ⊎_elim, arith}
 use Rattle.std.proofs.lemmas.Bool.{cases_lt}
-use Rattle.std.proofs.lemmas.Grind.{same_number_lists}
-use Rattle.std.proofs.lemmas.List.{places, same_lists, take_at, drop_at, take-append-le, length-drop, length-take-le, get_or-take, get_or-drop}
+use Rattle.std.proofs.lemmas.List.{length-drop, length-take-le}
 use Rattle.ubik_types.specs.Image.{changed}
 use Rattle.ubik_types.specs.declared.images.Change.TheVariants.{Put}
 use Rattle.prdb_layout.specs.Blocks.{block_count}
-use Rattle.prdb_layout.specs.Bytes.{bits, word, words}
+use Rattle.db_blocks.specs.Bytes.{number_word, word, words}
+use Rattle.db_blocks.proofs.BlockPlaces.{laid, changed_laid, laid_before, laid_behind, laid_len, laid_end, part_same, take_laid, here, front}
+use Rattle.prdb_layout.specs.Bytes.{bits}
 use Rattle.prdb_layout.specs.Records.{block_in, block_place, head_with, with_block, with_count}
-
--- bytes that are laid within an image or at its end
-pub laid : List ℕ → ℕ → List ℕ → List ℕ
-laid image at bytes = take at image ++ bytes ++ drop (at + length bytes) image
-
-pub changed_laid : (image bytes : List ℕ) (at : ℕ) → at ≤ length image → changed image (Put at bytes) ≡ laid image at bytes
-unfolding laid
-changed_laid image bytes at within =
-    ap (λ (front : List ℕ). front ++ bytes ++ drop (at + length bytes) image)
-    (take-append-le at image (replicate (at - length image) 0) within)
-
-laid_before : (image bytes : List ℕ) (at i : ℕ) → at ≤ length image → i < at → slice_index (laid image at bytes) i ≡ slice_index image i
-unfolding laid
-laid_before image bytes at i within before = grind (arith, places)
-
-laid_behind : (image bytes : List ℕ) (at i : ℕ) → at + length bytes ≤ length image → at + length bytes ≤ i
-    → slice_index (laid image at bytes) i ≡ slice_index image i
-unfolding laid
-laid_behind image bytes at i within behind = grind (arith, places)
-
-laid_len : (image bytes : List ℕ) (at : ℕ) → at + length bytes ≤ length image → length (laid image at bytes) ≡ length image
-unfolding laid
-laid_len image bytes at within = grind (arith, places)
-
-laid_end : (image bytes : List ℕ) (at : ℕ) → length image ≡ at → length (laid image at bytes) ≡ at + length bytes
-unfolding laid
-laid_end image bytes at is = grind (arith, places)
-
--- two images have the same bytes in a part
-part_same : (a b : List ℕ) (at len : ℕ) → at + len ≤ length a → at + len ≤ length b
-    → ((i : ℕ) → at ≤ i → i < at + len → slice_index a i ≡ slice_index b i) → take len (drop at a) ≡ take len (drop at b)
-part_same a b at len in_a in_b same =
-    same_number_lists (take len (drop at a)) (take len (drop at b))
-    (length-take-le len (drop at a) (omega (arith, length-drop at a))
-    ∙ sym (length-take-le len (drop at b) (omega (arith, length-drop at b))))
-    (λ k below.
-    let short : k < len = omega (arith, below, length-take-le len (drop at a) (omega (arith, length-drop at a))) in
-    get_or-take len (drop at a) k 0 short ∙ get_or-drop at a k 0 ∙ same (at + k) (omega arith) (omega arith)
-    ∙ sym (get_or-take len (drop at b) k 0 short ∙ get_or-drop at b k 0))
-
-take_laid : (image bytes : List ℕ) (at m : ℕ) → at + length bytes ≤ m → m ≤ length image
-    → take m (laid image at bytes) ≡ laid (take m image) at bytes
-unfolding laid
-take_laid image bytes at m fits within = same_lists _ _ (search (rules, places)) (λ k d h. grind (arith, places))
 
 -- ---- a block of an image
 
@@ -79,17 +36,6 @@ apart image bytes k j n size len within below other =
     (omega (arith, laid_len image bytes (block_place k) (omega arith))) (omega arith)
     (λ i from less. laid_behind image bytes (block_place k) i (omega arith) (omega arith)))
     (cases_lt j k)
-
-here : (image bytes : List ℕ) (at : ℕ) → at ≤ length image → length bytes ≡ 192 → take 192 (drop at (laid image at bytes)) ≡ bytes
-unfolding laid
-here image bytes at within len =
-    ap (λ (x : List ℕ). take 192 (drop at x)) (append_assoc (take at image) bytes (drop (at + length bytes) image))
-    ∙ ap (take 192) (drop_at (take at image) (bytes ++ drop (at + length bytes) image) at (length-take-le at image within))
-    ∙ take_at bytes (drop (at + length bytes) image) 192 len
-
-front : (image bytes : List ℕ) (at m : ℕ) → m ≤ at → at ≤ length image → take m (laid image at bytes) ≡ take m image
-unfolding laid
-front image bytes at m before within = same_lists _ _ (search (rules, places)) (λ k d h. grind (arith, places))
 
 pub put_block : (image block : List ℕ) (k n : ℕ) → length image ≡ block_place n → length block ≡ 192 → k < n
     → IsPut k block image (with_block k block image) n
@@ -140,7 +86,7 @@ head_put image bytes old_head new_head at n size fits is made =
           (λ i from below. laid_behind image bytes at i (omega arith) (omega arith));
     }
 
-count_head : (user group : ℤ) (old new : ℕ) → laid (head_with user group old) 16 (word new) ≡ head_with user group new
+count_head : (user group : ℤ) (old new : ℕ) → laid (head_with user group old) 16 (number_word new) ≡ head_with user group new
 unfolding laid words
 count_head user group old new = refl
 
@@ -148,7 +94,7 @@ pub put_count : (image : List ℕ) (user group : ℤ) (old new n : ℕ) → leng
     → take 2112 image ≡ head_with user group old
     → IsHeadPut image (with_count new image) (head_with user group new)
 put_count image user group old new n size is =
-    head_put image (word new) (head_with user group old) (head_with user group new) 16 n size (omega arith) is
+    head_put image (number_word new) (head_with user group old) (head_with user group new) 16 n size (omega arith) is
     (count_head user group old new)
 
 maxima_head : (user group u g : ℤ) (n : ℕ) → laid (head_with user group n) 8 (word (bits u) ++ word (bits g)) ≡ head_with u g n

@@ -7,10 +7,12 @@ use Rattle.std.proofs.lemmas.Int.{to_z-of_z}
 use Rattle.std.proofs.lemmas.List.{take_at, drop_at, drop-drop, length-append, length-take-le, length-drop}
 use Rattle.std.proofs.lemmas.Nat.{from_be_bytes-to_be_bytes_4}
 use Rattle.prdb_layout.specs.Blocks.{block_name}
-use Rattle.prdb_layout.specs.Bytes.{bits, words, zeros, filled, word_at}
-use Rattle.prdb_layout.specs.Records.{IsBlock, entry_in, field_numbers, kind_of, signed_at, with_fields, new_block}
+use Rattle.db_blocks.specs.Blocks.{word_at, kind_of}
+use Rattle.db_blocks.specs.Bytes.{words, zeros, filled}
+use Rattle.db_blocks.proofs.Lengths.{length-zeros}
+use Rattle.prdb_layout.specs.Bytes.{bits}
+use Rattle.prdb_layout.specs.Records.{IsBlock, entry_in, field_numbers, signed_at, with_fields, new_block}
 use Rattle.prdb_layout.specs.State.{PrEntry, IsPrEntry}
-use Rattle.prdb_layout.proofs.Fields.{length-zeros}
 use Rattle.prdb_layout.proofs.Lengths.{text_end, fits_id, bits_below}
 
 numbers : PrEntry → List ℕ

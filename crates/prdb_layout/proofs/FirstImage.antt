@@ -7,10 +7,11 @@ use Rattle.std.proofs.lemmas.Bool.Decides.{Decides-int_eq}
 use Rattle.std.proofs.lemmas.Int.{ints}
 use Rattle.std.proofs.lemmas.List.{take_at, length-map, get_or-map}
 use Rattle.std.proofs.lemmas.List.Elements.{All-from_recursion}
-use Rattle.prdb_layout.specs.Bytes.{words, zeros}
+use Rattle.db_blocks.specs.Bytes.{words, zeros}
+use Rattle.db_blocks.specs.Blocks.{kind_of}
 use Rattle.prdb_layout.specs.Layout.{head_of, numbers_of, block_of, layout}
 use Rattle.prdb_layout.specs.Names.{is_user_name}
-use Rattle.prdb_layout.specs.Records.{Holds, IsBlock, IsLaidOut, block_in, entry_in, field_numbers, head_with, kind_of, new_block, whole, with_fields}
+use Rattle.prdb_layout.specs.Records.{Holds, IsBlock, IsLaidOut, block_in, entry_in, field_numbers, head_with, new_block, whole, with_fields}
 use Rattle.prdb_layout.specs.Registry.{IsRegistry, IsRecord, IsAmong, IsFixedId, first_registry, is_group_name, is_name_for}
 use Rattle.prdb_layout.specs.State.{PrEntry, IsPrEntry, administrators, fixed, fixed_entries, initial_state}
 use Rattle.prdb_layout.proofs.Changed.{HaveBlocks, laid_from}
@@ -123,7 +124,7 @@ blocks_first = record {
 }
 
 head_first : take 2112 (layout initial_state) ≡ head_with (pos 0) (negsuc 204) 6
-unfolding layout head_of fixed_entries
+unfolding layout head_of fixed_entries words
 head_first = take_at (head_of initial_state) (flat_map block_of initial_state.entries) 2112 (length-head initial_state)
 
 laid_first : IsLaidOut (layout initial_state) first_registry

@@ -13,14 +13,16 @@ use Rattle.std.proofs.lemmas.Slice.Eq.{bytes_eq-Decides}
 use Rattle.ubik_types.specs.Image.{changed}
 use Rattle.ubik_types.specs.declared.images.Change.TheVariants.{Put}
 use Rattle.prdb_layout.specs.Blocks.{block_count}
-use Rattle.prdb_layout.specs.Bytes.{bits, word, words, zeros}
-use Rattle.prdb_layout.specs.Records.{Holds, IsBlock, IsEntryBlock, IsLaidOut, after_insert, after_remove, after_replace, after_set_maxima, block_in, entry_in, first_block, has_id, head_with, is_free, kind_of, maxima_in, new_block, next_block, signed_at, whole, with_block, with_count, with_fields}
+use Rattle.db_blocks.specs.Bytes.{word, words, zeros}
+use Rattle.db_blocks.specs.Blocks.{kind_of}
+use Rattle.db_blocks.proofs.FirstBlocks.{first_met, first_within}
+use Rattle.prdb_layout.specs.Bytes.{bits}
+use Rattle.prdb_layout.specs.Records.{Holds, IsBlock, IsEntryBlock, IsLaidOut, after_insert, after_remove, after_replace, after_set_maxima, block_in, entry_in, first_block, has_id, head_with, is_free, maxima_in, new_block, next_block, signed_at, whole, with_block, with_count, with_fields}
 use Rattle.prdb_layout.specs.Registry.{Registry, IsRegistry, IsRecord, AreMaxima, MayBeAdded, MayReplace, MayBeRemoved, with_entry, without_entry, with_maxima}
 use Rattle.prdb_layout.specs.State.{PrEntry}
 use Rattle.prdb_layout.proofs.BlockPlaces.{IsPut, put_block, add_block, block_len, put_count, put_maxima}
 use Rattle.prdb_layout.proofs.Changed.{IsStep, IsAlone, IsContent, blocks_of_laid, have_new, have_same, laid_from}
 use Rattle.prdb_layout.proofs.EntryFields.{entry_with, kind_with, is_new_block, is_block_with, length-with_fields}
-use Rattle.prdb_layout.proofs.FirstBlocks.{first_met, first_within}
 use Rattle.prdb_layout.proofs.LaidOut.{count_is, whole_same, zero_kind}
 use Rattle.prdb_layout.proofs.Lengths.{bits_below}
 use Rattle.prdb_layout.proofs.Lookups.{id_parts}

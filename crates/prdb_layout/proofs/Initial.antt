@@ -1,7 +1,7 @@
 -- How long the first image is.
 use Rattle.std.proofs.Common.{◌≡◌, refl}
 use Rattle.std.specs.Prelude.{length}
-use Rattle.prdb_layout.specs.Bytes.{words, zeros}
+use Rattle.db_blocks.specs.Bytes.{words, zeros}
 use Rattle.prdb_layout.specs.State.{initial_state, fixed_entries}
 use Rattle.prdb_layout.specs.Layout.{head_of, numbers_of, block_of, layout}
 

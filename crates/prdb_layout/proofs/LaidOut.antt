@@ -3,9 +3,10 @@ use Rattle.std.proofs.Common.{◌≡◌, ◌≢◌, ℕ, ◌<◌, ◌≤◌, Lis
 use Rattle.db_image.specs.declared.faults.RecordFault.{RecordFault}
 use Rattle.db_image.specs.declared.faults.RecordFault.TheVariants.{DiskFault, BadRecord, NoMemory}
 use Rattle.prdb_layout.specs.Blocks.{block_count}
-use Rattle.prdb_layout.specs.Bytes.{zeros}
+use Rattle.db_blocks.specs.Bytes.{zeros}
+use Rattle.db_blocks.specs.Blocks.{kind_of}
 use Rattle.prdb_layout.specs.RecordEnds.{HasCause, HoldNone}
-use Rattle.prdb_layout.specs.Records.{IsLaidOut, IsBlock, Holds, block_in, block_place, kind_of, whole}
+use Rattle.prdb_layout.specs.Records.{IsLaidOut, IsBlock, Holds, block_in, block_place, whole}
 use Rattle.prdb_layout.specs.Layout.{layout}
 use Rattle.prdb_layout.specs.State.{initial_state}
 
@@ -94,8 +95,3 @@ err_empty (Err (BadRecord at)) None first len told none here is = tt
 err_empty (Err (BadRecord at)) (Some image) first len told none here is = λ r holds.
     let not = subst (λ (b : Option (List ℕ)). HoldNone b IsLaidOut) here is in
     not r (subst (λ (i : List ℕ). IsLaidOut i r) (whole_empty image (told ∙ none)) holds.laid)
-
--- a fault over an image that is not empty
-pub fault_whole : (bytes : Option (List ℕ)) (len : ℕ) (fault : RecordFault) → IfSome bytes (λ image. length image ≡ len) → 0 < len
-    → HasCause bytes IsLaidOut fault → HasCause bytes Holds fault
-fault_whole bytes len fault told more cause = err_whole {X = ℕ} (Err fault) bytes len told more cause

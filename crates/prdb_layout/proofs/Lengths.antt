@@ -1,15 +1,16 @@
 -- How long a head is, and where a name ends; what fits a word.
-use Rattle.std.proofs.Common.{◌≡◌, ℕ, ℤ, pos, negsuc, ◌+◌, ◌-◌, ◌^◌, ◌<◌, true, false, eqb, List, ◌++◌, length, get_or, refl, ◌∙◌, arith}
+use Rattle.std.proofs.Common.{◌≡◌, ℕ, ℤ, pos, negsuc, ◌-◌, ◌^◌, ◌<◌, true, false, eqb, List, ◌++◌, length, get_or, refl, ◌∙◌, arith}
 use Rattle.std.specs.Prelude.{FitsSigned}
 use Rattle.std.specs.Int.{w32}
 use Rattle.std.specs.List.{position_or_len, All}
 use Rattle.std.proofs.lemmas.Bool.Decides.{nat_tests}
 use Rattle.std.proofs.lemmas.List.{length-append, get_or_append_left, get_or-append_right, get_or-replicate}
 use Rattle.std.proofs.lemmas.List.Sums.{position_or_len_is}
-use Rattle.prdb_layout.specs.Bytes.{bits, words, zeros}
+use Rattle.db_blocks.specs.Bytes.{words, zeros}
+use Rattle.db_blocks.proofs.Lengths.{length-zeros}
+use Rattle.prdb_layout.specs.Bytes.{bits}
 use Rattle.prdb_layout.specs.State.{PrState, IsId}
 use Rattle.prdb_layout.specs.Layout.{head_of}
-use Rattle.prdb_layout.proofs.Fields.{length-zeros}
 
 -- ---- lengths
 

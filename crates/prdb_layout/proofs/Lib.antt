@@ -2,8 +2,6 @@ pub mod Becoming
 pub mod BlockPlaces
 pub mod Changed
 pub mod EntryFields
-pub mod Fields
-pub mod FirstBlocks
 pub mod FirstImage
 pub mod Fixed
 pub mod FixedEntries
@@ -13,7 +11,6 @@ pub mod LaidOut
 pub mod Lengths
 pub mod Lookups
 pub mod MaximaRead
-pub mod NextId
 pub mod Registries
 pub mod Scanned
 pub mod Told

@@ -5,13 +5,14 @@ use Rattle.std.specs.Str.{bytes_eq}
 use Rattle.std.proofs.lemmas.Bool.{and_parts, and_from, eqb-true, eq-eqb}
 use Rattle.std.proofs.lemmas.Bool.Decides.{Decides-int_eq}
 use Rattle.std.proofs.lemmas.Slice.Eq.{bytes_eq-Decides}
+use Rattle.db_blocks.specs.Blocks.{kind_of}
+use Rattle.db_blocks.proofs.FirstBlocks.{first_met, first_not}
 use Rattle.prdb_layout.specs.Blocks.{block_count, block_name}
 use Rattle.prdb_layout.specs.RecordEnds.{IsFirst}
-use Rattle.prdb_layout.specs.Records.{Holds, IsLaidOut, block_in, entry_in, first_block, has_id, has_name, kind_of, whole}
+use Rattle.prdb_layout.specs.Records.{Holds, IsLaidOut, block_in, entry_in, first_block, has_id, has_name, whole}
 use Rattle.prdb_layout.specs.Registry.{Registry, IsRegistry, IsNamed}
 use Rattle.prdb_layout.specs.State.{PrEntry}
 use Rattle.prdb_layout.specs.declared.scans.Found.{Found}
-use Rattle.prdb_layout.proofs.FirstBlocks.{first_met, first_not}
 
 -- what is found meets the test, and no block before it does
 pub found_meets : (test : List ℕ → Bool) (image : List ℕ) (f : Found) → IsFirst test image (Some f) → test f.block ≡ true

@@ -1,14 +1,9 @@
 -- A registry that is changed as it may be is valid.
-use Rattle.std.proofs.Common.{◌≡◌, ◌≢◌, ℕ, ℤ, true, List, Option, Some, None, IsSome, IsSomeAnd, ◌<◌, ◌^◌, pos, negsuc, length, get_or, refl, sym, ap, subst, ◌∙◌, ⊎_elim, inl, inr, arith}
-use Rattle.std.specs.Prelude.{FitsSigned, ◌<ℤ◌, ◌≤ℤ◌}
-use Rattle.std.specs.Int.{w32}
+use Rattle.std.proofs.Common.{◌≡◌, ◌≢◌, ℕ, ℤ, Option, Some, None, IsSome, IsSomeAnd, ◌<◌, length, get_or, refl, sym, ap, subst, ◌∙◌, ⊎_elim, inl, inr, arith}
 use Rattle.std.specs.List.{All}
-use Rattle.std.proofs.lemmas.Int.{ints}
-use Rattle.prdb_layout.specs.Names.{is_user_name}
 use Rattle.std.proofs.lemmas.List.{length-map, get_or-map}
-use Rattle.prdb_layout.specs.Registry.{Registry, is_name_for, IsRegistry, IsRecord, IsAmong, IsFixedId, AreMaxima, MayBeAdded, MayReplace, MayBeRemoved, with_entry, without_entry, with_maxima}
-use Rattle.prdb_layout.specs.State.{PrEntry, IsId, fixed_entries}
-use Rattle.prdb_layout.proofs.UserNames.{form}
+use Rattle.prdb_layout.specs.Registry.{Registry, IsRegistry, IsRecord, IsAmong, IsFixedId, AreMaxima, MayBeAdded, MayReplace, MayBeRemoved, with_entry, without_entry, with_maxima}
+use Rattle.prdb_layout.specs.State.{PrEntry, fixed_entries}
 use Rattle.prdb_layout.proofs.Changed.{under_same, under_other, by_id, some_same}
 
 -- a fact on each entry of the old ones, and on this one, is one on each of the new ones
@@ -127,31 +122,3 @@ registry_maxima r user group valid is = record {
   fixed = valid.fixed;
   maxima = is;
 }
-
--- ---- what a user's entry is by itself
-
-user_id : (id : ℤ) → pos 0 <ℤ id → id ≤ℤ pos 2147483647 → IsId id
-user_id (pos n) more low = (omega (arith, ints), omega (arith, ints))
-user_id (negsuc n) more low = absurd (omega (arith, ints))
-
-user_name_for : (id : ℤ) (name : List ℕ) → pos 0 <ℤ id → is_user_name name ≡ true → is_name_for id name ≡ true
-user_name_for (pos n) name more is = is
-user_name_for (negsuc n) name more is = absurd (omega (arith, ints))
-
-pub user_is_record : (e : PrEntry) → is_user_name e.name ≡ true → pos 0 <ℤ e.id → e.id ≤ℤ pos 2147483647 → e.flags < 2 ^ 32
-    → FitsSigned w32 e.owner → FitsSigned w32 e.creator → FitsSigned w32 e.quota → IsRecord e
-user_is_record e is more low flags owner creator quota =
-    let f = form e.name is in
-    record {
-      fields = record {
-        name_bytes = f.bytes;
-        name_len = f.len;
-        name_text = f.text;
-        flags = flags;
-        id = user_id e.id more low;
-        owner = owner;
-        creator = creator;
-        quota = quota;
-      };
-      name = user_name_for e.id e.name more is;
-    }

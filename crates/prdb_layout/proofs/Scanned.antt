@@ -1,76 +1,16 @@
 -- How far a scan of the blocks of a draft has come.
-use Rattle.std.proofs.Common.{◌≡◌, ℕ, ◌+◌, ◌<◌, true, false, List, Option, Some, None, IfSome, length, refl, sym, subst, ◌∙◌, ⊎_elim, arith}
+use Rattle.std.proofs.Common.{◌≡◌, ℕ, ◌+◌, ◌<◌, true, false, List, Option, Some, None, IfSome, length, sym, subst, ◌∙◌, ⊎_elim, arith}
 use Rattle.std.proofs.lemmas.Bool.{cases_eq}
 use Rattle.db_image.specs.Draft.{Drafted}
 use Rattle.db_image.specs.declared.images.ImageRead.{Ghosts}
+use Rattle.db_blocks.specs.Ends.{OnlyLooks}
+use Rattle.db_blocks.proofs.FirstBlocks.{first_at, first_none}
+use Rattle.db_blocks.proofs.Scanned.{looks_none, looks_then, looks_so}
 use Rattle.prdb_layout.specs.Blocks.{block_count}
-use Rattle.prdb_layout.specs.RecordEnds.{OnlyDrafts, OnlyLooks, IsFirst, is_met}
+use Rattle.prdb_layout.specs.RecordEnds.{IsFirst, is_met}
 use Rattle.prdb_layout.specs.Records.{block_in, block_place}
 use Rattle.prdb_layout.specs.declared.scans.Wanted.{Wanted}
-use Rattle.prdb_layout.proofs.FirstBlocks.{first_at, first_none}
 use Rattle.prdb_layout.proofs.LaidOut.{count_is}
-
--- ---- frames
-
-pub looks_none : {I : Type 0} (g : Ghosts I) (d : Drafted I) (failed : Type 0) → ¬ failed → OnlyLooks g d d failed
-looks_none g d failed not = record {
-  same = record { bytes = refl; len = refl; layout = refl };
-  reads = record { held = refl; size = refl; came = g.comes_same d.image; never_falls = omega arith; cause = λ h. absurd (not h) };
-}
-
-pub looks_then : {I : Type 0} (g : Ghosts I) (a b c : Drafted I) (first failed : Type 0) → OnlyLooks g a b first → OnlyLooks g b c failed
-    → OnlyLooks g a c failed
-looks_then g a b c first failed r s = record {
-  same = record { bytes = s.same.bytes ∙ r.same.bytes; len = s.same.len ∙ r.same.len; layout = s.same.layout ∙ r.same.layout };
-  reads = record {
-    held = s.reads.held ∙ r.reads.held;
-    size = s.reads.size ∙ r.reads.size;
-    came = g.comes_on a.image b.image c.image r.reads.came s.reads.came;
-    never_falls = omega (arith, r.reads.never_falls, s.reads.never_falls);
-    cause = λ h. omega (arith, r.reads.never_falls, s.reads.cause h);
-  };
-}
-
-pub looks_so : {I : Type 0} (g : Ghosts I) (a b : Drafted I) (first failed : Type 0) → OnlyLooks g a b first → (failed → first)
-    → OnlyLooks g a b failed
-looks_so g a b first failed r so = record {
-  same = r.same;
-  reads =
-      record {
-        held = r.reads.held;
-        size = r.reads.size;
-        came = r.reads.came;
-        never_falls = r.reads.never_falls;
-        cause = λ h.
-            r.reads.cause (so h);
-      };
-}
-
-pub drafts_after : {I : Type 0} (g : Ghosts I) (a b c : Drafted I) (first failed : Type 0) → OnlyLooks g a b first → OnlyDrafts g b c failed
-    → OnlyDrafts g a c failed
-drafts_after g a b c first failed r s = record {
-  layout = s.layout ∙ r.same.layout;
-  reads = record {
-    held = s.reads.held ∙ r.reads.held;
-    size = s.reads.size ∙ r.reads.size;
-    came = g.comes_on a.image b.image c.image r.reads.came s.reads.came;
-    never_falls = omega (arith, r.reads.never_falls, s.reads.never_falls);
-    cause = λ h. omega (arith, r.reads.never_falls, s.reads.cause h);
-  };
-}
-
-pub drafts_then : {I : Type 0} (g : Ghosts I) (a b c : Drafted I) (first failed : Type 0) → OnlyDrafts g a b first → OnlyDrafts g b c failed
-    → OnlyDrafts g a c failed
-drafts_then g a b c first failed r s = record {
-  layout = s.layout ∙ r.layout;
-  reads = record {
-    held = s.reads.held ∙ r.reads.held;
-    size = s.reads.size ∙ r.reads.size;
-    came = g.comes_on a.image b.image c.image r.reads.came s.reads.came;
-    never_falls = omega (arith, r.reads.never_falls, s.reads.never_falls);
-    cause = λ h. omega (arith, r.reads.never_falls, s.reads.cause h);
-  };
-}
 
 -- ---- the first block that is what is looked for
 

@@ -2,11 +2,11 @@
 use Rattle.std.proofs.Common.{◌≡◌, ℕ, ℤ, ◌+◌, ◌<◌, ◌≤◌, Bool, cond, List, Option, Some, None, sym, ap, ◌∙◌, ⊎_elim, arith}
 use mathlib.Core.Path.{fun_ext}
 use Rattle.std.proofs.lemmas.Bool.{cases_eq, eq-eqb, ne_eqb}
+use Rattle.db_blocks.proofs.FirstBlocks.{first_met, first_within}
 use Rattle.prdb_layout.specs.Blocks.{block_count}
 use Rattle.prdb_layout.specs.Records.{Holds, IsLaidOut, block_in, entry_at, entry_in, first_block, has_id, registry_in, whole}
 use Rattle.prdb_layout.specs.Registry.{Registry, IsRegistry}
 use Rattle.prdb_layout.specs.State.{PrEntry}
-use Rattle.prdb_layout.proofs.FirstBlocks.{first_met, first_within}
 use Rattle.prdb_layout.proofs.Held.{maxima_of}
 use Rattle.prdb_layout.proofs.Lookups.{id_absent, id_parts}
 

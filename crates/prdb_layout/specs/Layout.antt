@@ -1,9 +1,10 @@
--- The image of the first entries, format 1: a head, and a block for each entry.
+-- The image of the first entries without words of chains, format 1: a head, and a block for each entry.
 use Rattle.std.specs.Prelude.{ℕ, ◌-◌, List, [], ◌∷◌, ◌++◌, length}
 use Rattle.std.specs.List.{flat_map}
 use Rattle.ubik_types.specs.declared.words.TheConstants.{WORD_LEN}
 use Rattle.prdb_layout.specs.declared.blocks.TheConstants.{HEAD_LEN, BLOCK_COUNT_AT, BLOCK_LEN, NAME_AT, NAME_FIELD}
-use Rattle.prdb_layout.specs.Bytes.{bits, words, zeros, filled}
+use Rattle.db_blocks.specs.Bytes.{words, zeros, filled}
+use Rattle.prdb_layout.specs.Bytes.{bits}
 use Rattle.prdb_layout.specs.declared.entries.Entry.{Entry}
 use Rattle.prdb_layout.specs.State.{PrEntry, PrState}
 

@@ -1,22 +1,20 @@
--- How an image holds a registry, and the image after each change (layout of format 1).
-use Rattle.std.specs.Prelude.{ℕ, ℤ, ◌≡◌, ◌+◌, ◌-◌, ◌*◌, ◌<◌, ◌⊎◌, zero, suc, Bool, ◌&&◌, ◌==◌, nat_lt, if◌then◌else◌, List, [], ◌∷◌, ◌++◌, length, take, drop, Option, Some, None}
+-- How an image without words of chains holds a registry, and such an image after each change (layout of format 1).
+use Rattle.std.specs.Prelude.{ℕ, ℤ, ◌≡◌, ◌+◌, ◌-◌, ◌*◌, ◌<◌, ◌⊎◌, zero, Bool, ◌&&◌, ◌==◌, nat_lt, if◌then◌else◌, List, [], ◌∷◌, ◌++◌, length, take, drop, Option, Some, None}
 use Rattle.std.specs.Int.{w32, cast_signed}
 use Rattle.std.specs.Ordering.{int_eq}
 use Rattle.std.specs.Str.{bytes_eq}
 use Rattle.ubik_types.specs.Image.{changed}
 use Rattle.ubik_types.specs.declared.images.Change.TheVariants.{Put}
 use Rattle.prdb_layout.specs.Blocks.{block_count, block_name}
-use Rattle.prdb_layout.specs.Bytes.{bits, word, word_at, words, zeros, filled}
+use Rattle.db_blocks.specs.Blocks.{word_at, kind_of, first_from}
+use Rattle.db_blocks.specs.Bytes.{filled, number_word, word, words, zeros}
+use Rattle.prdb_layout.specs.Bytes.{bits}
 use Rattle.prdb_layout.specs.Layout.{layout}
 use Rattle.prdb_layout.specs.Registry.{Registry, IsRegistry}
 use Rattle.prdb_layout.specs.State.{PrEntry, initial_state}
 use Rattle.prdb_layout.specs.declared.blocks.TheConstants.{HEAD_LEN, MAX_USER_AT, BLOCK_COUNT_AT, BLOCK_LEN, FLAGS_AT, ID_AT, OWNER_AT, CREATOR_AT, QUOTA_AT, PAIR_COUNT_AT, NAME_AT, NAME_FIELD, CHAINS_AT, CHAINS_LEN, END_AT}
 
 -- ---- a block
-
--- what a block is: 0 free, 1 an entry, 2 a continuation of an entry's pairs
-abbrev pub kind_of : List ℕ → ℕ
-kind_of block = word_at block 0
 
 -- the word at a place, with a sign
 abbrev pub signed_at : List ℕ → ℕ → ℤ
@@ -73,7 +71,7 @@ block_in image k = take BLOCK_LEN (drop (block_place k) image)
 
 -- the head: the database's word, format 1, the maxima, the number of blocks, and zero bytes
 abbrev pub head_with : (user group : ℤ) → (count : ℕ) → List ℕ
-head_with user group count = words (0x50524442 ∷ 1 ∷ bits user ∷ bits group ∷ count ∷ []) ++ zeros (HEAD_LEN - BLOCK_COUNT_AT - 4)
+head_with user group count = words (0x50524442 ∷ 1 ∷ bits user ∷ bits group ∷ []) ++ number_word count ++ zeros (HEAD_LEN - BLOCK_COUNT_AT - 4)
 
 -- An image that is not empty holds a registry: behind the head stand whole blocks, and the entries are those of its blocks, each in
 -- one of them.
@@ -88,17 +86,12 @@ pub record IsLaidOut (image : List ℕ) (r : Registry) : Type 0 where
   pub one : (j k : ℕ) → j < block_count image → k < block_count image → kind_of (block_in image j) ≡ 1 → kind_of (block_in image k) ≡ 1
       → (entry_in (block_in image j)).id ≡ (entry_in (block_in image k)).id → j ≡ k
 
--- an image holds a valid registry; the empty image holds the first one
+-- an image without words of chains holds a valid registry; the empty image holds the first one
 pub record Holds (image : List ℕ) (r : Registry) : Type 0 where
   pub valid : IsRegistry r
   pub laid : IsLaidOut (whole image) r
 
 -- ---- which block
-
--- the first of so many numbers from one on at which a test holds, or the number behind them
-abbrev pub first_from : (ℕ → Bool) → (from count : ℕ) → ℕ
-first_from test from zero = from
-first_from test from (suc count) = if test from then from else first_from test (suc from) count
 
 -- the first block that meets a test, or the number of blocks
 abbrev pub first_block : (List ℕ → Bool) → List ℕ → ℕ
@@ -133,7 +126,7 @@ abbrev pub with_block : ℕ → List ℕ → List ℕ → List ℕ
 with_block k block image = changed image (Put (block_place k) block)
 
 abbrev pub with_count : ℕ → List ℕ → List ℕ
-with_count count image = changed image (Put BLOCK_COUNT_AT (word count))
+with_count count image = changed image (Put BLOCK_COUNT_AT (number_word count))
 
 -- the block that the next entry takes: the lowest free one, else a new one at the end
 abbrev pub next_block : List ℕ → ℕ

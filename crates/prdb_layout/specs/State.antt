@@ -1,5 +1,5 @@
 -- Entries of the protection database, and the first state: its entries in the order of their blocks, and the two maxima (ptserver).
-use Rattle.std.specs.Prelude.{ℕ, ℤ, pos, negsuc, ◌≡◌, ◌<◌, ◌≤◌, ◌^◌, ◌==◌, List, [], ◌∷◌, length, codes, FitsSigned, All, Contains}
+use Rattle.std.specs.Prelude.{ℕ, ℤ, pos, negsuc, ◌<◌, ◌≤◌, ◌^◌, ◌==◌, List, [], ◌∷◌, length, codes, FitsSigned, All}
 use Rattle.std.specs.Int.{w32}
 use Rattle.std.specs.List.{before_first}
 use Rattle.prdb_layout.specs.Bytes.{IsBytes}
@@ -52,18 +52,9 @@ abbrev pub IsId : ℤ → Type 0
 IsId (pos n) = (0 < n) × (n ≤ 2147483647)
 IsId (negsuc n) = n < 2147483647
 
--- an id below 0, which is a group's
-abbrev pub IsGroupId : ℤ → Type 0
-IsGroupId (pos n) = ⊥
-IsGroupId (negsuc n) = Unit {0}
-
 -- a name before its first `:`, or all of it where it has none
 abbrev pub front_of : List ℕ → List ℕ
 front_of name = before_first (λ b. b == 58) name
-
--- a group with a `:` in its name that this entry owns has the front of the owner's name before its first `:`
-abbrev pub IsNamedAfter : PrEntry → PrEntry → Type 0
-IsNamedAfter e owner = IsGroupId e.id → Contains e.name 58 → owner.id ≡ e.owner → front_of e.name ≡ front_of owner.name
 
 -- an entry whose fields have a place in a block: a name without zero bytes, and words
 pub record IsPrEntry (e : PrEntry) : Type 0 where

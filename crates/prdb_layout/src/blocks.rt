@@ -1,7 +1,7 @@
 //! An image's head and blocks, as they are read.
 ghost use Rattle.std.specs.Prelude.{◌≡◌, ◌≤◌, length, ◌+◌, ◌==◌};
 ghost use Rattle.std.specs.List.{position, position_or_len};
-ghost use Rattle.prdb_layout.specs.Bytes.{word_at};
+ghost use Rattle.db_blocks.specs.Blocks.{word_at};
 ghost use Rattle.prdb_layout.specs.Blocks.{block_name};
 
 use ubik_types::{WORD_LEN, first_word};
@@ -12,7 +12,7 @@ pub const HEAD_LEN: usize = 2112;
 /// Where the greatest user id that was given stands in the head.
 pub const MAX_USER_AT: usize = 8;
 
-/// Where the number of blocks stands in the head, which has zero bytes behind it.
+/// Where the number of blocks stands in the head. Behind it are zero bytes, without words of chains.
 pub const BLOCK_COUNT_AT: usize = 16;
 
 /// The length of a block, in bytes.
@@ -45,7 +45,7 @@ pub const NAME_AT: usize = 32;
 /// The length of a name's field in a block, in bytes.
 pub const NAME_FIELD: usize = 64;
 
-/// Where the words of chains stand in an entry's block, which are zero as yet.
+/// Where the words of chains stand in an entry's block; zero bytes stand there in an image without them.
 pub const CHAINS_AT: usize = 96;
 
 /// The length of these words, in bytes.

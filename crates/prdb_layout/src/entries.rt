@@ -1,6 +1,6 @@
 //! Entries, and the images that are written of them.
 ghost use Rattle.std.specs.Prelude.{◌≡◌, ◌++◌, OnOk, IfOk, length};
-ghost use Rattle.prdb_layout.specs.Bytes.{words, zeros, filled};
+ghost use Rattle.db_blocks.specs.Bytes.{words, zeros, filled};
 ghost use Rattle.std.specs.List.{flat_map};
 ghost use Rattle.prdb_layout.specs.State.{fixed, fixed_entries, administrators, initial_state};
 ghost use Rattle.prdb_layout.specs.Layout.{head_of, numbers_of, block_of, layout, entry_of};
@@ -59,7 +59,7 @@ impl<'a> Entry<'a> {
     }
 }
 
-#[tactic(auto, unfolding(crate::specs::Bytes::zeros))]
+#[tactic(auto, unfolding(db_blocks::specs::Bytes::zeros))]
 pub fn push_zeros(out: &mut Vec<u8>, count: usize) -> Result<(), AllocError>
     ensures { OnOk result (out.new.items ≡ out.old.items ++ zeros count) }
 {
@@ -69,7 +69,7 @@ pub fn push_zeros(out: &mut Vec<u8>, count: usize) -> Result<(), AllocError>
     Ok(())
 }
 
-#[tactic(auto, unfolding(crate::specs::Bytes::words))]
+#[tactic(auto, unfolding(db_blocks::specs::Bytes::words))]
 pub fn push_words(out: &mut Vec<u8>, numbers: &[u32]) -> Result<(), AllocError>
     ensures { OnOk result (out.new.items ≡ out.old.items ++ words numbers.now) }
 {
@@ -142,7 +142,7 @@ fn push_fixed(out: &mut Vec<u8>) -> Result<(), AllocError>
     Ok(())
 }
 
-/// The image of the first state: the head and the fixed entries.
+/// The image of the first state, without words of chains: the head and the fixed entries.
 #[tactic(auto, unfolding(crate::specs::Layout::layout))]
 pub fn initial_image(alloc: Global) -> Result<Vec<u8>, AllocError>
     ensures value { IfOk result (λ image. image.items ≡ layout initial_state) }

@@ -1,4 +1,4 @@
-//! The protection database's entries: the records over a draft.
+//! The layout of the protection database's entries without words of chains, and the first image.
 #![tactic(auto)]
 
 mod blocks;
@@ -11,7 +11,5 @@ mod scans;
 pub use entries::initial_image;
 pub use laws::{law_empty_holds_the_first, law_image_tells_its_registry};
 pub use names::is_user_name;
-pub use records::{
-    PrEntry, draft_over, find_id, find_name, insert, maxima, remove, replace, set_maxima,
-    with_fields,
-};
+pub use records::{PrEntry, draft_over, find_id, find_name, with_fields};
+pub use scans::first_draft;

@@ -1,17 +1,10 @@
-//! The records of the protection database over a draft: its entries, found by a scan of the blocks, and the two maxima. They say
-//! nothing of pairs: an entry comes without any, and keeps those that it has.
-ghost use Rattle.std.specs.Prelude.{◌≡◌, ◌≢◌, ◌+◌, ◌++◌, ◌<◌, ◌≤◌, ◌≤ℤ◌, ◌^◌, ◌⊎◌, ◌↔◌, ℕ, pos, unsigned_abs, IsTrue, IfSome, IfOk, IfErr, OnOk, OnErr, IsErrOf, length, max};
+//! An entry, found by a scan of the blocks of an image without words of chains, and a block with the fields of an entry.
+ghost use Rattle.std.specs.Prelude.{◌≡◌, ◌<◌, ◌^◌, IfSome, IfOk, IfErr, IsErrOf, length};
 ghost use Rattle.std.specs.Option.{option_map};
-ghost use Rattle.ubik_types.specs.Image.{changed};
-ghost use Rattle.ubik_types.specs.declared.images.Change.TheVariants.{Put};
-ghost use Rattle.db_image.specs.Draft.{StaysAsItWas};
-ghost use Rattle.db_image.specs.Images.{IsOfImage};
-ghost use Rattle.prdb_layout.specs.Blocks.{block_count};
-ghost use Rattle.prdb_layout.specs.Bytes.{bits, word};
-ghost use Rattle.prdb_layout.specs.Meaning.{new_user};
-ghost use Rattle.prdb_layout.specs.RecordEnds.{Becomes, HasCause, HoldsTheSame, Makes, OnlyDrafts, OnlyLooks, seen};
-ghost use Rattle.prdb_layout.specs.Records.{Holds, IsLaidOut, after_insert, after_remove, after_replace, after_set_maxima, block_place, field_numbers, maxima_in, with_count, with_block, with_new_block, with_fields, whole};
-ghost use Rattle.prdb_layout.specs.Registry.{Registry, AreMaxima, IsRecord, IsNamed, MayBeAdded, MayReplace, MayBeRemoved, with_entry, without_entry, with_maxima};
+ghost use Rattle.db_blocks.specs.Ends.{OnlyLooks};
+ghost use Rattle.prdb_layout.specs.RecordEnds.{HasCause, seen};
+ghost use Rattle.prdb_layout.specs.Records.{Holds, field_numbers, with_fields};
+ghost use Rattle.prdb_layout.specs.Registry.{Registry, IsNamed};
 
 use crate::blocks::{
     ANONYMOUS, BLOCK_COUNT_AT, BLOCK_LEN, CHAINS_AT, FIRST_LEN, HEAD_LEN, MAX_USER_AT, NAME_AT,
@@ -38,22 +31,7 @@ pub struct PrEntry {
     pub quota: i32,
 }
 
-impl PrEntry {
-    /// A user as a call makes it for who is not signed in, without a given owner (ptserver).
-    pub fn new_user(name: Bytes, id: i32) -> PrEntry
-        requires { pos 0 ≤ℤ id }
-        ensures { seen result ≡ new_user name (unsigned_abs id) }
-    {
-        PrEntry {
-            name,
-            flags: USER_FLAGS,
-            id,
-            owner: ADMINISTRATORS,
-            creator: ANONYMOUS,
-            quota: USER_QUOTA,
-        }
-    }
-}
+impl PrEntry {}
 
 /// An image as a draft with the blocks of this database.
 pub fn draft_over<I: ImageRead>(alloc: Global, image: I) -> Draft<I>
@@ -68,7 +46,7 @@ pub fn draft_over<I: ImageRead>(alloc: Global, image: I) -> Draft<I>
 
 // ---- what is found
 
-/// The entry of a name.
+/// The entry of a name, by a scan. It is called for the empty image alone, which is read as the first one without words of chains.
 pub fn find_name<I: ImageRead>(
     alloc: Global,
     d: &mut Draft<I>,
@@ -86,7 +64,7 @@ pub fn find_name<I: ImageRead>(
     }
 }
 
-/// The entry of an id.
+/// The entry of an id, in the same way.
 pub fn find_id<I: ImageRead>(
     alloc: Global,
     d: &mut Draft<I>,
@@ -104,77 +82,7 @@ pub fn find_id<I: ImageRead>(
     }
 }
 
-/// Whether these are maxima that a registry may have.
-fn are_maxima(user: i32, group: i32) -> bool
-    ensures { IsTrue result ↔ AreMaxima user group }
-{
-    user >= 0 && group > i32::MIN && group < 0
-}
-
-/// The maximum user id and the maximum group id. A bad record stands at the first of them where one is out of range.
-pub fn maxima<I: ImageRead>(_alloc: Global, d: &mut Draft<I>) -> Result<(i32, i32), RecordFault>
-    requires { d.old.len < 2 ^ 31 }
-    ensures found { IfOk result (λ found. IfSome d.old.bytes
-        (λ image. (r : Registry) → Holds image r → found ≡ (r.max_user, r.max_group))) }
-    ensures exact { IfOk result (λ found. IfSome d.old.bytes (λ image. found ≡ maxima_in (whole image))) }
-    ensures range { IfOk result (λ found. AreMaxima found.0 found.1) }
-    ensures fault { IfErr result (HasCause d.old.bytes Holds) }
-    ensures frame { OnlyLooks I.ImageRead d.old d.new (IsErrOf result RecordFault.DiskFault) }
-{
-    if d.len() == 0 {
-        return Ok((0, MAX_GROUP));
-    }
-    block_count(d.len())?;
-    let mut words = [0; 2 * WORD_LEN];
-    d.read(MAX_USER_AT as u32, &mut words).done()?;
-    let user = signed_at(&words, 0);
-    let group = signed_at(&words, WORD_LEN);
-    if !are_maxima(user, group) {
-        return Err(RecordFault::BadRecord {
-            at: MAX_USER_AT as u32,
-        });
-    }
-    Ok((user, group))
-}
-
-// ---- what is changed
-
-/// Writes the first image where the draft is empty.
-#[tactic(auto, unfolding(crate::specs::Records::whole))]
-fn make_whole<I: ImageRead>(alloc: Global, d: &mut Draft<I>) -> Result<(), RecordFault>
-    ensures bytes { OnOk result (Becomes whole d.old d.new) }
-    ensures empty { OnOk result (d.old.len ≡ 0 → d.new.len ≡ FIRST_LEN) }
-    ensures stays { OnOk result (0 < d.old.len → d.new.len ≡ d.old.len) }
-    ensures longer { d.old.len ≤ d.new.len }
-    ensures same { OnErr result (StaysAsItWas d.old d.new) }
-    ensures fault { IfErr result IsOfImage }
-    ensures frame { OnlyDrafts I.ImageRead d.old d.new (IsErrOf result RecordFault.DiskFault) }
-{
-    if d.len() > 0 {
-        return Ok(());
-    }
-    d.put(0, &initial_image(alloc)?)
-}
-
-/// Lays bytes at a position, after the first image where the draft is empty.
-fn put_whole<I: ImageRead>(
-    alloc: Global,
-    d: &mut Draft<I>,
-    at: u32,
-    bytes: &[u8],
-) -> Result<(), RecordFault>
-    requires len { d.old.len < 2 ^ 31 }
-    requires within { at + length bytes.now ≤ max d.old.len FIRST_LEN }
-    ensures bytes { OnOk result (Becomes (λ image. changed (whole image) (Put at bytes.now)) d.old d.new) }
-    ensures len { OnOk result (d.new.len ≤ max d.old.len FIRST_LEN) }
-    ensures longer { d.old.len ≤ d.new.len }
-    ensures left { OnErr result (HoldsTheSame d.old d.new) }
-    ensures fault { IfErr result IsOfImage }
-    ensures frame { OnlyDrafts I.ImageRead d.old d.new (IsErrOf result RecordFault.DiskFault) }
-{
-    make_whole(alloc, d)?;
-    d.put(at, bytes)
-}
+// ---- what is written
 
 /// The numbers at the front of an entry's block.
 #[tactic(auto, unfolding(crate::specs::Records::field_numbers))]
@@ -204,121 +112,4 @@ pub fn with_fields(alloc: Global, e: &PrEntry, block: &[u8]) -> Result<Vec<u8>, 
     let (_, behind) = block.split_at(CHAINS_AT);
     after.extend_from_slice(behind)?;
     Ok(after)
-}
-
-/// Writes a block behind the last one, and counts it.
-fn add_block<I: ImageRead>(d: &mut Draft<I>, block: &[u8]) -> Result<(), RecordFault>
-    requires len { d.old.len < 2 ^ 31 }
-    requires block { length block.now ≡ BLOCK_LEN }
-    ensures bytes { OnOk result (Becomes (λ image. with_count (block_count image + 1) (with_block (block_count image) block.now image))
-        d.old d.new) }
-    ensures left { OnErr result ((d.new.bytes ≡ d.old.bytes)
-        ⊎ Becomes (λ image. with_block (block_count image) block.now image) d.old d.new) }
-    ensures len { OnOk result (d.new.len ≡ d.old.len + BLOCK_LEN) }
-    ensures longer { d.old.len ≤ d.new.len }
-    ensures fault { IfErr result (HasCause d.old.bytes IsLaidOut) }
-    ensures frame { OnlyDrafts I.ImageRead d.old d.new (IsErrOf result RecordFault.DiskFault) }
-{
-    let count = block_count(d.len())?;
-    d.put(block_place(count), block)?;
-    d.put(BLOCK_COUNT_AT as u32, &(count + 1).to_be_bytes())
-}
-
-/// Adds an entry without pairs. The first change of an empty image writes the head and the fixed entries before it.
-pub fn insert<I: ImageRead>(alloc: Global, d: &mut Draft<I>, e: &PrEntry) -> Result<(), RecordFault>
-    requires len { d.old.len < 2 ^ 31 }
-    requires entry { IsRecord (seen e.now) }
-    ensures holds { OnOk result (Makes (MayBeAdded (seen e.now)) (with_entry (seen e.now)) d.old d.new) }
-    ensures bytes { OnOk result (Becomes (after_insert (seen e.now)) d.old d.new) }
-    ensures len { OnOk result (d.new.len ≤ max d.old.len FIRST_LEN + BLOCK_LEN) }
-    ensures longer { d.old.len ≤ d.new.len }
-    ensures left { OnErr result (HoldsTheSame d.old d.new ⊎ Becomes (λ image. with_new_block (seen e.now) (whole image)) d.old d.new) }
-    ensures fault { IfErr result (HasCause d.old.bytes Holds) }
-    ensures frame { OnlyDrafts I.ImageRead d.old d.new (IsErrOf result RecordFault.DiskFault) }
-{
-    let free = find_block(alloc, d, Wanted::Free)?;
-    let block = with_fields(alloc, e, &[0; BLOCK_LEN])?;
-    if let Some(found) = free {
-        return put_whole(alloc, d, block_place(found.number), &block);
-    }
-    make_whole(alloc, d)?;
-    add_block(d, &block)
-}
-
-/// Gives the entry of an id other fields. Its pairs stay, and no byte is changed where the fields are those that it has.
-pub fn replace<I: ImageRead>(
-    alloc: Global,
-    d: &mut Draft<I>,
-    id: i32,
-    e: &PrEntry,
-) -> Result<(), RecordFault>
-    requires len { d.old.len < 2 ^ 31 }
-    requires entry { IsRecord (seen e.now) }
-    ensures holds { OnOk result (Makes (MayReplace id (seen e.now)) (with_entry (seen e.now)) d.old d.new) }
-    ensures bytes { OnOk result (Becomes (after_replace id (seen e.now)) d.old d.new) }
-    ensures len { OnOk result (d.new.len ≤ max d.old.len FIRST_LEN) }
-    ensures longer { d.old.len ≤ d.new.len }
-    ensures left { OnErr result (HoldsTheSame d.old d.new) }
-    ensures fault { IfErr result (HasCause d.old.bytes (λ image r. Holds image r × MayReplace id (seen e.now) r)) }
-    ensures frame { OnlyDrafts I.ImageRead d.old d.new (IsErrOf result RecordFault.DiskFault) }
-{
-    let Some(found) = find_block(alloc, d, Wanted::Id(id))? else {
-        return Err(RecordFault::BadRecord { at: d.len() });
-    };
-    let block = with_fields(alloc, e, &found.block)?;
-    if block.as_slice() == found.block.as_slice() {
-        return Ok(());
-    }
-    put_whole(alloc, d, block_place(found.number), &block)
-}
-
-/// Removes the entry of an id, which has no pairs. Its block is free from then on, and zero.
-pub fn remove<I: ImageRead>(alloc: Global, d: &mut Draft<I>, id: i32) -> Result<(), RecordFault>
-    requires { d.old.len < 2 ^ 31 }
-    ensures holds { OnOk result (Makes (MayBeRemoved id) (without_entry id) d.old d.new) }
-    ensures bytes { OnOk result (Becomes (after_remove id) d.old d.new) }
-    ensures len { OnOk result (d.new.len ≤ max d.old.len FIRST_LEN) }
-    ensures longer { d.old.len ≤ d.new.len }
-    ensures left { OnErr result (HoldsTheSame d.old d.new) }
-    ensures fault { IfErr result (HasCause d.old.bytes (λ image r. Holds image r × MayBeRemoved id r)) }
-    ensures frame { OnlyDrafts I.ImageRead d.old d.new (IsErrOf result RecordFault.DiskFault) }
-{
-    let Some(found) = find_block(alloc, d, Wanted::Id(id))? else {
-        return Err(RecordFault::BadRecord { at: d.len() });
-    };
-    put_whole(alloc, d, block_place(found.number), &[0; BLOCK_LEN])
-}
-
-/// The maxima as they stand in the head.
-fn maxima_words(alloc: Global, user: i32, group: i32) -> Result<Vec<u8>, AllocError>
-    ensures { IfOk result (λ words. words.items ≡ word (bits user) ++ word (bits group)) }
-{
-    let mut words = Vec::with_capacity(alloc, 2 * WORD_LEN)?;
-    words.extend_from_slice(&user.cast_unsigned().to_be_bytes())?;
-    words.extend_from_slice(&group.cast_unsigned().to_be_bytes())?;
-    Ok(words)
-}
-
-/// Sets both maxima. No byte is changed where they are those that stand there.
-pub fn set_maxima<I: ImageRead>(
-    alloc: Global,
-    d: &mut Draft<I>,
-    user: i32,
-    group: i32,
-) -> Result<(), RecordFault>
-    requires len { d.old.len < 2 ^ 31 }
-    requires maxima { AreMaxima user group }
-    ensures holds { OnOk result (Makes (λ r. Unit {0}) (with_maxima user group) d.old d.new) }
-    ensures bytes { OnOk result (Becomes (after_set_maxima user group) d.old d.new) }
-    ensures len { OnOk result (d.new.len ≤ max d.old.len FIRST_LEN) }
-    ensures longer { d.old.len ≤ d.new.len }
-    ensures left { OnErr result (HoldsTheSame d.old d.new) }
-    ensures fault { IfErr result (HasCause d.old.bytes Holds) }
-    ensures frame { OnlyDrafts I.ImageRead d.old d.new (IsErrOf result RecordFault.DiskFault) }
-{
-    if maxima(alloc, d)? == (user, group) {
-        return Ok(());
-    }
-    let words = maxima_words(alloc, user, group)?;
-    put_whole(alloc, d, MAX_USER_AT as u32, &words)
 }

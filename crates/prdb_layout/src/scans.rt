@@ -1,9 +1,11 @@
-//! Blocks of a draft, read one after the other.
+//! Blocks of a draft without words of chains, read one after the other.
 ghost use Rattle.std.specs.Prelude.{◌≡◌, ◌≢◌, ◌+◌, ◌<◌, ◌≤◌, ◌^◌, ℕ, Some, IfSome, IfOk, IfErr, IsErrOf, length, max};
+ghost use Rattle.db_blocks.specs.Blocks.{kind_of};
+ghost use Rattle.db_blocks.specs.Ends.{OnlyLooks};
 ghost use Rattle.prdb_layout.specs.Blocks.{block_count};
 ghost use Rattle.prdb_layout.specs.Layout.{layout};
-ghost use Rattle.prdb_layout.specs.RecordEnds.{OnlyLooks, HasCause, IsFirst, is_met, seen};
-ghost use Rattle.prdb_layout.specs.Records.{Holds, IsLaidOut, block_in, block_place, entry_in, kind_of, signed_at, whole};
+ghost use Rattle.prdb_layout.specs.RecordEnds.{HasCause, IsFirst, is_met, seen};
+ghost use Rattle.prdb_layout.specs.Records.{Holds, IsLaidOut, block_in, block_place, entry_in, signed_at, whole};
 ghost use Rattle.prdb_layout.specs.State.{initial_state};
 
 use crate::blocks::{
@@ -16,9 +18,6 @@ use db_image::{Draft, ImageRead, RecordFault, VecImage};
 use std::alloc::Global;
 use ubik_types::{NoMemory, bytes_of};
 
-/// The first word of a free block.
-const FREE: u32 = 0;
-
 /// The greatest first word of a block, which a continuation of an entry's pairs has.
 const MORE: u32 = 2;
 
@@ -29,8 +28,6 @@ pub enum Wanted<'a> {
     Name(&'a [u8]),
     /// The entry of an id.
     Id(i32),
-    /// A free block.
-    Free,
 }
 
 /// A block that a scan found, and its number; the first behind the head has the number 0.
@@ -77,7 +74,6 @@ impl Wanted<'_> {
         match self {
             Wanted::Name(name) => kind_of(block) == ENTRY && block_name(block) == name,
             Wanted::Id(id) => kind_of(block) == ENTRY && signed_at(block, ID_AT) == id,
-            Wanted::Free => kind_of(block) == FREE,
         }
     }
 }
@@ -137,7 +133,7 @@ fn scan<I: ImageRead>(d: &mut Draft<I>, wanted: Wanted<'_>) -> Result<Option<Fou
     Ok(None)
 }
 
-/// The first image, as a draft of its own.
+/// The first image without words of chains, as a draft of its own.
 pub fn first_draft(alloc: Global) -> Result<Draft<VecImage>, RecordFault>
     ensures bytes { IfOk result (λ d. d.bytes ≡ Some (layout initial_state)) }
     ensures len { IfOk result (λ d. d.len ≡ FIRST_LEN) }

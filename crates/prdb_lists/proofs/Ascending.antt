@@ -7,19 +7,14 @@ use Rattle.std.proofs.lemmas.Int.{ints}
 use Rattle.std.proofs.lemmas.List.{length-append, get_or_append_left, get_or-append_right, get_or-append-add, get_or_default, take-append-drop, length-take-le}
 use Rattle.std.proofs.lemmas.List.Elements.{Contains-append_left, Contains-append_right, Contains-append_cases}
 use Rattle.std.specs.Prelude.{IsTrue, int_lt}
-use Rattle.prdb_lists.specs.Lists.{IsAscending, IsRank}
+use Rattle.entry_scans.specs.Lists.{IsAscending}
+use Rattle.prdb_lists.specs.Lists.{IsRank}
 
 pub lt_same : (a b x y : ℤ) → x ≡ a → y ≡ b → a <ℤ b → x <ℤ y
 lt_same a b x y p q less = subst (λ (v : ℤ). x <ℤ v) (sym q) (subst (λ (v : ℤ). v <ℤ b) (sym p) less)
 
 pub lt_on : (a b c : ℤ) → a <ℤ b → b <ℤ c → a <ℤ c
 lt_on a b c p q = omega (arith, ints)
-
-pub lt_le : (a b c : ℤ) → a <ℤ b → b ≤ℤ c → a <ℤ c
-lt_le a b c p q = omega (arith, ints)
-
-pub le_lt : (a b c : ℤ) → a ≤ℤ b → b <ℤ c → a <ℤ c
-le_lt a b c p q = omega (arith, ints)
 
 pub not_self : (a : ℤ) → a <ℤ a → ⊥
 not_self a p = omega (arith, ints)

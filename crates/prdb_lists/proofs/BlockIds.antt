@@ -9,8 +9,10 @@ use Rattle.std.proofs.lemmas.Int.{to_z-of_z}
 use Rattle.std.proofs.lemmas.List.{same_lists, take-take, drop-drop, length-map, get_or-map}
 use Rattle.std.proofs.lemmas.List.FromFn.{length-map-range_with_len, get_or-map-range_with_len, map-range_with_len_more}
 use Rattle.std.proofs.lemmas.Nat.{from_be_bytes-to_be_bytes_4}
-use Rattle.prdb_layout.specs.Bytes.{bits, word, words, word_at}
-use Rattle.prdb_layout.specs.Records.{kind_of, signed_at}
+use Rattle.db_blocks.specs.Blocks.{word_at, kind_of}
+use Rattle.db_blocks.specs.Bytes.{word, words}
+use Rattle.prdb_layout.specs.Bytes.{bits}
+use Rattle.prdb_layout.specs.Records.{signed_at}
 use Rattle.prdb_layout.proofs.Lengths.{bits_below}
 use Rattle.prdb_lists.specs.Blocks.{ids_in, is_more_of}
 use Rattle.prdb_lists.specs.Layout.{PairList, id_field, link_to, link_word, list_words, more_block}

@@ -16,7 +16,7 @@ use Rattle.prdb_lists.specs.Lists.{ids_with, ids_without}
 use Rattle.prdb_lists.specs.Members.{ArePairs, MayJoin, MayLeave, Members, are_paired, with_pair, without_pair}
 use Rattle.prdb_lists.specs.Sides.{HasLists, HoldsLists, IsRelisted, set_list}
 use Rattle.prdb_lists.proofs.Ascending.{IsWith}
-use Rattle.prdb_lists.proofs.Gains.{gain, gained_is, lose, lost_is, place_of, stands_on}
+use Rattle.prdb_lists.proofs.Gains.{gain, gained_is, lose, lost_is, stands_on}
 use Rattle.prdb_lists.proofs.Ids.{IsWithout, ids_with-members, ids_without-members}
 use Rattle.prdb_lists.proofs.RecordsKeep.{or_left, or_right, true_false}
 use Rattle.prdb_lists.proofs.Relist.{StandsAt}
@@ -356,22 +356,3 @@ part image r m a b ka kb h may at_a at_b =
       sym is_two ∙ sym exact_two ∙ ap (λ (i : List ℕ). without_id b a i) (sym exact_one),
       subst (λ (i : List ℕ). HoldsPairs i r (without_pair a b m)) is_two holds,
     )
-
--- ---- the image alone
-
-pub join_holds : (image : List ℕ) (r : Registry) (m : Members) (a b : ℤ) → HoldsPairs image r m → MayJoin a b r m
-    → HoldsPairs (after_join a b image) r (with_pair a b m)
-join_holds image r m a b h may =
-    let p = place_of (whole image) r h.lists a (lists_of image r m h).has may.member_there in
-    let q = place_of (whole image) r h.lists b (lists_of image r m h).has may.group_there in
-    let j = join image r m a b p.k q.k h may p.at q.at in
-    subst (λ (i : List ℕ). HoldsPairs i r (with_pair a b m)) j.0 j.1
-
-pub part_holds : (image : List ℕ) (r : Registry) (m : Members) (a b : ℤ) → HoldsPairs image r m → MayLeave a b m
-    → HoldsPairs (after_part a b image) r (without_pair a b m)
-part_holds image r m a b h may =
-    let v = h.valid a b may in
-    let p = place_of (whole image) r h.lists a (lists_of image r m h).has v.2 in
-    let q = place_of (whole image) r h.lists b (lists_of image r m h).has v.3 in
-    let j = part image r m a b p.k q.k h may p.at q.at in
-    subst (λ (i : List ℕ). HoldsPairs i r (without_pair a b m)) j.0 j.1

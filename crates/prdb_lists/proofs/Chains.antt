@@ -6,7 +6,9 @@ use Rattle.std.specs.List.{All, Contains}
 use Rattle.std.proofs.lemmas.List.{take-append-drop, length-drop, length-take}
 use Rattle.std.proofs.lemmas.List.Elements.{All-take, All-drop}
 use Rattle.prdb_layout.specs.Blocks.{block_count}
-use Rattle.prdb_layout.specs.Bytes.{bits, word_at, words, zeros}
+use Rattle.db_blocks.specs.Blocks.{word_at}
+use Rattle.db_blocks.specs.Bytes.{words, zeros}
+use Rattle.prdb_layout.specs.Bytes.{bits}
 use Rattle.prdb_layout.specs.Records.{block_in}
 use Rattle.prdb_lists.specs.Blocks.{ids_in}
 use Rattle.prdb_lists.specs.Changes.{blocks_for, chain_in, ids_behind, list_in}

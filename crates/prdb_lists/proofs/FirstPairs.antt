@@ -1,8 +1,9 @@
 -- The empty image holds no pairs.
 use Rattle.std.proofs.Common.{◌≡◌, ℕ, zero, suc, ◌<◌, List, [], drop, refl, sym, subst, arith}
-use Rattle.prdb_layout.specs.Bytes.{words, zeros}
+use Rattle.db_blocks.specs.Bytes.{words, zeros}
+use Rattle.db_blocks.specs.Blocks.{kind_of}
 use Rattle.prdb_layout.specs.Layout.{layout, head_of, block_of as entry_block, numbers_of}
-use Rattle.prdb_layout.specs.Records.{block_in, kind_of}
+use Rattle.prdb_layout.specs.Records.{block_in}
 use Rattle.prdb_layout.specs.Registry.{first_registry}
 use Rattle.prdb_layout.specs.State.{fixed_entries, initial_state}
 use Rattle.prdb_layout.proofs.FirstImage.{empty_holds}

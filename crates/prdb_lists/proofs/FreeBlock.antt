@@ -2,11 +2,12 @@
 use Rattle.std.proofs.Common.{◌≡◌, ◌≢◌, ℕ, ℤ, ◌+◌, ◌<◌, ◌≤◌, List, length, take, Some, refl, sym, ap, subst, ◌∙◌, ⊎_elim, inl, inr, arith}
 use Rattle.std.proofs.lemmas.Bool.{cases_eq, cases_lt, lt-ltb, le-ltb, eqb-true}
 use Rattle.prdb_layout.specs.Blocks.{block_count}
-use Rattle.prdb_layout.specs.Bytes.{zeros}
-use Rattle.prdb_layout.specs.Records.{IsBlock, IsLaidOut, block_in, block_place, entry_in, head_with, is_free, kind_of, next_block, with_block, with_count}
+use Rattle.db_blocks.specs.Bytes.{zeros}
+use Rattle.db_blocks.specs.Blocks.{kind_of}
+use Rattle.db_blocks.proofs.FirstBlocks.{first_met, first_within}
+use Rattle.prdb_layout.specs.Records.{IsBlock, IsLaidOut, block_in, block_place, entry_in, head_with, is_free, next_block, with_block, with_count}
 use Rattle.prdb_layout.specs.Registry.{Registry}
 use Rattle.prdb_layout.proofs.BlockPlaces.{IsPut, IsHeadPut, add_block, put_count}
-use Rattle.prdb_layout.proofs.FirstBlocks.{first_met, first_within}
 use Rattle.prdb_layout.proofs.LaidOut.{count_is, zero_kind}
 use Rattle.prdb_lists.specs.Changes.{with_free}
 use Rattle.prdb_lists.specs.Layout.{PairList}

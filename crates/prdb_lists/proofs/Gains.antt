@@ -7,12 +7,13 @@ use Rattle.std.proofs.lemmas.Bool.Decides.{Decides-int_eq}
 use Rattle.std.proofs.lemmas.List.{append-nil, get_or_default, take-append-drop, length-append, length-take-le, length-drop, get_or_append_left, get_or-append_right}
 use Rattle.std.proofs.lemmas.List.Elements.{Contains-append_left, Contains-append_right, Contains-append_cases}
 use Rattle.prdb_layout.specs.Blocks.{block_count}
-use Rattle.prdb_layout.specs.Bytes.{zeros}
-use Rattle.prdb_layout.specs.Records.{block_in, block_place, entry_in, has_id, kind_of, next_block, with_block}
+use Rattle.db_blocks.specs.Bytes.{zeros}
+use Rattle.db_blocks.specs.Blocks.{kind_of}
+use Rattle.db_blocks.proofs.FirstBlocks.{first_at}
+use Rattle.prdb_layout.specs.Records.{block_in, block_place, entry_in, has_id, next_block, with_block}
 use Rattle.prdb_layout.specs.Registry.{Registry}
 use Rattle.prdb_layout.specs.State.{PrEntry}
 use Rattle.prdb_layout.proofs.BlockPlaces.{IsPut, put_block}
-use Rattle.prdb_layout.proofs.FirstBlocks.{first_at}
 use Rattle.prdb_layout.proofs.LaidOut.{count_is, zero_kind}
 use Rattle.prdb_layout.proofs.Lookups.{id_parts}
 use Rattle.prdb_lists.specs.Changes.{blocks_for, gained, list_in, lost, place_in, relisted, with_free, with_freed, with_id, without_id}

@@ -9,11 +9,12 @@ use Rattle.std.proofs.lemmas.Bool.Decides.{Decides-int_eq}
 use Rattle.std.proofs.lemmas.Int.{ints}
 use Rattle.std.proofs.lemmas.List.{get_or_default, length-append, length-take-le, length-drop}
 use Rattle.std.proofs.lemmas.List.Elements.{All-contains, All-contains_itself, All-filter, filter_passes}
+use Rattle.db_blocks.proofs.FirstBlocks.{first_at, first_met, first_none, first_not, first_within}
 use Rattle.prdb_layout.specs.Registry.{Registry, IsRegistry}
 use Rattle.prdb_layout.specs.State.{IsId}
-use Rattle.prdb_layout.proofs.FirstBlocks.{first_at, first_met, first_none, first_not, first_within}
 use Rattle.prdb_layout.proofs.Lengths.{fits_id}
-use Rattle.prdb_lists.specs.Lists.{IsAscending, IsRank, ids_with, ids_without, rank_of}
+use Rattle.entry_scans.specs.Lists.{IsAscending}
+use Rattle.prdb_lists.specs.Lists.{IsRank, ids_with, ids_without, rank_of}
 use Rattle.prdb_lists.proofs.Ascending.{IsApart, IsWith, ascending_join, ascending_none, ascending_one, ascending_right, is_ascending_with, lt_from, lt_same, lt_to, members_with, not_self}
 use Rattle.prdb_lists.proofs.RecordsKeep.{int_other}
 

@@ -4,8 +4,8 @@ use Rattle.std.specs.Prelude.{◌<ℤ◌, ◌⊎◌}
 use Rattle.std.specs.List.{Contains}
 use Rattle.std.proofs.lemmas.Int.{ints}
 use Rattle.prdb_layout.specs.Registry.{Registry}
+use Rattle.entry_scans.specs.Lists.{IsAscending, IsListOf}
 use Rattle.prdb_lists.specs.Layout.{HoldsPairs}
-use Rattle.prdb_lists.specs.Lists.{IsAscending, IsListOf}
 use Rattle.prdb_lists.specs.Members.{Members, IsInList, any_user, are_paired, not_signed_in, signed_in}
 
 -- a list with an id more, which may have been there

@@ -1,10 +1,11 @@
--- The records of prdb_layout leave the lists of pairs: an image that holds pairs holds them after a change of one block that is no
+-- The changes of prdb_layout leave the lists of pairs: an image that holds pairs holds them after a change of one block that is no
 -- continuation.
 use Rattle.std.proofs.Common.{◌≡◌, ◌≢◌, ℕ, ℤ, ◌<◌, List, [], ◌∷◌, take, drop, IsSome, sym, ap, subst, ◌∙◌, ⊎_elim}
 use Rattle.std.specs.List.{Contains}
 use Rattle.std.proofs.lemmas.Bool.{cases_eq}
+use Rattle.db_blocks.specs.Blocks.{kind_of}
 use Rattle.prdb_layout.specs.Blocks.{block_count}
-use Rattle.prdb_layout.specs.Records.{block_in, entry_in, kind_of}
+use Rattle.prdb_layout.specs.Records.{block_in, entry_in}
 use Rattle.prdb_layout.specs.Registry.{Registry}
 use Rattle.prdb_lists.specs.Layout.{AreLists, IsChain, IsDistinct, IsListed, PairList, link_to, IsSpelled}
 use Rattle.prdb_lists.proofs.BlockIds.{kind_of_more}

@@ -18,8 +18,6 @@ pub mod Ids
 pub mod Relist
 pub mod Written
 pub mod Places
-pub mod Ends
-pub mod FirstWhole
 pub mod MovedIds
 pub mod Relists
 pub mod MovedRegistry

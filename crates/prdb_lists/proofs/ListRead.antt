@@ -12,15 +12,16 @@ use Rattle.db_image.specs.declared.images.ImageRead.{Ghosts}
 use Rattle.db_image.specs.declared.faults.RecordFault.{RecordFault}
 use Rattle.db_image.specs.declared.faults.RecordFault.TheVariants.{DiskFault, BadRecord, NoMemory}
 use Rattle.db_image.proofs.ReadSteps.{asks_none, asks_then}
-use Rattle.db_blocks.specs.Blocks.{IsWhole, block_place, block_in as block_of}
+use Rattle.db_blocks.specs.Blocks.{IsWhole, block_in as block_of, block_place, word_at}
 use Rattle.db_blocks.specs.Ends.{HasCause, OnlyLooks}
 use Rattle.db_blocks.proofs.Scanned.{looks_none, looks_then, looks_so}
 use Rattle.prdb_layout.specs.Blocks.{block_count}
-use Rattle.prdb_layout.specs.Bytes.{bits, word_at, words, zeros}
+use Rattle.db_blocks.specs.Bytes.{words, zeros}
+use Rattle.prdb_layout.specs.Bytes.{bits}
 use Rattle.prdb_layout.specs.Records.{block_in, signed_at}
+use Rattle.entry_scans.specs.Lists.{IsAscending}
 use Rattle.prdb_lists.specs.Blocks.{AreWithin, IsMore, ids_in, is_more_of}
 use Rattle.prdb_lists.specs.Layout.{IsChain, IsListed, PairList, link_to, more_block}
-use Rattle.prdb_lists.specs.Lists.{IsAscending}
 use Rattle.prdb_lists.proofs.Ascending.{ascending_left, ascending_apart, one_apart}
 use Rattle.prdb_lists.proofs.BlockIds.{count_of, link_of, ids_read, ids_more, ids_of_more, is_more, next_of_more}
 
@@ -86,9 +87,6 @@ drop_front front back whole is = ap (drop (length front)) is ∙ drop_at front b
 
 take_short : (n : ℕ) (ids : List ℤ) → min (length ids) n ≡ length (take n ids)
 take_short n ids = omega (arith, length-take n ids)
-
-drop_short : (n : ℕ) (ids : List ℤ) → length ids - min (length ids) n ≡ length (drop n ids)
-drop_short n ids = omega (arith, length-drop n ids)
 
 pub first_ids : (image block : List ℕ) (entry : ℤ) (l : PairList) (first : ℕ) → IsListed image entry block l
     → first ≡ min (word_at block 24) 19

@@ -1,10 +1,8 @@
 -- An image in which an entry has another id, in its own blocks and in all lists, holds the registry and the pairs with that id.
-use Rattle.std.proofs.Common.{◌≡◌, ◌≢◌, ℕ, ℤ, zero, suc, ◌+◌, ◌<◌, true, false, List, [], ◌∷◌, length, get_or, take, drop, IsSome, refl, sym, ap, subst, ◌∙◌, ⊎_elim, inl, inr, arith}
+use Rattle.std.proofs.Common.{◌≡◌, ◌≢◌, ℕ, ℤ, zero, suc, ◌<◌, true, false, List, [], ◌∷◌, IsSome, refl, sym, ap, subst, ◌∙◌, ⊎_elim, inl, inr, arith}
 use Rattle.std.specs.List.{Contains}
 use Rattle.std.proofs.lemmas.Bool.{cases_Bool}
-use Rattle.std.proofs.lemmas.List.{get_or-drop, length-drop, take-append-drop}
-use Rattle.std.proofs.lemmas.List.Elements.{Contains-append_left}
-use Rattle.prdb_layout.specs.Bytes.{words, zeros}
+use Rattle.db_blocks.specs.Bytes.{words, zeros}
 use Rattle.prdb_layout.specs.Layout.{layout, head_of, block_of as entry_block, numbers_of}
 use Rattle.prdb_layout.specs.Records.{IsLaidOut, block_in, entry_in, whole}
 use Rattle.prdb_layout.specs.Registry.{Registry, IsFixedId}
@@ -13,12 +11,10 @@ use Rattle.prdb_layout.proofs.Changed.{by_id}
 use Rattle.prdb_layout.proofs.Initial.{length-initial}
 use Rattle.prdb_layout.proofs.LaidOut.{whole_same}
 use Rattle.prdb_layout.proofs.Lengths.{fits_id}
+use Rattle.entry_scans.specs.Lists.{IsListOf}
 use Rattle.prdb_lists.specs.Layout.{HoldsPairs, PairList}
-use Rattle.prdb_lists.specs.Lists.{IsAscending, IsListOf}
 use Rattle.prdb_lists.specs.Members.{Members, are_paired}
-use Rattle.prdb_lists.specs.Moves.{HasRelist, MayMove, after_move, after_put_id, after_relists, ids_moved, moved_members, moved_registry}
-use Rattle.prdb_lists.specs.Sides.{HasLists}
-use Rattle.prdb_lists.proofs.Ascending.{ascending_apart, ascending_left, lt_same, not_self}
+use Rattle.prdb_lists.specs.Moves.{MayMove, after_move, after_put_id, after_relists, ids_moved, moved_members, moved_registry}
 use Rattle.prdb_lists.proofs.Both.{either, lists_of, other_there, pairs_of, turned}
 use Rattle.prdb_lists.proofs.Gains.{place_of, some_entry}
 use Rattle.prdb_lists.proofs.ListFound.{whole_none}
@@ -146,48 +142,3 @@ image_is [] r m old new h may =
     let six : o.0 < 6 = omega (arith, o.1, length-initial) in
     absurd (may.not_fixed (subst IsFixedId (ap (λ (y : PrEntry). y.id) o.3 ∙ h.holds.valid.ids old e at) (fixed_there o.0 six))))
 image_is (byte ∷ bytes) r m old new h may = whole_same (byte ∷ bytes) (omega arith)
-
--- ---- after some of the others
-
-front_has : (i : ℕ) (xs : List ℤ) (y : ℤ) → Contains (take i xs) y → Contains xs y
-front_has i xs y has = subst (λ (l : List ℤ). Contains l y) (take-append-drop i xs) (Contains-append_left (take i xs) (drop i xs) y has)
-
-front_rises : (i : ℕ) (xs : List ℤ) → IsAscending xs → IsAscending (take i xs)
-front_rises i xs rises = ascending_left (take i xs) (drop i xs) (subst IsAscending (sym (take-append-drop i xs)) rises)
-
-no_more : (i : ℕ) → i + 0 ≡ i
-no_more i = omega arith
-
--- the next one is none of those before it
-front_not : (i : ℕ) (xs : List ℤ) (x : ℤ) → IsAscending xs → i < length xs → x ≡ get_or xs i x → Contains (take i xs) x → ⊥
-front_not i xs x rises below is has =
-    let apart = ascending_apart (take i xs) (drop i xs) (subst IsAscending (sym (take-append-drop i xs)) rises) in
-    let here : get_or (drop i xs) 0 x ≡ x = get_or-drop i xs 0 x ∙ ap (λ (n : ℕ). get_or xs n x) (no_more i) ∙ sym is in
-    let some : 0 < length (drop i xs) = omega (arith, length-drop i xs) in
-    not_self x (lt_same (get_or (take i xs) has.0 x) (get_or (drop i xs) 0 x) x x (sym has.2) (sym here) (apart has.0 0 x has.1 some))
-
-pub midst_has : (image : List ℕ) (r : Registry) (m : Members) (old new : ℤ) (others : List ℤ) (i : ℕ) (h : HoldsPairs image r m)
-    → MayMove old new r → AreAll m old others
-    → HasLists (after_relists old new (take i others) (whole image)) r (moved_lists old new (take i others) h.lists)
-midst_has image r m old new others i h may list =
-    let are = others_are image r m old new others h may list in
-    (relist_all (take i others) (whole image) r h.lists old new (lists_of image r m h).has (fits_id new may.good)
-    (front_rises i others list.ascending)
-    (λ y has. are y (front_has i others y has))).has
-
-pub midst_may : (image : List ℕ) (r : Registry) (m : Members) (old new : ℤ) (others : List ℤ) (i : ℕ) (x : ℤ) (h : HoldsPairs image r m)
-    → MayMove old new r → AreAll m old others
-    → i < length others → x ≡ get_or others i x → HasRelist old new x (after_relists old new (take i others) (whole image))
-midst_may image r m old new others i x h may list below is =
-    let has : Contains others x = (i, below, sym is) in
-    let are = others_are image r m old new others h may list x has in
-    let stays = lists_stay old new (take i others) h.lists x (front_not i others x list.ascending below is) in (
-      r,
-      moved_lists old new (take i others) h.lists,
-      record {
-        has = midst_has image r m old new others i h may list;
-        there = are.0;
-        old_in = subst (λ (l : PairList). Contains l.ids old) (sym stays) are.1;
-        new_out = λ has_new. are.2 (subst (λ (l : PairList). Contains l.ids new) stays has_new);
-      },
-    )

@@ -8,8 +8,10 @@ use Rattle.std.proofs.lemmas.List.{take_at, drop_at, drop-drop, length-append, l
 use Rattle.std.proofs.lemmas.Nat.{from_be_bytes-to_be_bytes_4}
 use borrow.Rule.Slice.PartMut.{put_mid}
 use Rattle.prdb_layout.specs.Blocks.{block_name}
-use Rattle.prdb_layout.specs.Bytes.{bits, word, word_at, filled, words}
-use Rattle.prdb_layout.specs.Records.{IsEntryBlock, entry_in, kind_of, signed_at, field_numbers}
+use Rattle.db_blocks.specs.Blocks.{word_at, kind_of}
+use Rattle.db_blocks.specs.Bytes.{word, filled, words}
+use Rattle.prdb_layout.specs.Bytes.{bits}
+use Rattle.prdb_layout.specs.Records.{IsEntryBlock, entry_in, signed_at, field_numbers}
 use Rattle.prdb_layout.specs.State.{PrEntry}
 use Rattle.prdb_layout.proofs.Lengths.{bits_below}
 use Rattle.prdb_lists.specs.Moves.{with_id_word}

@@ -1,11 +1,12 @@
 -- An id in place of another one in a list, and in all lists that have it.
-use Rattle.std.proofs.Common.{◌≡◌, ◌≢◌, ℕ, ℤ, zero, suc, ◌^◌, ◌<◌, List, [], ◌∷◌, ◌++◌, length, sym, ap, subst, ◌∙◌, refl, inl, inr, arith}
+use Rattle.std.proofs.Common.{◌≡◌, ◌≢◌, ℕ, ℤ, zero, suc, ◌^◌, ◌<◌, List, [], ◌∷◌, length, sym, ap, subst, ◌∙◌, refl, inl, inr, arith}
 use Rattle.std.specs.Prelude.{◌⊎◌, ◌<ℤ◌, FitsSigned}
 use Rattle.std.specs.Int.{w32}
 use Rattle.std.specs.List.{All, Contains}
 use Rattle.std.proofs.lemmas.List.Elements.{All-contains, All-contains_itself}
+use Rattle.entry_scans.specs.Lists.{IsAscending}
 use Rattle.prdb_lists.specs.Layout.{PairList}
-use Rattle.prdb_lists.specs.Lists.{IsAscending, ids_without}
+use Rattle.prdb_lists.specs.Lists.{ids_without}
 use Rattle.prdb_lists.specs.Moves.{ids_moved}
 use Rattle.prdb_lists.specs.Sides.{set_list}
 use Rattle.prdb_lists.proofs.Ascending.{IsWith, ascending_right, not_self}
@@ -88,10 +89,3 @@ list_moves old new (x ∷ entries) lists id rises (suc i, below, same) =
     let apart : id ≢ x = λ is. not_again x entries rises (subst (λ (y : ℤ). Contains entries y) is has) in
     list_moves old new entries (set_list x (moved_list old new (lists x)) lists) id (ascending_right (x ∷ []) entries rises) has
     ∙ ap (moved_list old new) (set_other x id (moved_list old new (lists x)) lists apart)
-
--- one entry more
-pub lists_push : (old new : ℤ) (entries : List ℤ) (lists : ℤ → PairList) (x : ℤ)
-    → moved_lists old new (entries ++ x ∷ []) lists
-    ≡ set_list x (moved_list old new (moved_lists old new entries lists x)) (moved_lists old new entries lists)
-lists_push old new [] lists x = refl
-lists_push old new (y ∷ entries) lists x = lists_push old new entries (set_list y (moved_list old new (lists y)) lists) x

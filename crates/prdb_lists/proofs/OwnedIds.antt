@@ -6,20 +6,12 @@ use Rattle.std.specs.Ordering.{int_eq}
 use Rattle.std.proofs.lemmas.Bool.{ltb-true}
 use Rattle.std.proofs.lemmas.Bool.Decides.{Decides-and, Decides-int_eq}
 use Rattle.std.proofs.lemmas.Int.{ints}
-use Rattle.db_image.specs.Draft.{Drafted}
-use Rattle.db_image.specs.declared.images.ImageRead.{Ghosts}
-use Rattle.db_blocks.specs.Ends.{OnlyLooks}
 use Rattle.entry_scans.specs.Found.{IsMetAt}
-use Rattle.entry_scans.specs.Lists.{IsListOf as IsScanOf}
-use Rattle.prdb_layout.specs.RecordEnds.{OnlyLooks as EntryLooks}
+use Rattle.entry_scans.specs.Lists.{IsListOf}
 use Rattle.prdb_layout.specs.Records.{Holds}
 use Rattle.prdb_layout.specs.Registry.{Registry, IsRegistry}
 use Rattle.prdb_layout.specs.State.{PrEntry}
-use Rattle.prdb_lists.specs.Lists.{IsListOf}
 use Rattle.prdb_lists.specs.Members.{IsOwned}
-
-pub as_looks : {I : Type 0} (g : Ghosts I) (a b : Drafted I) (failed : Type 0) → EntryLooks g a b failed → OnlyLooks g a b failed
-as_looks g a b failed looks = record { same = looks.same; reads = looks.reads }
 
 -- a group with this owner
 abbrev pub is_owned : ℤ → PrEntry → Bool
@@ -48,7 +40,7 @@ met_so r owner id valid is =
     let e = some_of (r.entry id) owner is.1 in
     (e.0, e.1, (owned_tells owner e.0).1 (subst (λ (x : ℤ). x <ℤ pos 0) (sym (valid.ids id e.0 e.1)) is.0, e.2))
 
-list_so : (r : Registry) (owner : ℤ) (ids : List ℤ) → IsRegistry r → IsScanOf (IsMetAt (is_owned owner) r) ids
+list_so : (r : Registry) (owner : ℤ) (ids : List ℤ) → IsRegistry r → IsListOf (IsMetAt (is_owned owner) r) ids
     → IsListOf (IsOwned r owner) ids
 list_so r owner ids valid list = record {
   ascending = list.ascending;
@@ -57,7 +49,7 @@ list_so r owner ids valid list = record {
 }
 
 pub owned_told : (bytes : Option (List ℕ)) (owner : ℤ) (ids : List ℤ)
-    → IfSome bytes (λ image. (r : Registry) → Holds image r → IsScanOf (IsMetAt (is_owned owner) r) ids)
+    → IfSome bytes (λ image. (r : Registry) → Holds image r → IsListOf (IsMetAt (is_owned owner) r) ids)
     → IfSome bytes (λ image. (r : Registry) → Holds image r → IsListOf (IsOwned r owner) ids)
 owned_told None owner ids list = tt
 owned_told (Some image) owner ids list = λ r holds. list_so r owner ids holds.valid (list r holds)

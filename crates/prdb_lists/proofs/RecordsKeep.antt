@@ -1,4 +1,4 @@
--- The records of prdb_layout leave the pairs: over an image that holds pairs each change leaves one that holds them too.
+-- The changes of prdb_layout leave the pairs: the image after each, of one that holds pairs, holds them too.
 use Rattle.std.proofs.Common.{◌≡◌, ◌≢◌, ℕ, ℤ, ◌+◌, ◌<◌, ◌≤◌, true, false, Bool, cond, ◌&&◌, List, [], ◌∷◌, ◌++◌, length, take, drop, Option, Some, None, IsSome, refl, sym, ap, subst, ◌∙◌, ⊎_elim, inl, inr, append_assoc, arith}
 use Rattle.std.specs.Prelude.{◌⊎◌, ◌||◌}
 use Rattle.std.specs.List.{Contains}
@@ -11,14 +11,16 @@ use Rattle.std.proofs.lemmas.Slice.Eq.{bytes_eq-Decides}
 use Rattle.ubik_types.specs.Image.{changed}
 use Rattle.ubik_types.specs.declared.images.Change.TheVariants.{Put}
 use Rattle.prdb_layout.specs.Blocks.{block_count}
-use Rattle.prdb_layout.specs.Bytes.{bits, word, words, zeros, filled}
-use Rattle.prdb_layout.specs.Records.{Holds, IsLaidOut, after_insert, after_remove, after_replace, after_set_maxima, block_in, block_place, entry_in, field_numbers, first_block, has_id, is_free, kind_of, maxima_in, new_block, next_block, whole, with_block, with_count, with_fields}
+use Rattle.db_blocks.specs.Bytes.{word, words, zeros, filled}
+use Rattle.db_blocks.specs.Blocks.{kind_of}
+use Rattle.db_blocks.proofs.FirstBlocks.{first_met, first_within}
+use Rattle.prdb_layout.specs.Bytes.{bits}
+use Rattle.prdb_layout.specs.Records.{Holds, IsLaidOut, after_insert, after_remove, after_replace, after_set_maxima, block_in, block_place, entry_in, field_numbers, first_block, has_id, is_free, maxima_in, new_block, next_block, whole, with_block, with_count, with_fields}
 use Rattle.prdb_layout.specs.Registry.{Registry, AreMaxima, IsRecord, MayBeAdded, MayBeRemoved, MayReplace, with_entry, with_maxima, without_entry}
 use Rattle.prdb_layout.specs.State.{PrEntry}
 use Rattle.prdb_layout.proofs.BlockPlaces.{IsPut, put_block, add_block, put_count, put_maxima, block_len}
 use Rattle.prdb_layout.proofs.Changed.{by_id}
 use Rattle.prdb_layout.proofs.EntryFields.{behind_name, entry_with, kind_with, length-with_fields}
-use Rattle.prdb_layout.proofs.FirstBlocks.{first_met, first_within}
 use Rattle.prdb_layout.proofs.Held.{holds_inserted, holds_maxima, holds_removed, holds_replaced}
 use Rattle.prdb_layout.proofs.LaidOut.{count_is, whole_same, zero_kind}
 use Rattle.prdb_layout.proofs.Lookups.{id_absent, id_parts}

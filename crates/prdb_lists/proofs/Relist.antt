@@ -5,15 +5,16 @@ use Rattle.std.specs.Int.{w32, div_ceil}
 use Rattle.std.specs.List.{All, Contains}
 use Rattle.std.proofs.lemmas.List.Elements.{All-contains_itself}
 use Rattle.prdb_layout.specs.Blocks.{block_count}
-use Rattle.prdb_layout.specs.Bytes.{zeros}
-use Rattle.prdb_layout.specs.Records.{IsEntryBlock, block_in, block_place, entry_in, kind_of, with_block}
+use Rattle.db_blocks.specs.Bytes.{zeros}
+use Rattle.db_blocks.specs.Blocks.{kind_of}
+use Rattle.prdb_layout.specs.Records.{IsEntryBlock, block_in, block_place, entry_in, with_block}
 use Rattle.prdb_layout.specs.Registry.{Registry, IsRegistry}
 use Rattle.prdb_layout.proofs.BlockPlaces.{IsPut, block_len, put_block}
 use Rattle.prdb_layout.proofs.Changed.{by_id}
 use Rattle.prdb_layout.proofs.LaidOut.{count_is, zero_kind}
+use Rattle.entry_scans.specs.Lists.{IsAscending}
 use Rattle.prdb_lists.specs.Changes.{relisted, with_list, with_more}
 use Rattle.prdb_lists.specs.Layout.{IsDistinct, IsListed, PairList}
-use Rattle.prdb_lists.specs.Lists.{IsAscending}
 use Rattle.prdb_lists.specs.Sides.{HasLists, HoldsLists, IsRelisted, set_list}
 use Rattle.prdb_lists.proofs.Chains.{chain_over, full_by-length}
 use Rattle.prdb_lists.proofs.Ids.{entry_fits, few_ids}

@@ -7,9 +7,9 @@ use Rattle.std.proofs.lemmas.List.{length-drop}
 use Rattle.prdb_layout.specs.Blocks.{block_count}
 use Rattle.prdb_layout.specs.Records.{block_in}
 use Rattle.prdb_layout.specs.Registry.{Registry}
+use Rattle.entry_scans.specs.Lists.{IsAscending}
 use Rattle.prdb_lists.specs.Changes.{list_in, relisted}
 use Rattle.prdb_lists.specs.Layout.{PairList}
-use Rattle.prdb_lists.specs.Lists.{IsAscending}
 use Rattle.prdb_lists.specs.Moves.{MayRelist, after_relist, after_relists, ids_moved}
 use Rattle.prdb_lists.specs.Sides.{HasLists, set_list}
 use Rattle.prdb_lists.proofs.Ascending.{ascending_right}

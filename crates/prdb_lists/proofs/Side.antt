@@ -7,8 +7,9 @@ use Rattle.std.proofs.lemmas.Bool.{cases_eq}
 use Rattle.std.proofs.lemmas.Bool.Decides.{Decides-int_eq}
 use Rattle.std.proofs.lemmas.List.Elements.{All-tail}
 use Rattle.prdb_layout.specs.Blocks.{block_count}
-use Rattle.prdb_layout.specs.Bytes.{zeros}
-use Rattle.prdb_layout.specs.Records.{IsBlock, IsEntryBlock, IsLaidOut, block_in, block_place, entry_in, head_with, kind_of, signed_at, with_block}
+use Rattle.db_blocks.specs.Bytes.{zeros}
+use Rattle.db_blocks.specs.Blocks.{kind_of}
+use Rattle.prdb_layout.specs.Records.{IsBlock, IsEntryBlock, IsLaidOut, block_in, block_place, entry_in, head_with, signed_at, with_block}
 use Rattle.prdb_layout.specs.Registry.{Registry}
 use Rattle.prdb_layout.specs.State.{PrEntry}
 use Rattle.prdb_layout.proofs.BlockPlaces.{IsPut, put_block}

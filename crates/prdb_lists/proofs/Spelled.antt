@@ -1,6 +1,6 @@
 -- The front of an entry's block is spelled by the entry that it tells.
 use Rattle.std.proofs.Common.{◌≡◌, ℕ, suc, zero, ◌<◌, List, length, take, refl, sym, ap, ◌∙◌, arith}
-use Rattle.prdb_layout.specs.Bytes.{words, zeros}
+use Rattle.db_blocks.specs.Bytes.{words, zeros}
 use Rattle.prdb_layout.specs.Layout.{layout, head_of, block_of as entry_block, numbers_of}
 use Rattle.prdb_layout.specs.Records.{block_in, field_numbers, with_fields}
 use Rattle.prdb_layout.specs.State.{PrEntry, IsPrEntry, fixed_entries, initial_state}

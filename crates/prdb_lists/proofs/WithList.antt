@@ -4,9 +4,11 @@ use Rattle.std.specs.Int.{w32, cast_signed, from_be_bytes}
 use Rattle.std.specs.List.{before_first}
 use Rattle.std.proofs.lemmas.List.{get_or-append_right, get_or-drop, get_or-replicate, places, same_lists, take_at, drop_at, drop-drop, length-append, length-take, length-take-le, length-drop, length-map}
 use Rattle.prdb_layout.specs.Blocks.{block_name}
-use Rattle.prdb_layout.specs.Bytes.{bits, words, word_at, zeros, filled}
-use Rattle.prdb_layout.specs.Records.{IsEntryBlock, entry_in, kind_of, field_numbers}
-use Rattle.prdb_layout.proofs.Fields.{length-zeros}
+use Rattle.db_blocks.specs.Blocks.{word_at, kind_of}
+use Rattle.db_blocks.specs.Bytes.{words, zeros, filled}
+use Rattle.db_blocks.proofs.Lengths.{length-zeros}
+use Rattle.prdb_layout.specs.Bytes.{bits}
+use Rattle.prdb_layout.specs.Records.{IsEntryBlock, entry_in, field_numbers}
 use Rattle.prdb_lists.specs.Layout.{PairList, id_field, link_word, list_words, more_block, IsSpelled}
 use Rattle.prdb_lists.specs.Changes.{with_list}
 use Rattle.prdb_layout.specs.State.{PrEntry}
@@ -48,9 +50,6 @@ length-more entry next ids few =
     )
 
 -- ---- the parts of the block
-
-front_of_list : List ℕ → PairList → List ℕ
-front_of_list block l = take 24 block ++ list_words l
 
 -- what stands before the ids
 head_of_list : List ℕ → PairList → List ℕ

@@ -2,8 +2,8 @@
 use Rattle.std.specs.Prelude.{ℕ, ℤ, ◌≡◌, ◌+◌, ◌-◌, ◌*◌, ◌<◌, ◌≤◌, ◌==◌, ◌&&◌, Bool, true, List, map}
 use Rattle.std.specs.List.{All, range_with_len}
 use Rattle.std.specs.Ordering.{int_eq}
-use Rattle.db_blocks.specs.Blocks.{block_place}
-use Rattle.prdb_layout.specs.Records.{block_in, kind_of, signed_at}
+use Rattle.db_blocks.specs.Blocks.{block_place, kind_of}
+use Rattle.prdb_layout.specs.Records.{block_in, signed_at}
 use Rattle.prdb_lists.specs.declared.layout.TheConstants.{HEAD_LEN, BLOCK_LEN, MORE_ENTRY_AT}
 
 -- so many signed numbers from a place on

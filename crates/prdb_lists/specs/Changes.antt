@@ -1,8 +1,9 @@
--- What becomes of an image when the list of an entry is another one (layout of format 1).
+-- What becomes of an image without words of chains when the list of an entry is another one (layout of format 1).
 use Rattle.std.specs.Prelude.{ℕ, ℤ, zero, suc, ◌+◌, ◌-◌, List, [], ◌∷◌, ◌++◌, length, take, drop, min, nat_lt, if◌then◌else◌}
 use Rattle.std.specs.Int.{div_ceil}
 use Rattle.prdb_layout.specs.Blocks.{block_count}
-use Rattle.prdb_layout.specs.Bytes.{word_at, zeros}
+use Rattle.db_blocks.specs.Blocks.{word_at}
+use Rattle.db_blocks.specs.Bytes.{zeros}
 use Rattle.prdb_layout.specs.Records.{block_in, first_block, has_id, next_block, whole, with_block, with_count}
 use Rattle.prdb_lists.specs.Blocks.{ids_in}
 use Rattle.prdb_lists.specs.Layout.{PairList, id_field, link_to, list_words, more_block}

@@ -1,6 +1,6 @@
 -- The list of pairs that is found of an id.
 use Rattle.std.specs.Prelude.{ℤ, ◌≡◌, true, false, Option, Some, None}
-use Rattle.prdb_lists.specs.Lists.{IsListOf}
+use Rattle.entry_scans.specs.Lists.{IsListOf}
 use Rattle.prdb_lists.specs.Members.{Members, are_paired}
 use Rattle.prdb_lists.specs.declared.listed.Listed.{Listed}
 

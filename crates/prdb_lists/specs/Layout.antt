@@ -1,12 +1,14 @@
--- How an image holds the pairs of its entries (layout of format 1).
+-- How an image without words of chains holds the pairs of its entries (layout of format 1).
 use Rattle.std.specs.Prelude.{ℕ, ℤ, ◌≡◌, ◌≢◌, ◌+◌, ◌-◌, ◌/◌, ◌%◌, ◌<◌, ◌^◌, true, List, [], ◌∷◌, length, take, drop, map, ◌++◌, IsSome, FitsSigned, slice_index_or}
 use Rattle.std.specs.Int.{w32}
 use Rattle.std.specs.List.{All, Contains}
 use Rattle.prdb_layout.specs.Blocks.{block_count}
-use Rattle.prdb_layout.specs.Bytes.{bits, word, words, filled}
-use Rattle.prdb_layout.specs.Records.{Holds, block_in, entry_in, field_numbers, kind_of, whole}
+use Rattle.db_blocks.specs.Bytes.{word, words, filled}
+use Rattle.db_blocks.specs.Blocks.{kind_of}
+use Rattle.prdb_layout.specs.Bytes.{bits}
+use Rattle.prdb_layout.specs.Records.{Holds, block_in, entry_in, field_numbers, whole}
 use Rattle.prdb_layout.specs.Registry.{Registry}
-use Rattle.prdb_lists.specs.Lists.{IsAscending}
+use Rattle.entry_scans.specs.Lists.{IsAscending}
 use Rattle.prdb_lists.specs.Members.{Members, ArePairs, are_paired}
 use Rattle.prdb_lists.specs.declared.layout.TheConstants.{BLOCK_LEN, PAIR_COUNT_AT, FIRST_IDS_AT, FIRST_IDS, MORE_IDS_AT, MORE_IDS}
 

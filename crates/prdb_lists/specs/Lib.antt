@@ -3,8 +3,6 @@ pub mod Blocks
 pub mod Members
 pub mod Lists
 pub mod Layout
-pub mod Ends
-pub mod Sought
 pub mod Changes
 pub mod Moves
 pub mod Sides

@@ -1,18 +1,7 @@
 -- Ascending lists of ids.
 use Rattle.std.specs.Prelude.{ℕ, ℤ, ◌<◌, ◌≤◌, ◌<ℤ◌, ◌≤ℤ◌, not, int_lt, List, ◌∷◌, ◌++◌, length, take, drop, filter, slice_index_or}
-use Rattle.std.specs.List.{Contains}
 use Rattle.std.specs.Ordering.{int_eq}
-use Rattle.prdb_layout.specs.Records.{first_from}
-
--- each id is below those behind it
-abbrev pub IsAscending : List ℤ → Type 0
-IsAscending ids = (i j : ℕ) (d : ℤ) → i < j → j < length ids → slice_index_or ids i d <ℤ slice_index_or ids j d
-
--- the ascending list of the ids of which something holds
-pub record IsListOf (holds : ℤ → Type 0) (ids : List ℤ) : Type 0 where
-  pub ascending : IsAscending ids
-  pub each : (id : ℤ) → Contains ids id → holds id
-  pub all : (id : ℤ) → holds id → Contains ids id
+use Rattle.db_blocks.specs.Blocks.{first_from}
 
 -- so many first ids are below one, and none behind them is
 pub record IsRank (ids : List ℤ) (id : ℤ) (rank : ℕ) : Type 0 where

@@ -1,15 +1,16 @@
--- What becomes of an image, of a registry and of a set of pairs when an entry gets another id (layout of format 1).
-use Rattle.std.specs.Prelude.{ℕ, ℤ, pos, ◌≡◌, ◌≢◌, ◌+◌, int_lt, Bool, true, false, List, [], ◌∷◌, ◌++◌, take, drop, Option, Some, None, IsSome, option_map, option_and_then, if◌then◌else◌}
+-- What becomes of an image without words of chains, of a registry and of a set of pairs when an entry gets another id (layout of format 1).
+use Rattle.std.specs.Prelude.{ℕ, ℤ, pos, ◌≡◌, ◌≢◌, ◌+◌, int_lt, Bool, false, List, [], ◌∷◌, ◌++◌, take, drop, Option, Some, None, IsSome, option_map, option_and_then, if◌then◌else◌}
 use Rattle.std.specs.List.{Contains}
 use Rattle.std.specs.Ordering.{int_eq}
-use Rattle.prdb_layout.specs.Bytes.{bits, word}
+use Rattle.db_blocks.specs.Bytes.{word}
+use Rattle.prdb_layout.specs.Bytes.{bits}
 use Rattle.prdb_layout.specs.Records.{block_in, whole}
 use Rattle.prdb_layout.specs.Registry.{Registry, IsFixedId}
 use Rattle.prdb_layout.specs.State.{IsId, PrEntry}
 use Rattle.prdb_lists.specs.Changes.{list_in, place_in, relisted}
 use Rattle.prdb_lists.specs.Layout.{PairList}
-use Rattle.prdb_lists.specs.Lists.{IsListOf, ids_with, ids_without}
-use Rattle.prdb_lists.specs.Members.{Members, are_paired}
+use Rattle.prdb_lists.specs.Lists.{ids_with, ids_without}
+use Rattle.prdb_lists.specs.Members.{Members}
 use Rattle.prdb_lists.specs.Sides.{HasLists}
 use Rattle.prdb_lists.specs.declared.layout.TheConstants.{ID_AT}
 
@@ -78,11 +79,6 @@ pub record MayMove (old new : ℤ) (r : Registry) : Type 0 where
   pub not_fixed : ¬ IsFixedId old
   pub owns_nothing : (other : ℤ) (f : PrEntry) → r.entry other ≡ Some f → f.owner ≢ old
 
--- the bytes are those of an image in which an entry, paired with these others, has another id
-abbrev pub IsMoved : (old new : ℤ) → Members → List ℕ → Option (List ℕ) → Type 0
-IsMoved old new m image behind =
-    (others : List ℤ) → IsListOf (λ other. are_paired m old other ≡ true) others → behind ≡ Some (after_move old new others image)
-
 -- ---- between the steps
 
 -- an id may take the place of another one in the list of an entry: the other one is in it, and it is not
@@ -91,6 +87,3 @@ pub record MayRelist (old new entry : ℤ) (image : List ℕ) (r : Registry) (li
   pub there : IsSome (r.entry entry)
   pub old_in : Contains (lists entry).ids old
   pub new_out : ¬ Contains (lists entry).ids new
-
-abbrev pub HasRelist : (old new entry : ℤ) → List ℕ → Type 0
-HasRelist old new entry image = (r : Registry) × (lists : ℤ → PairList) × MayRelist old new entry image r lists

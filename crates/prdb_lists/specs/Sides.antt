@@ -1,9 +1,11 @@
--- One list of pairs among those of all entries: what holds of an image between the two sides of a change of a pair.
+-- One list of pairs among those of all entries: what holds of an image without words of chains between the two sides of a
+-- change of a pair.
 use Rattle.std.specs.Prelude.{ℕ, ℤ, ◌≡◌, ◌≢◌, ◌+◌, ◌<◌, ◌≤◌, List, IsSome, if◌then◌else◌, length}
 use Rattle.std.specs.List.{Contains}
 use Rattle.std.specs.Ordering.{int_eq}
+use Rattle.db_blocks.specs.Blocks.{kind_of}
 use Rattle.prdb_layout.specs.Blocks.{block_count}
-use Rattle.prdb_layout.specs.Records.{IsLaidOut, block_in, entry_in, kind_of}
+use Rattle.prdb_layout.specs.Records.{IsLaidOut, block_in, entry_in}
 use Rattle.prdb_layout.specs.Registry.{Registry, IsRegistry}
 use Rattle.prdb_lists.specs.Layout.{AreLists, PairList}
 use Rattle.prdb_lists.specs.declared.sides.Place.{Place}
@@ -28,14 +30,6 @@ pub record IsPlace (image : List ℕ) (r : Registry) (lists : ℤ → PairList) 
   pub block : p.found.block ≡ block_in image p.found.number
   pub ids : p.listed.ids ≡ (lists p.entry).ids
   pub more : p.listed.more.items ≡ (lists p.entry).more
-
--- an image has lists, and the entry is there
-abbrev pub HasEntry : ℤ → List ℕ → Type 0
-HasEntry entry image = (r : Registry) × (lists : ℤ → PairList) × HasLists image r lists × IsSome (r.entry entry)
-
--- an image holds lists, and a place is one of it, and the other entry is there
-abbrev pub HoldsPlace : Place → ℤ → List ℕ → Type 0
-HoldsPlace p id image = (r : Registry) × (lists : ℤ → PairList) × HoldsLists image r lists × IsPlace image r lists p × IsSome (r.entry id)
 
 -- with this list for an entry
 abbrev pub set_list : ℤ → PairList → (ℤ → PairList) → ℤ → PairList

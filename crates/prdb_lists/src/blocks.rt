@@ -1,39 +1,15 @@
 //! Blocks that tell pairs, as they are read.
-ghost use Rattle.std.specs.Prelude.{◌≡◌, ◌+◌, ◌*◌, ◌<◌, ◌≤◌, ◌^◌, ◌==◌, ◌&&◌, ◌++◌, ℕ, ℤ, true, false, Bool, IfOk, IfErr, IfSome, IsErrOf, OnErr, length, map};
-ghost use Rattle.std.specs.List.{range_with_len};
-ghost use Rattle.std.specs.Ordering.{int_eq};
-ghost use Rattle.db_blocks.specs.Blocks.{IsFirst, block_place};
-ghost use Rattle.prdb_layout.specs.Records.{kind_of, signed_at};
+ghost use Rattle.std.specs.Prelude.{◌≡◌, ◌+◌, ◌*◌, ◌<◌, ◌≤◌, ◌==◌, ◌&&◌, ◌++◌, true, false, IfOk, length};
+ghost use Rattle.db_blocks.specs.Blocks.{kind_of};
+ghost use Rattle.prdb_layout.specs.Records.{signed_at};
+ghost use Rattle.entry_scans.specs.Lists.{IsAscending};
 ghost use Rattle.prdb_lists.specs.Blocks.{ids_in, is_more_of};
-ghost use Rattle.prdb_lists.specs.Lists.{IsAscending};
 
 use crate::id_lists::IdList;
-use crate::layout::{ENTRY, FREE, ID_AT, MORE, MORE_ENTRY_AT};
-use db_blocks::{Block, Wanted, word_at};
+use crate::layout::{MORE, MORE_ENTRY_AT};
+use db_blocks::{Block, word_at};
 use std::alloc::AllocError;
 use ubik_types::WORD_LEN;
-
-/// What a scan looks for.
-#[derive(Clone, Copy)]
-pub(crate) enum Sought {
-    /// The entry of an id.
-    Entry(i32),
-    /// A free block.
-    Free,
-}
-
-impl Wanted for Sought {
-    ghost use Rattle.prdb_lists.specs.Sought.{is_sought};
-
-    ghost test = { is_sought };
-
-    fn is_met(&self, block: &Block) -> bool {
-        match *self {
-            Sought::Entry(id) => kind_of(block) == ENTRY && signed_at(block, ID_AT) == id,
-            Sought::Free => kind_of(block) == FREE,
-        }
-    }
-}
 
 /// What a block is, by its first word.
 fn kind_of(block: &Block) -> u32

@@ -1,7 +1,8 @@
 //! Ascending lists of ids.
-ghost use Rattle.std.specs.Prelude.{◌≡◌, ◌≢◌, ◌↔◌, ◌<ℤ◌, ◌≤ℤ◌, ◌⊎◌, ◌++◌, ◌∷◌, [], ℤ, IsTrue, IfOk, OnOk, OnErr, length, take, drop};
+ghost use Rattle.std.specs.Prelude.{◌≡◌, ◌↔◌, ◌<ℤ◌, ◌⊎◌, ◌++◌, ◌∷◌, [], ℤ, IsTrue, IfOk, OnOk, OnErr};
 ghost use Rattle.std.specs.List.{All, Contains};
-ghost use Rattle.prdb_lists.specs.Lists.{IsAscending, IsRank, ids_with, ids_without};
+ghost use Rattle.entry_scans.specs.Lists.{IsAscending};
+ghost use Rattle.prdb_lists.specs.Lists.{IsRank, ids_with, ids_without};
 
 use std::alloc::{AllocError, Global};
 use std::marker::Model;
@@ -14,7 +15,7 @@ pub struct IdList {
 
 impl Model for IdList {
     ghost use Rattle.std.specs.Prelude.{ℤ, List};
-    ghost use Rattle.prdb_lists.specs.Lists.{IsAscending};
+    ghost use Rattle.entry_scans.specs.Lists.{IsAscending};
 
     ghost Value = { List ℤ };
 

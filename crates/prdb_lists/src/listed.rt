@@ -1,22 +1,18 @@
 //! The list of an entry's pairs, and the blocks in which it lies.
-ghost use Rattle.std.specs.Prelude.{◌≡◌, ◌+◌, ◌-◌, ◌*◌, ◌<◌, ◌≤◌, ◌^◌, ℕ, List, IfOk, IfErr, IfSome, IsErrOf, length};
+ghost use Rattle.std.specs.Prelude.{◌≡◌, ◌+◌, ◌-◌, ◌*◌, ◌<◌, ◌≤◌, ◌^◌, IfOk, IfErr, IfSome, IsErrOf, length};
 ghost use Rattle.db_image.specs.Asked.{AsksAtMost};
 ghost use Rattle.db_blocks.specs.Blocks.{IsWhole, block_in, block_place};
 ghost use Rattle.db_blocks.specs.Ends.{HasCause, OnlyLooks};
-ghost use Rattle.prdb_layout.specs.Registry.{Registry};
 ghost use Rattle.prdb_lists.specs.Blocks.{AreWithin, IsMore};
-ghost use Rattle.prdb_lists.specs.Ends.{HasItsCause};
-ghost use Rattle.prdb_lists.specs.Found.{IsFound};
-ghost use Rattle.prdb_lists.specs.Layout.{HoldsPairs, IsListed, PairList};
-ghost use Rattle.prdb_lists.specs.Members.{Members};
+ghost use Rattle.prdb_lists.specs.Layout.{IsListed, PairList};
 ghost use Rattle.prdb_lists.specs.declared.layout.TheConstants.{BLOCK_LEN};
 
-use crate::blocks::{Sought, is_more_of, read_ids};
+use crate::blocks::{is_more_of, read_ids};
 use crate::id_lists::IdList;
 use crate::layout::{
     FIRST_IDS, FIRST_IDS_AT, FIRST_MORE_AT, HEAD_LEN, MORE_IDS, MORE_IDS_AT, NEXT_AT, PAIR_COUNT_AT,
 };
-use db_blocks::{Block, Found, block_count, block_place, read_block, scan, word_at};
+use db_blocks::{Block, Found, block_count, block_place, read_block, word_at};
 use db_image::{Draft, ImageRead, RecordFault};
 use std::alloc::Global;
 
@@ -96,25 +92,4 @@ pub fn read_list<I: ImageRead>(
         link = next;
     }
     Ok(Listed { ids, more })
-}
-
-/// The pairs of an id; none where the draft is empty or no entry has the id.
-pub(crate) fn find_list<I: ImageRead>(
-    alloc: Global,
-    d: &mut Draft<I>,
-    id: i32,
-) -> Result<Option<Listed>, RecordFault>
-    requires { d.old.len < 2 ^ 31 }
-    ensures found { IfOk result (λ found. IfSome d.old.bytes (λ image. (r : Registry) (m : Members) → HoldsPairs image r m → IsFound m id found)) }
-    ensures fault { IfErr result (HasItsCause d.old.bytes) }
-    ensures frame { OnlyLooks I.ImageRead d.old d.new (IsErrOf result RecordFault.DiskFault) }
-{
-    if d.len() == 0 {
-        return Ok(None);
-    }
-    let Some(found) = scan(d, HEAD_LEN as u32, &Sought::Entry(id))? else {
-        return Ok(None);
-    };
-    let listed = read_list(alloc, d, id, &found)?;
-    Ok(Some(listed))
 }

@@ -1,5 +1,5 @@
 //! Lists of pairs, as they are written into blocks.
-ghost use Rattle.std.specs.Prelude.{◌≡◌, ◌+◌, ◌*◌, ◌<◌, ◌≤◌, ◌^◌, ◌++◌, ℕ, ℤ, List, IfOk, OnOk, IfErr, IsErrOf, length, map, take};
+ghost use Rattle.std.specs.Prelude.{◌≡◌, ◌+◌, ◌*◌, ◌<◌, ◌≤◌, ◌^◌, ◌++◌, ℤ, List, IfOk, OnOk, IfErr, IsErrOf, length, map, take};
 ghost use Rattle.std.specs.List.{All};
 ghost use Rattle.db_image.specs.Asked.{AsksAtMost};
 ghost use Rattle.db_image.specs.Draft.{put_cost};
@@ -9,8 +9,8 @@ ghost use Rattle.db_blocks.specs.Ends.{Becomes, OnlyDrafts};
 ghost use Rattle.prdb_layout.specs.Bytes.{bits};
 ghost use Rattle.prdb_layout.specs.Records.{with_block};
 ghost use Rattle.prdb_lists.specs.Blocks.{AreWithin};
-ghost use Rattle.prdb_lists.specs.Changes.{with_freed, with_list, with_more};
-ghost use Rattle.prdb_lists.specs.Layout.{PairList, id_field, link_to, more_block};
+ghost use Rattle.prdb_lists.specs.Changes.{with_list, with_more};
+ghost use Rattle.prdb_lists.specs.Layout.{id_field, link_to, more_block};
 
 use crate::layout::{
     BLOCK_LEN, FIRST_IDS, FIRST_IDS_AT, HEAD_LEN, MORE, MORE_IDS, MORE_IDS_AT, NAME_AT,
@@ -127,20 +127,4 @@ pub(crate) fn write_more<I: ImageRead>(
         blocks = behind;
     }
     Ok(())
-}
-
-/// The first of these blocks is free from then on, and zero.
-#[tactic(auto, unfolding(prdb_layout::specs::Bytes::zeros))]
-pub(crate) fn free_first<I: ImageRead>(d: &mut Draft<I>, freed: &[u32]) -> Result<(), RecordFault>
-    requires len { d.old.len < 2 ^ 31 + 2 ^ 10 }
-    requires within { AreWithin d.old.len freed.now }
-    ensures bytes { OnOk result (Becomes (with_freed freed.now) d.old d.new) }
-    ensures len { d.new.len ≡ d.old.len }
-    ensures fault { IfErr result IsOfImage }
-    ensures frame { OnlyDrafts I.ImageRead d.old d.new (IsErrOf result RecordFault.DiskFault) }
-{
-    match freed {
-        [] => Ok(()),
-        [number, ..] => d.put(block_place(HEAD_LEN as u32, *number), &[0; BLOCK_LEN]),
-    }
 }

@@ -3,9 +3,9 @@ use Rattle.std.specs.Prelude.{FitsSigned}
 use Rattle.std.specs.Int.{w32}
 use Rattle.std.proofs.lemmas.Int.{to_z-of_z}
 use Rattle.std.proofs.lemmas.Result.{err_from_is_err_and}
+use Rattle.db_blocks.proofs.Scanned.{looks_so, looks_then}
 use Rattle.prdb_layout.specs.State.{PrEntry}
 use Rattle.prdb_layout.proofs.LaidOut.{bad_size}
-use Rattle.prdb_layout.proofs.Scanned.{looks_so, looks_then}
 use Rattle.entry_scans.proofs.Faults.{laid_fault, scan_fault}
 use Rattle.entry_scans.proofs.Passed.{Passed, passed_met, passed_none, passed_past}
 use Rattle.entry_scans.proofs.Told.{scan_list}

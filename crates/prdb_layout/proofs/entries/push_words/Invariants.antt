@@ -1,6 +1,6 @@
 use Rattle.std.proofs.Common.{◌≡◌, ◌++◌, take}
 use Rattle.std.specs.List.{flat_map}
-use Rattle.prdb_layout.specs.Bytes.{word}
+use Rattle.db_blocks.specs.Bytes.{word}
 use Rattle.prdb_layout.proofs.entries.push_words.Given as goal
 
 abbrev pub invariant-loop-number : goal.invariant-loop-number

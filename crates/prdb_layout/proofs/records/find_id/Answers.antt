@@ -1,6 +1,6 @@
 use Rattle.std.proofs.lemmas.Int.{to_z-of_z}
+use Rattle.db_blocks.proofs.Scanned.{looks_so}
 use Rattle.prdb_layout.proofs.Lookups.{id_some, id_none}
-use Rattle.prdb_layout.proofs.Scanned.{looks_so}
 use Rattle.prdb_layout.proofs.records.find_id.Goals as goal
 
 pub returns-in_ok-entry_in-in-Some-clause-found : goal.returns-in_ok-entry_in-in-Some-clause-found

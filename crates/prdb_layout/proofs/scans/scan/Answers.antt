@@ -1,7 +1,8 @@
 use Rattle.std.proofs.Common.{ℕ, ◌≡◌, ◌≤◌, List, Option, sym, ◌∙◌, subst, arith}
 use Rattle.std.proofs.lemmas.Result.{err_from_is_err_and}
+use Rattle.db_blocks.specs.Blocks.{kind_of}
 use Rattle.prdb_layout.specs.RecordEnds.{HasCause}
-use Rattle.prdb_layout.specs.Records.{block_in, kind_of}
+use Rattle.prdb_layout.specs.Records.{block_in}
 use Rattle.prdb_layout.proofs.LaidOut.{bad_size, bad_block}
 use Rattle.prdb_layout.proofs.Scanned.{Scanned, scanned_none, scanned_more, scan_first, scan_none}
 use Rattle.prdb_layout.proofs.scans.scan.Goals as goal

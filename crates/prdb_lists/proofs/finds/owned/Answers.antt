@@ -1,6 +1,6 @@
 use Rattle.std.proofs.lemmas.Int.{to_z-of_z}
 use Rattle.db_blocks.proofs.Scanned.{looks_so}
-use Rattle.prdb_lists.proofs.OwnedIds.{as_looks, owned_told}
+use Rattle.prdb_lists.proofs.OwnedIds.{owned_told}
 use Rattle.prdb_lists.proofs.finds.owned.Goals as goal
 
 pub returns-clause-found : goal.returns-clause-found
@@ -11,5 +11,4 @@ returns-clause-found g c =
 
 pub returns-clause-frame : goal.returns-clause-frame
 returns-clause-frame g c =
-    looks_so g.I.ImageRead c.args.d.now c.ids_where.new.d _ _
-    (as_looks g.I.ImageRead c.args.d.now c.ids_where.new.d _ c.in_ok-ids.ensures.frame) (λ h. absurd cc)
+    looks_so g.I.ImageRead c.args.d.now c.ids_where.new.d _ _ c.in_ok-ids.ensures.frame (λ h. absurd cc)

@@ -3,8 +3,8 @@ use Rattle.std.proofs.lemmas.Int.{to_z-of_z}
 use Rattle.std.proofs.lemmas.Result.{err_from_is_err_and}
 use Rattle.db_blocks.specs.Blocks.{IsWhole}
 use Rattle.db_blocks.proofs.Scanned.{bad_size, looks_then, looks_so}
+use Rattle.entry_scans.specs.Lists.{IsAscending}
 use Rattle.prdb_lists.specs.Blocks.{ids_in}
-use Rattle.prdb_lists.specs.Lists.{IsAscending}
 use Rattle.prdb_lists.proofs.ListRead.{Lists, cause_so, first_falls, lists_whole, more_falls, no_more, none_costs, one_costs, read_costs, read_first, read_more, read_whole}
 use Rattle.prdb_lists.proofs.listed.read_list.Goals as goal
 

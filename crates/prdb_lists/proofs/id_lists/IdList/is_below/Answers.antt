@@ -1,6 +1,6 @@
 use Rattle.std.proofs.Common.{pos, ◌-◌, ◌∙◌, length, get_or, w32, SFits, refl, sym, subst, rules}
 use Rattle.std.proofs.lemmas.Int.{to_z-of_z}
-use Rattle.prdb_lists.specs.Lists.{IsAscending}
+use Rattle.entry_scans.specs.Lists.{IsAscending}
 use Rattle.prdb_lists.proofs.Ascending.{below_answer}
 use Rattle.prdb_lists.proofs.id_lists.IdList.is_below.Goals as goal
 

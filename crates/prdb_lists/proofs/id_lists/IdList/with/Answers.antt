@@ -1,6 +1,7 @@
 use Rattle.std.proofs.Common.{◌≡◌, ℤ, Bool, true, List, [], ◌∷◌, ◌++◌, take, drop, sym, ap, subst, ◌∙◌}
 use Rattle.std.proofs.lemmas.Int.{to_z-of_z}
-use Rattle.prdb_lists.specs.Lists.{IsAscending, IsRank}
+use Rattle.entry_scans.specs.Lists.{IsAscending}
+use Rattle.prdb_lists.specs.Lists.{IsRank}
 use Rattle.prdb_lists.proofs.Ascending.{IsWith, is_ascending_with, is_ascending_same, members_with, members_same}
 use Rattle.prdb_lists.proofs.Ids.{placed}
 use Rattle.prdb_lists.proofs.id_lists.IdList.with.Goals as goal

@@ -1,6 +1,7 @@
 use Rattle.std.proofs.Common.{◌≡◌, sym, ap, subst, ◌∙◌}
 use Rattle.std.proofs.lemmas.Int.{to_z-of_z}
-use Rattle.prdb_lists.specs.Lists.{IsAscending, ids_without}
+use Rattle.entry_scans.specs.Lists.{IsAscending}
+use Rattle.prdb_lists.specs.Lists.{ids_without}
 use Rattle.prdb_lists.proofs.Ids.{ids_without-ascending}
 use Rattle.prdb_lists.proofs.id_lists.IdList.without.Goals as goal
 

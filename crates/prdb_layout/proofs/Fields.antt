@@ -1,8 +1,0 @@
--- How many zero bytes there are.
-use Rattle.std.proofs.Common.{◌≡◌, ℕ, zero, suc, length, refl, ap}
-use Rattle.prdb_layout.specs.Bytes.{zeros}
-
-pub length-zeros : (n : ℕ) → length (zeros n) ≡ n
-unfolding zeros
-length-zeros zero = refl
-length-zeros (suc n) = ap suc (length-zeros n)
