@@ -4,25 +4,25 @@ use Rattle.std.specs.List.{Contains}
 use Rattle.std.specs.Prelude.{slice_get, unwrap_or}
 use Rattle.std.proofs.lemmas.Bool.{cases_eq, le-ltb, lt-ltb}
 use Rattle.std.proofs.lemmas.List.{drop-drop, take-append-drop}
-use Rattle.db_blocks.specs.Blocks.{IsWhole, word_at as any_word}
+use Rattle.db_blocks.specs.Blocks.{IsWhole, word_at, word_at as any_word, kind_of, blanked}
 use Rattle.db_blocks.proofs.BlockPlaces.{changed_laid, laid}
 use Rattle.db_chains.specs.Free.{IsAscending, next_number, with_taken}
 use Rattle.db_chains.proofs.Framed.{block_word}
 use Rattle.db_chains.proofs.Kept.{chain_taken}
 use Rattle.db_chains.proofs.Words.{in_block}
 use Rattle.prdb_layout.specs.Blocks.{block_count}
-use Rattle.prdb_layout.specs.Bytes.{word_at, zeros}
-use Rattle.prdb_layout.specs.Records.{after_insert, block_in, block_place, entry_in, kind_of, new_block, next_block, whole as entries_whole, with_block, with_count}
+use Rattle.db_blocks.specs.Bytes.{zeros}
+use Rattle.db_blocks.proofs.Lengths.{length-zeros}
+use Rattle.prdb_layout.specs.Records.{after_insert, block_in, block_place, entry_in, new_block, next_block, whole as entries_whole, with_block, with_count}
 use Rattle.prdb_layout.specs.Registry.{IsRecord}
 use Rattle.prdb_layout.specs.State.{PrEntry}
 use Rattle.prdb_layout.proofs.EntryFields.{behind_name, entry_with, kind_with, length-with_fields}
-use Rattle.prdb_layout.proofs.Fields.{length-zeros}
 use Rattle.prdb_layout.proofs.LaidOut.{whole_same as entries_same}
 use Rattle.prdb_lists.proofs.RecordsKeep.{zeros_len}
 use Rattle.prdb_finds.specs.Places.{free_blocks, id_place, name_place}
 use Rattle.prdb_finds.specs.Records.{AreChains}
 use Rattle.db_chains.specs.Visits.{Visits}
-use Rattle.prdb_finds.specs.Unchained.{blanked, unchained, unlinked}
+use Rattle.prdb_finds.specs.Unchained.{unchained, unlinked}
 use Rattle.prdb_finds.proofs.Fields.{entry_unlinked}
 use Rattle.prdb_finds.proofs.Lists.{first_or_rest}
 use Rattle.prdb_finds.proofs.Lookups.{same_block}
@@ -230,13 +230,13 @@ base_visits old e n base (Owned k) are whole is made has entry =
     (λ same. other (owned_same k (n - 1) same)))
     (cases_eq k (n - 1))
 
-pub is_base : (old : List ℕ) (e : PrEntry) → IsWhole 2112 old → length old < 2 ^ 31 → (are : AreChains old) → IsRecord e
+pub is_base : (old : List ℕ) (e : PrEntry) → IsWhole 2112 old → (are : AreChains old) → IsRecord e
     → IsBase old e (next_number free_blocks old) (with_taken free_blocks (new_block e) old)
-is_base old e whole short are is =
+is_base old e whole are is =
     let n = next_number free_blocks old in
     let base = with_taken free_blocks (new_block e) old in
     let u = unchained old in
-    let made = is_made old (new_block e) whole short (new_len e is) are.free in
+    let made = is_made old (new_block e) whole (new_len e is) are.free in
     let some = made.taken.some in
     let size = made.taken.size in
     let most = made.most in

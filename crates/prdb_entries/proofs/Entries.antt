@@ -2,16 +2,15 @@
 use Rattle.std.proofs.Common.{◌≡◌, ◌≢◌, ℕ, ℤ, ◌+◌, ◌-◌, ◌<◌, ◌≤◌, ◌⊎◌, inl, inr, ⊎_elim, List, refl, sym, ap, subst, ◌∙◌, arith}
 use Rattle.std.specs.List.{Contains}
 use Rattle.std.proofs.lemmas.Bool.{cases_eq}
-use Rattle.db_blocks.specs.Blocks.{IsWhole, word_at as any_word}
-use Rattle.db_chains.specs.declared.links.Links.{Links}
+use Rattle.db_blocks.specs.Blocks.{IsWhole, word_at, word_at as any_word, kind_of}
 use Rattle.db_chains.specs.Free.{IsAscending}
 use Rattle.db_chains.proofs.Words.{in_block}
 use Rattle.prdb_layout.specs.Blocks.{block_count}
-use Rattle.prdb_layout.specs.Bytes.{word_at}
-use Rattle.prdb_layout.specs.Records.{block_in, block_place, entry_in, kind_of}
+use Rattle.prdb_layout.specs.Records.{block_in, block_place, entry_in}
 use Rattle.prdb_layout.specs.State.{PrEntry}
 use Rattle.prdb_finds.specs.Records.{AreChains, HasIdKey, HasNameKey, IsEntryAt, IsGroupOf, IsOwned}
 use Rattle.db_chains.specs.Visits.{Visits}
+use Rattle.db_chains.proofs.Entered.{visits_as}
 use Rattle.prdb_finds.specs.Unchained.{unchained}
 use Rattle.prdb_finds.proofs.Lookups.{same_block}
 use Rattle.prdb_finds.proofs.Without.{unchained_count, unchained_entry, unchained_kind}
@@ -57,15 +56,6 @@ entry_back : (image : List ℕ) (k : ℕ) → IsWhole 2112 image → IsEntry (un
 entry_back image k whole is =
     let below : k < block_count image = omega (arith, is.below, unchained_count image whole) in
     record { below = below; kind = sym (unchained_kind image k whole below) ∙ is.kind }
-
-visits_as : (l : Links) (image : List ℕ) (at : ℕ) (P Q : ℕ → Type 0) → ((w : ℕ) → P w → Q w) → ((w : ℕ) → Q w → P w)
-    → Visits l image at P → Visits l image at Q
-visits_as l image at P Q there back v = record {
-  words = v.words;
-  chain = v.chain;
-  only = λ w has. there w (v.only w has);
-  each = λ w belongs. v.each w (back w belongs);
-}
 
 owned_id : (image : List ℕ) (k : ℕ) → IsWhole 2112 image → IsEntry image k
     → (entry_in (block_in (unchained image) k)).id ≡ (entry_in (block_in image k)).id

@@ -2,8 +2,8 @@
 use Rattle.std.proofs.Common.{◌≡◌, ◌≢◌, ℕ, ◌+◌, ◌-◌, ◌*◌, ◌/◌, ◌%◌, ◌<◌, ◌≤◌, ◌⊎◌, inl, inr, ⊎_elim, Bool, true, false, cond, List, [], ◌∷◌, ◌++◌, length, refl, sym, ap, subst, ◌∙◌, arith}
 use Rattle.std.specs.Prelude.{nat_lt}
 use Rattle.std.specs.List.{AllByRecursion, Contains}
-use Rattle.db_blocks.specs.Blocks.{IsWhole, with_block as any_with, word_at}
-use Rattle.db_blocks.specs.Bytes.{zeros as any_zeros}
+use Rattle.db_blocks.specs.Blocks.{IsWhole, with_block as any_with, word_at, kind_of}
+use Rattle.db_blocks.specs.Bytes.{zeros}
 use Rattle.db_chains.specs.Chains.{HasChain}
 use Rattle.db_chains.specs.Changes.{place_above, put_in, put_word}
 use Rattle.db_chains.specs.Free.{IsAscending, blank, free_links, put_among, with_freed}
@@ -16,17 +16,16 @@ use Rattle.db_chains.proofs.Freed.{blank_len, split}
 use Rattle.db_chains.proofs.Stops.{above_behind}
 use Rattle.db_chains.proofs.Words.{right, right_names}
 use Rattle.prdb_layout.specs.Blocks.{block_count}
-use Rattle.prdb_layout.specs.Bytes.{zeros}
-use Rattle.prdb_layout.specs.Records.{block_in, block_place, kind_of, with_block}
+use Rattle.prdb_layout.specs.Records.{block_in, block_place, with_block}
 use Rattle.prdb_layout.proofs.BlockPlaces.{put_block}
 use Rattle.prdb_finds.specs.Places.{free_blocks}
 use Rattle.prdb_finds.specs.Unchained.{unchained, unlinked}
 use Rattle.prdb_finds.proofs.Beside.{free_beside, head_beside}
 use Rattle.prdb_finds.proofs.Laid.{block_laid}
-use Rattle.prdb_finds.proofs.Lists.{here, later, first_or_rest}
+use Rattle.prdb_finds.proofs.Lists.{first_or_rest}
 use Rattle.prdb_finds.proofs.Lookups.{same_block}
 use Rattle.prdb_finds.proofs.Taken.{free_word}
-use Rattle.db_chains.proofs.Leaving.{place_kind}
+use Rattle.db_chains.proofs.Leaving.{place_kind, here, later}
 
 -- ---- the words of free blocks
 
@@ -61,11 +60,11 @@ among_others n v (w ∷ ws) has =
 -- ---- the image without the words of chains
 
 blank_unlinked : unlinked (blank free_blocks) ≡ zeros 192
-unfolding unlinked zeros any_zeros
+unfolding unlinked zeros
 blank_unlinked = refl
 
 blank_kind : kind_of (blank free_blocks) ≡ 0
-unfolding any_zeros
+unfolding zeros
 blank_kind = refl
 
 next_is : (w : ℕ) → 0 < w → next_place (free_links free_blocks) w ≡ block_place (w - 1) + 4

@@ -1,54 +1,29 @@
 -- What an insertion says of a draft, where its bytes are told.
-use Rattle.std.proofs.Common.{◌≡◌, ℕ, ℤ, ◌+◌, ◌-◌, ◌^◌, ◌<◌, ◌≤◌, Bool, true, false, cond, List, [], ◌∷◌, Option, Some, None, IfSome, Result, Ok, Err, OnOk, ⊎_elim, length, max, refl, sym, ap, subst, ◌∙◌, arith}
+use Rattle.std.proofs.Common.{◌≡◌, ℕ, ℤ, ◌+◌, ◌-◌, ◌<◌, ◌≤◌, Bool, true, false, cond, List, Option, Some, None, IfSome, Result, Ok, Err, OnOk, ⊎_elim, max, refl, sym, ap, subst, ◌∙◌, arith}
 use Rattle.std.specs.Prelude.{IsSomeAnd}
 use Rattle.std.specs.Option.{option_map}
 use Rattle.std.proofs.lemmas.Bool.{cases_eq}
-use Rattle.db_image.specs.Draft.{Drafted}
-use Rattle.db_image.specs.Images.{ReadsAtMost}
 use Rattle.db_image.specs.declared.faults.RecordFault.{RecordFault}
 use Rattle.db_image.specs.declared.faults.RecordFault.TheVariants.{DiskFault, BadRecord, NoMemory}
-use Rattle.db_image.specs.declared.images.ImageRead.{Ghosts}
-use Rattle.db_image.specs.declared.services.Layout.{Layout}
-use Rattle.db_image.proofs.ReadSteps.{reads_then}
 use Rattle.db_blocks.specs.Ends.{HasCause}
 use Rattle.db_chains.specs.declared.walks.Link.{Link}
 use Rattle.db_chains.specs.Chains.{HasChain}
 use Rattle.db_chains.specs.Changes.{put_in}
-use Rattle.db_chains.specs.Ends.{DraftsAtMost, HasSome, LooksAtMost}
-use Rattle.db_chains.specs.Free.{free_links, next_number, with_taken}
+use Rattle.db_chains.specs.Free.{next_number, with_taken}
 use Rattle.db_chains.specs.Walks.{IsFound, first_met, meets, stop_place}
 use Rattle.prdb_layout.specs.Records.{has_id, new_block}
 use Rattle.prdb_layout.specs.Registry.{IsRecord, MayBeAdded, Registry, with_entry}
 use Rattle.prdb_layout.specs.State.{PrEntry}
 use Rattle.prdb_lists.specs.Members.{Members}
 use Rattle.prdb_finds.specs.Ends.{HasCauseWhere}
-use Rattle.prdb_finds.specs.First.{named}
-use Rattle.prdb_finds.specs.Keys.{id_chain, name_chain}
-use Rattle.prdb_finds.specs.Places.{free_blocks, id_links, name_links, owned_links, owned_place}
+use Rattle.prdb_finds.specs.Keys.{id_chain}
+use Rattle.prdb_finds.specs.Places.{free_blocks, id_links, owned_links, owned_place}
 use Rattle.prdb_finds.specs.Records.{Holds, whole}
 use Rattle.prdb_finds.specs.Unchained.{unchained}
-use Rattle.prdb_finds.proofs.FirstChains.{first_len}
 use Rattle.prdb_finds.proofs.Lookups.{none_met}
-use Rattle.prdb_entries.specs.Changes.{after_insert, entered, is_owned, number_of, owner_first}
+use Rattle.prdb_entries.specs.Changes.{after_insert, entered, number_of, owner_first}
 use Rattle.prdb_entries.specs.Ends.{HasLink, HasOwner}
 use Rattle.prdb_entries.proofs.Inserted.{base_of, holds_inserted, is_new, owner_there}
-
--- ---- frames
-
--- one change after another, whose bytes are counted by the blocks that the draft keeps
-pub drafts_after : {I : Type 0} (g : Ghosts I) (m : ℕ) (cost : Layout → ℕ) (most : ℕ) (a b c : Drafted I) (first failed : Type 0)
-    → DraftsAtMost g m a b first → DraftsAtMost g (cost b.layout) b c failed → m + cost a.layout ≤ most → DraftsAtMost g most a c failed
-drafts_after g m cost most a b c first failed r s fits =
-    let same : cost b.layout ≡ cost a.layout = ap cost r.drafts.layout in
-    let all : ReadsAtMost g most a.image c.image failed =
-    reads_then g m (cost b.layout) most a.image b.image c.image first failed record { reads = r.drafts.reads; asked = r.cost }
-    record { reads = s.drafts.reads; asked = s.cost } (subst (λ (n : ℕ). m + n ≤ most) (sym same) fits) in
-    record { drafts = record { layout = s.drafts.layout ∙ r.drafts.layout; reads = all.reads }; cost = all.asked }
-
-pub looks_draft : {I : Type 0} (g : Ghosts I) (most : ℕ) (a b : Drafted I) (failed : Type 0) → LooksAtMost g most a b failed
-    → DraftsAtMost g most a b failed
-looks_draft g most a b failed r =
-    record { drafts = record { layout = r.looks.same.layout; reads = r.looks.reads }; cost = r.cost }
 
 -- ---- an owner
 
@@ -66,13 +41,6 @@ none_fault (Some image) id at link none found = λ has.
     let first : first_met test has.1.0 ≡ None = sym (found has.1.0 has.1.2) ∙ ap (option_map (λ f. f.word)) none in
     let among = has.1.3 in
     both (test has.1.1) has.1.4 (none_met test has.1.0 has.1.1 among.0 first among.1 among.2)
-
-pub link_fault : (bytes : Option (List ℕ)) (id : ℤ) (fault : RecordFault) → HasCause bytes (HasSome id_links (id_chain id)) fault
-    → HasCause bytes (HasLink id) fault
-link_fault bytes id DiskFault cause = tt
-link_fault bytes id NoMemory cause = tt
-link_fault None id (BadRecord at) cause = tt
-link_fault (Some image) id (BadRecord at) cause = λ has. cause (has.0, (has.1.0, has.1.2))
 
 pub number_of_link : (bytes : Option (List ℕ)) (id : ℤ) (link : Option Link) (f : Link) → link ≡ Some f
     → IfSome bytes (λ image. IsFound id_links (λ w block. has_id id block) image
@@ -98,11 +66,6 @@ owner_ok (Ok x) a b c owner n w same number made = owner_made a b c owner n w sa
 
 -- ---- the chains of an entry
 
-pub named_made : (a b c : Option (List ℕ)) (e : PrEntry) (n : ℕ) → b ≡ option_map (put_in name_links (name_chain e.name) n) a
-    → c ≡ option_map (put_in id_links (id_chain e.id) n) b → c ≡ option_map (named n e) a
-named_made None b c e n first second = second ∙ ap (option_map (put_in id_links (id_chain e.id) n)) first
-named_made (Some image) b c e n first second = second ∙ ap (option_map (put_in id_links (id_chain e.id) n)) first
-
 pub on_true : (b : Bool) (x y : List ℕ) → b ≡ true → x ≡ cond b x y
 on_true true x y is = refl
 on_true false x y is = absurd cc
@@ -110,35 +73,6 @@ on_true false x y is = absurd cc
 pub on_false : (b : Bool) (x y : List ℕ) → b ≡ false → y ≡ cond b x y
 on_false true x y is = absurd cc
 on_false false x y is = refl
-
-owned_made : (a b c : Option (List ℕ)) (e : PrEntry) (n : ℕ) → is_owned e ≡ true → b ≡ option_map (named n e) a
-    → c ≡ option_map (owner_first e.owner n) b → c ≡ option_map (entered n e) a
-unfolding entered
-owned_made None b c e n owned first second = second ∙ ap (option_map (owner_first e.owner n)) first
-owned_made (Some image) b c e n owned first second =
-    second ∙ ap (option_map (owner_first e.owner n)) first
-    ∙ ap Some (on_true (is_owned e) (owner_first e.owner n (named n e image)) (named n e image) owned)
-
-pub owned_ok : {T E : Type 0} (r : Result T E) (a b c : Option (List ℕ)) (e : PrEntry) (n : ℕ) → is_owned e ≡ true
-    → b ≡ option_map (named n e) a
-    → OnOk r (c ≡ option_map (owner_first e.owner n) b) → OnOk r (c ≡ option_map (entered n e) a)
-owned_ok (Err x) a b c e n owned first second = tt
-owned_ok (Ok x) a b c e n owned first second = owned_made a b c e n owned first second
-
-pub alone_made : (a b : Option (List ℕ)) (e : PrEntry) (n : ℕ) → is_owned e ≡ false → b ≡ option_map (named n e) a
-    → b ≡ option_map (entered n e) a
-unfolding entered
-alone_made None b e n alone first = first
-alone_made (Some image) b e n alone first =
-    first ∙ ap Some (on_false (is_owned e) (owner_first e.owner n (named n e image)) (named n e image) alone)
-
-pub owned_fault : (a b : Option (List ℕ)) (e : PrEntry) (n : ℕ) (fault : RecordFault) → is_owned e ≡ true → b ≡ option_map (named n e) a
-    → HasCause b (HasLink e.owner) fault → HasCause a (HasOwner n e) fault
-owned_fault a b e n DiskFault owned first cause = tt
-owned_fault a b e n NoMemory owned first cause = tt
-owned_fault None b e n (BadRecord at) owned first cause = tt
-owned_fault (Some image) b e n (BadRecord at) owned first cause = λ has.
-    (subst (λ (o : Option (List ℕ)). HasCause o (HasLink e.owner) (BadRecord at)) first cause) (has owned)
 
 -- ---- an insertion
 
@@ -156,18 +90,13 @@ inserted (Some image) b c d e n block is first number second third =
     ∙ ap (λ (x : List ℕ). Some (entered n e (with_taken free_blocks x old))) is
     ∙ ap (λ (k : ℕ). Some (entered k e (with_taken free_blocks (new_block e) old))) number_is
 
-pub short_whole : (image : List ℕ) → length image < 2 ^ 31 → length (whole image) < 2 ^ 31
-unfolding whole
-short_whole [] short = omega (arith, first_len)
-short_whole (b ∷ bytes) short = short
-
-pub insert_makes : (a d : Option (List ℕ)) (len : ℕ) (e : PrEntry) → IfSome a (λ image. length image ≡ len) → len < 2 ^ 31 → IsRecord e
+pub insert_makes : (a d : Option (List ℕ)) (e : PrEntry) → IsRecord e
     → d ≡ option_map (after_insert e) a
     → IfSome a (λ image. (r : Registry) (m : Members) → Holds image r m → MayBeAdded e r → IsSomeAnd d (λ x. Holds x (with_entry e r) m))
-insert_makes None d len e told short is made = tt
-insert_makes (Some image) d len e told short is made = λ r m holds may.
+insert_makes None d e is made = tt
+insert_makes (Some image) d e is made = λ r m holds may.
     subst (λ (o : Option (List ℕ)). IsSomeAnd o (λ x. Holds x (with_entry e r) m)) (sym made)
-    (holds_inserted image r m e (short_whole image (omega arith)) holds is may)
+    (holds_inserted image r m e holds is may)
 
 -- the first image is written where there is none
 pub whole_len : (old new : ℕ) → (old ≡ 0 → new ≡ 3264) → (0 < old → new ≡ old) → new ≤ max old 3264
@@ -177,39 +106,29 @@ whole_len old new empty stays =
 
 -- ---- a fault
 
-pub free_fault : (a b : Option (List ℕ)) (may : Registry → Members → Type 0) (fault : RecordFault) → b ≡ option_map whole a
-    → HasCause b (HasSome (free_links free_blocks) 20) fault → HasCauseWhere may a fault
-free_fault a b may DiskFault is cause = tt
-free_fault a b may NoMemory is cause = tt
-free_fault None b may (BadRecord at) is cause = tt
-free_fault (Some image) b may (BadRecord at) is cause = λ some.
-    let holds = some.2 in
-    (subst (λ (o : Option (List ℕ)). HasCause o (HasSome (free_links free_blocks) 20) (BadRecord at)) is cause)
-    (holds.size, (holds.chains.free.words, holds.chains.free.chain))
-
-owner_held : (image : List ℕ) (r : Registry) (m : Members) (e : PrEntry) → length image < 2 ^ 31 → Holds image r m → IsRecord e
+owner_held : (image : List ℕ) (r : Registry) (m : Members) (e : PrEntry) → Holds image r m → IsRecord e
     → MayBeAdded e r → HasOwner (next_number free_blocks (whole image)) e (with_taken free_blocks (new_block e) (whole image))
-owner_held image r m e short holds is may =
+owner_held image r m e holds is may =
     let n = next_number free_blocks (whole image) in
     let base = with_taken free_blocks (new_block e) (whole image) in
-    let b = base_of image r m e holds is (short_whole image short) in
+    let b = base_of image r m e holds is in
     let next : n - 1 + 1 ≡ n = omega (arith, b.some) in
     subst (λ (i : ℕ). HasOwner i e base) next
     (owner_there (unchained (whole image)) (unchained base) base e (n - 1) r b.free (is_new image r m e base n holds is may b) b.linked)
 
-pub enter_fault : (a b c : Option (List ℕ)) (len : ℕ) (e : PrEntry) (n : ℕ) (block : List ℕ) (fault : RecordFault)
-    → IfSome a (λ image. length image ≡ len) → len < 2 ^ 31 → IsRecord e → block ≡ new_block e → b ≡ option_map whole a
+pub enter_fault : (a b c : Option (List ℕ)) (e : PrEntry) (n : ℕ) (block : List ℕ) (fault : RecordFault)
+    → IsRecord e → block ≡ new_block e → b ≡ option_map whole a
     → IfSome b (λ image. n ≡ next_number free_blocks image) → c ≡ option_map (with_taken free_blocks block) b
     → HasCause c (HasOwner n e) fault → HasCauseWhere (λ r m. MayBeAdded e r) a fault
-enter_fault a b c len e n block DiskFault told short is block_is first number second cause = tt
-enter_fault a b c len e n block NoMemory told short is block_is first number second cause = tt
-enter_fault None b c len e n block (BadRecord at) told short is block_is first number second cause = tt
-enter_fault (Some image) b c len e n block (BadRecord at) told short is block_is first number second cause = λ some.
+enter_fault a b c e n block DiskFault is block_is first number second cause = tt
+enter_fault a b c e n block NoMemory is block_is first number second cause = tt
+enter_fault None b c e n block (BadRecord at) is block_is first number second cause = tt
+enter_fault (Some image) b c e n block (BadRecord at) is block_is first number second cause = λ some.
     let old = whole image in
     let number_is : n ≡ next_number free_blocks old =
     subst (λ (o : Option (List ℕ)). IfSome o (λ i. n ≡ next_number free_blocks i)) first number in
     let made : c ≡ Some (with_taken free_blocks (new_block e) old) =
     second ∙ ap (option_map (with_taken free_blocks block)) first ∙ ap (λ (x : List ℕ). Some (with_taken free_blocks x old)) block_is in
-    let there = owner_held image some.0 some.1 e (omega arith) some.2 is some.3 in
+    let there = owner_held image some.0 some.1 e some.2 is some.3 in
     (subst (λ (o : Option (List ℕ)). HasCause o (HasOwner n e) (BadRecord at)) made cause)
     (subst (λ (k : ℕ). HasOwner k e (with_taken free_blocks (new_block e) old)) (sym number_is) there)

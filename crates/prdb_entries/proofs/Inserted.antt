@@ -4,11 +4,12 @@ use Rattle.std.specs.Prelude.{IsSome, int_lt}
 use Rattle.std.specs.Ordering.{int_eq}
 use Rattle.std.proofs.lemmas.Bool.{and_from, and_parts, cases_Bool, cases_eq, not-true}
 use Rattle.std.proofs.lemmas.Bool.Decides.{Decides-int_eq}
-use Rattle.db_blocks.specs.Blocks.{IsWhole}
+use Rattle.db_blocks.specs.Blocks.{IsWhole, kind_of}
 use Rattle.db_chains.specs.Changes.{put_in}
 use Rattle.db_chains.specs.Free.{next_number, with_taken}
+use Rattle.db_chains.specs.Keys.{name_key}
 use Rattle.prdb_layout.specs.Blocks.{block_count}
-use Rattle.prdb_layout.specs.Records.{IsLaidOut, block_in, entry_in, kind_of, new_block}
+use Rattle.prdb_layout.specs.Records.{IsLaidOut, block_in, entry_in, new_block}
 use Rattle.prdb_layout.specs.Registry.{IsRecord, IsRegistry, MayBeAdded, Registry, with_entry}
 use Rattle.prdb_layout.specs.State.{IsId, PrEntry}
 use Rattle.prdb_layout.proofs.LaidOut.{whole_same as entries_same}
@@ -17,7 +18,7 @@ use Rattle.prdb_lists.specs.Members.{Members}
 use Rattle.prdb_lists.proofs.Ascending.{lt_from, lt_to}
 use Rattle.prdb_lists.proofs.RecordsKeep.{insert_keep}
 use Rattle.prdb_finds.specs.First.{named}
-use Rattle.prdb_finds.specs.Keys.{id_key, name_key}
+use Rattle.prdb_finds.specs.Keys.{id_key}
 use Rattle.prdb_finds.specs.Places.{free_blocks, owned_links, owned_place}
 use Rattle.prdb_finds.specs.Records.{AreChains, HasIdKey, HasNameKey, Holds, IsEntryAt, IsGroupOf, IsOwned, whole}
 use Rattle.prdb_finds.specs.Unchained.{unchained}
@@ -360,19 +361,19 @@ is_new image r m e base n holds is may b =
       also_laid = subst (λ (i : List ℕ). IsLaidOut i (with_entry e r)) (entries_same (unchained base) some) pairs.holds.laid;
     }
 
-pub base_of : (image : List ℕ) (r : Registry) (m : Members) (e : PrEntry) → Holds image r m → IsRecord e → length (whole image) < 2 ^ 31
+pub base_of : (image : List ℕ) (r : Registry) (m : Members) (e : PrEntry) → Holds image r m → IsRecord e
     → IsBase (whole image) e (next_number free_blocks (whole image)) (with_taken free_blocks (new_block e) (whole image))
-base_of image r m e holds is short = is_base (whole image) e holds.size short holds.chains is
+base_of image r m e holds is = is_base (whole image) e holds.size holds.chains is
 
-pub holds_inserted : (image : List ℕ) (r : Registry) (m : Members) (e : PrEntry) → length (whole image) < 2 ^ 31 → Holds image r m
+pub holds_inserted : (image : List ℕ) (r : Registry) (m : Members) (e : PrEntry) → Holds image r m
     → IsRecord e → MayBeAdded e r → Holds (after_insert e image) (with_entry e r) m
 unfolding after_insert
-holds_inserted image r m e short holds is may =
+holds_inserted image r m e holds is may =
     let n = next_number free_blocks (whole image) in
     let base = with_taken free_blocks (new_block e) (whole image) in
     let u = unchained (whole image) in
     let v = unchained base in
-    let b = base_of image r m e holds is short in
+    let b = base_of image r m e holds is in
     let next : n - 1 + 1 ≡ n = omega (arith, b.some) in
     let new = entered n e base in
     let l = subst (λ (i : ℕ). IsLinked (entered i e base) v (Belongs v) (IsUnowned v) b.free) next

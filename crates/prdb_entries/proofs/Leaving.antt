@@ -1,12 +1,14 @@
 -- The chains of an image that holds a registry, while an entry goes out of those in which it stands.
 use Rattle.std.proofs.Common.{◌≡◌, ◌≢◌, ℕ, pos, ◌+◌, ◌-◌, ◌<◌, inl, ⊎_elim, Bool, true, false, cond, List, Some, refl, sym, ap, subst, ◌∙◌, arith}
 use Rattle.std.proofs.lemmas.Bool.{cases_Bool}
+use Rattle.db_blocks.specs.Blocks.{kind_of}
 use Rattle.db_chains.specs.Changes.{without}
 use Rattle.db_chains.specs.Ends.{HasWord}
-use Rattle.prdb_layout.specs.Records.{IsLaidOut, block_in, entry_in, kind_of}
+use Rattle.db_chains.specs.Keys.{name_key}
+use Rattle.prdb_layout.specs.Records.{IsLaidOut, block_in, entry_in}
 use Rattle.prdb_layout.specs.Registry.{IsRegistry, Registry}
 use Rattle.prdb_layout.specs.State.{PrEntry}
-use Rattle.prdb_finds.specs.Keys.{id_key, name_chain, name_key}
+use Rattle.prdb_finds.specs.Keys.{id_key, name_chain}
 use Rattle.prdb_finds.specs.Places.{name_links, owned_links, owned_place}
 use Rattle.prdb_finds.specs.Records.{HasIdKey, HasNameKey, IsEntryAt, IsGroupOf, IsOwned}
 use Rattle.prdb_entries.specs.Changes.{is_owned, left, number_of, owner_without, unnamed}

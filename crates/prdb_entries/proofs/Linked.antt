@@ -2,7 +2,7 @@
 use Rattle.std.proofs.Common.{◌≡◌, ◌≢◌, ℕ, ◌+◌, ◌-◌, ◌*◌, ◌/◌, ◌%◌, ◌<◌, ◌≤◌, ◌⊎◌, inl, inr, ⊎_elim, true, List, [], length, refl, sym, ap, subst, ◌∙◌, arith}
 use Rattle.std.specs.Prelude.{◌==◌}
 use Rattle.std.proofs.lemmas.Bool.{and_from, cases_eq, cases_order, eq-eqb}
-use Rattle.db_blocks.specs.Blocks.{IsWhole, word_at}
+use Rattle.db_blocks.specs.Blocks.{IsWhole, word_at, kind_of}
 use Rattle.db_chains.specs.declared.links.Links.{Links}
 use Rattle.db_chains.specs.Chains.{HasChain}
 use Rattle.db_chains.specs.Changes.{IsHeadPlace, put_in, put_word}
@@ -17,7 +17,7 @@ use Rattle.db_chains.proofs.Framed.{block_mark}
 use Rattle.db_chains.proofs.Others.{put_beside as word_beside, put_sorts}
 use Rattle.db_chains.proofs.Words.{names_from}
 use Rattle.prdb_layout.specs.Blocks.{block_count}
-use Rattle.prdb_layout.specs.Records.{block_in, block_place, kind_of}
+use Rattle.prdb_layout.specs.Records.{block_in, block_place}
 use Rattle.prdb_finds.specs.Places.{IsEntryPlace, entry_links, free_blocks, id_place, name_place, owned_place}
 use Rattle.db_chains.specs.Visits.{Visits}
 use Rattle.prdb_finds.specs.Unchained.{unchained}

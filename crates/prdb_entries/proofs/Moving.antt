@@ -8,10 +8,11 @@ use Rattle.std.proofs.lemmas.Bool.Decides.{Decides-int_eq}
 use Rattle.std.proofs.lemmas.Slice.Eq.{bytes_eq-Decides}
 use Rattle.db_chains.specs.Changes.{put_in, without}
 use Rattle.db_chains.specs.Ends.{HasWord}
+use Rattle.db_chains.specs.Keys.{name_key}
 use Rattle.prdb_layout.specs.Records.{block_in, entry_in}
 use Rattle.prdb_layout.specs.Registry.{Registry, with_entry}
 use Rattle.prdb_layout.specs.State.{PrEntry}
-use Rattle.prdb_finds.specs.Keys.{id_key, name_chain, name_key}
+use Rattle.prdb_finds.specs.Keys.{id_key, name_chain}
 use Rattle.prdb_finds.specs.Places.{name_links, owned_links, owned_place}
 use Rattle.prdb_finds.specs.Records.{HasIdKey, HasNameKey, IsEntryAt, IsGroupOf, IsOwned}
 use Rattle.prdb_entries.specs.Changes.{is_owned, name_moved, number_of, owner_entered, owner_first, owner_left, owner_moved, owner_without}

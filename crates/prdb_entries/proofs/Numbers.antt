@@ -1,15 +1,13 @@
 -- The number of the block of the entry of an id: a walk along the chain of the id stops there.
-use Rattle.std.proofs.Common.{◌≡◌, ℕ, ℤ, zero, suc, ◌+◌, ◌-◌, ◌/◌, ◌<◌, ⊎_elim, Bool, true, false, List, [], ◌∷◌, ◌++◌, length, get_or, refl, sym, ap, subst, ◌∙◌, arith}
+use Rattle.std.proofs.Common.{◌≡◌, ℕ, ℤ, ◌+◌, ◌-◌, ◌/◌, ◌<◌, Bool, true, List, ◌∷◌, ◌++◌, sym, ap, subst, ◌∙◌, arith}
 use Rattle.std.specs.List.{Contains}
-use Rattle.std.proofs.lemmas.Bool.{cases_Bool}
 use Rattle.db_blocks.specs.Blocks.{block_in as any_block, word_at}
-use Rattle.db_chains.specs.declared.links.Links.{Links}
 use Rattle.db_chains.specs.Chains.{HasChain}
 use Rattle.db_chains.specs.Links.{block_of}
 use Rattle.db_chains.specs.Walks.{meets, place_behind, stop_place}
 use Rattle.db_chains.proofs.Changed.{stands_behind}
-use Rattle.db_chains.proofs.Paths.{Misses}
 use Rattle.db_chains.proofs.Stops.{stop_behind}
+use Rattle.db_chains.proofs.Split.{split_first}
 use Rattle.prdb_layout.specs.Records.{block_in, entry_in, has_id}
 use Rattle.prdb_layout.specs.State.{PrEntry}
 use Rattle.prdb_layout.proofs.Lookups.{id_parts}
@@ -22,43 +20,6 @@ use Rattle.prdb_finds.proofs.Without.{unchained_entry}
 use Rattle.prdb_entries.specs.Changes.{number_of}
 use Rattle.prdb_entries.specs.Ends.{HasLink}
 use Rattle.prdb_entries.proofs.Linked.{ById, Chain, IsEntry, IsLinked, entry_here}
-
--- ---- the first word that is what is looked for
-
-record IsSplit (l : Links) (test : ℕ → List ℕ → Bool) (image ws : List ℕ) : Type 0 where
-  front : List ℕ
-  word : ℕ
-  back : List ℕ
-  all : front ++ word ∷ back ≡ ws
-  misses : Misses l test image front
-  met : meets l test image word ≡ true
-
-split_first : (l : Links) (test : ℕ → List ℕ → Bool) (image ws : List ℕ) (w i : ℕ) → i < length ws → get_or ws i w ≡ w
-    → meets l test image w ≡ true → IsSplit l test image ws
-split_first l test image [] w i below at met = absurd (omega arith)
-split_first l test image (v ∷ ws) w zero below at met = record {
-  front = [];
-  word = v;
-  back = ws;
-  all = refl;
-  misses = tt;
-  met = ap (meets l test image) at ∙ met;
-}
-split_first l test image (v ∷ ws) w (suc i) below at met =
-    ⊎_elim
-    (λ (is : meets l test image v ≡ true).
-    let r : IsSplit l test image (v ∷ ws) = record { front = []; word = v; back = ws; all = refl; misses = tt; met = is } in r)
-    (λ (other : meets l test image v ≡ false).
-    let rest = split_first l test image ws w i (omega arith) at met in
-    let r : IsSplit l test image (v ∷ ws) = record {
-      front = v ∷ rest.front;
-      word = rest.word;
-      back = rest.back;
-      all = ap (λ (t : List ℕ). v ∷ t) rest.all;
-      misses = (other, rest.misses);
-      met = rest.met;
-    } in r)
-    (cases_Bool (meets l test image v))
 
 -- ---- the entry of an id
 

@@ -3,11 +3,11 @@ use Rattle.std.proofs.Common.{◌≡◌, ◌≢◌, ℕ, ◌+◌, ◌-◌, ◌*�
 use Rattle.std.specs.List.{AllByRecursion}
 use Rattle.std.proofs.lemmas.Bool.{cases_eq, cases_lt, cases_order}
 use Rattle.std.proofs.lemmas.Grind.{same_number_lists}
-use Rattle.std.proofs.lemmas.List.{get_or-drop, get_or-take, length-drop, length-take-le, places}
+use Rattle.std.proofs.lemmas.List.{get_or-drop, get_or-take, length-drop, length-take-le}
 use Rattle.ubik_types.specs.Image.{changed}
 use Rattle.ubik_types.specs.declared.images.Change.TheVariants.{Put}
 use Rattle.db_blocks.specs.Blocks.{IsWhole, word_at}
-use Rattle.db_blocks.proofs.BlockPlaces.{changed_laid, laid}
+use Rattle.db_blocks.proofs.BlockPlaces.{changed_laid, laid_in}
 use Rattle.db_chains.specs.Chains.{HasChain}
 use Rattle.db_chains.specs.Free.{free_links}
 use Rattle.db_chains.specs.Links.{AreLinks, mark_place, next_place}
@@ -31,11 +31,6 @@ pub record IsTwice (image : List ℕ) (k : ℕ) (block mid new : List ℕ) : Typ
   pub len : length new ≡ length image
   pub at_first : (i : ℕ) → 4 ≤ i → i < 24 → slice_index mid (block_place k + i) ≡ slice_index block i
   pub at_second : (i : ℕ) → 32 ≤ i → i < 96 → slice_index new (block_place k + i) ≡ slice_index block i
-
-laid_in : (image bytes : List ℕ) (at i : ℕ) → at + length bytes ≤ length image → at ≤ i → i < at + length bytes
-    → slice_index (laid image at bytes) i ≡ slice_index bytes (i - at)
-unfolding laid
-laid_in image bytes at i within from below = grind (arith, places)
 
 put_byte : (image bytes : List ℕ) (at i : ℕ) → at + length bytes ≤ length image → i < length bytes
     → slice_index (changed image (Put at bytes)) (at + i) ≡ slice_index bytes i

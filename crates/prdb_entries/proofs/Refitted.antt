@@ -3,11 +3,11 @@ use Rattle.std.proofs.Common.{◌≡◌, ◌≢◌, ℕ, ℤ, ◌+◌, ◌-◌, 
 use Rattle.std.specs.Str.{bytes_eq}
 use Rattle.std.proofs.lemmas.Bool.{cases_eq}
 use Rattle.std.proofs.lemmas.Slice.Eq.{bytes_eq-Decides}
-use Rattle.db_blocks.specs.Blocks.{IsWhole}
+use Rattle.db_blocks.specs.Blocks.{IsWhole, kind_of}
 use Rattle.db_chains.proofs.Bytes.{IsApart}
 use Rattle.prdb_layout.specs.Blocks.{block_count}
-use Rattle.prdb_layout.specs.Bytes.{words, zeros}
-use Rattle.prdb_layout.specs.Records.{IsLaidOut, after_replace as entries_after, block_in, block_place, entry_in, field_numbers, first_block, has_id, kind_of, new_block, with_block, with_fields}
+use Rattle.db_blocks.specs.Bytes.{words, zeros}
+use Rattle.prdb_layout.specs.Records.{IsLaidOut, after_replace as entries_after, block_in, block_place, entry_in, field_numbers, first_block, has_id, new_block, with_block, with_fields}
 use Rattle.prdb_layout.specs.Registry.{IsRecord, MayReplace, Registry, with_entry}
 use Rattle.prdb_layout.specs.State.{PrEntry}
 use Rattle.prdb_layout.proofs.BlockPlaces.{block_len, put_block}

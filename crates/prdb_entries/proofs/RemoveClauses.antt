@@ -2,20 +2,16 @@
 use Rattle.std.proofs.Common.{◌≡◌, ℕ, ℤ, ◌+◌, ◌-◌, ◌≤◌, true, false, List, Option, Some, None, IfSome, Result, Ok, Err, OnOk, refl, sym, ap, subst, ◌∙◌, arith}
 use Rattle.std.specs.Prelude.{IsSomeAnd}
 use Rattle.std.specs.Option.{option_map}
-use Rattle.db_image.specs.Draft.{Drafted}
-use Rattle.db_image.specs.Images.{ReadsAtMost}
 use Rattle.db_image.specs.declared.faults.RecordFault.{RecordFault}
 use Rattle.db_image.specs.declared.faults.RecordFault.TheVariants.{DiskFault, BadRecord, NoMemory}
-use Rattle.db_image.specs.declared.images.ImageRead.{Ghosts}
-use Rattle.db_image.specs.declared.services.Layout.{Layout}
-use Rattle.db_image.proofs.ReadSteps.{reads_then}
 use Rattle.db_blocks.specs.Ends.{HasCause}
 use Rattle.db_chains.specs.declared.walks.Link.{Link}
 use Rattle.db_chains.specs.Changes.{without}
-use Rattle.db_chains.specs.Ends.{DraftsAtMost, HasSome, HasWord}
+use Rattle.db_chains.specs.Ends.{HasSome, HasWord}
 use Rattle.db_chains.specs.Free.{free_links, with_freed}
 use Rattle.db_chains.specs.Links.{block_of}
 use Rattle.db_chains.specs.Walks.{IsFound, stop_place}
+use Rattle.db_chains.proofs.Results.{cause_so, cause_at}
 use Rattle.prdb_layout.specs.Records.{block_in, entry_in, has_id}
 use Rattle.prdb_layout.specs.Registry.{Registry, without_entry}
 use Rattle.prdb_layout.specs.State.{PrEntry}
@@ -30,36 +26,6 @@ use Rattle.prdb_entries.specs.Ends.{HasLink, IsOwnedBy, MayGo, StandsInChains}
 use Rattle.prdb_entries.proofs.InsertClauses.{on_false, on_true}
 use Rattle.prdb_entries.proofs.Numbers.{block_of_word}
 use Rattle.prdb_entries.proofs.Removed.{IsHeld, entry_held, free_held, held_in, holds_removed, linked_of, own_link, own_number, stands_held}
-
--- ---- frames
-
--- one change after another of a draft that keeps its length, whose bytes are counted by its blocks and its length
-pub drafts_on : {I : Type 0} (g : Ghosts I) (m : ℕ) (cost : Layout → ℕ → ℕ) (most : ℕ) (a b c : Drafted I) (first failed : Type 0)
-    → DraftsAtMost g m a b first → b.len ≡ a.len → DraftsAtMost g (cost b.layout b.len) b c failed → m + cost a.layout a.len ≤ most
-    → DraftsAtMost g most a c failed
-drafts_on g m cost most a b c first failed r len s fits =
-    let same : cost b.layout b.len ≡ cost a.layout a.len = ap (λ (l : Layout). cost l b.len) r.drafts.layout ∙ ap (cost a.layout) len in
-    let all : ReadsAtMost g most a.image c.image failed =
-    reads_then g m (cost b.layout b.len) most a.image b.image c.image first failed record { reads = r.drafts.reads; asked = r.cost }
-    record { reads = s.drafts.reads; asked = s.cost } (subst (λ (n : ℕ). m + n ≤ most) (sym same) fits) in
-    record { drafts = record { layout = s.drafts.layout ∙ r.drafts.layout; reads = all.reads }; cost = all.asked }
-
--- ---- faults
-
-pub cause_so : (a : Option (List ℕ)) (P Q : List ℕ → Type 0) (fault : RecordFault) → ((image : List ℕ) → P image → Q image)
-    → HasCause a Q fault → HasCause a P fault
-cause_so a P Q DiskFault so cause = tt
-cause_so a P Q NoMemory so cause = tt
-cause_so None P Q (BadRecord at) so cause = tt
-cause_so (Some image) P Q (BadRecord at) so cause = λ is. cause (so image is)
-
-pub cause_at : (a b : Option (List ℕ)) (f : List ℕ → List ℕ) (P Q : List ℕ → Type 0) (fault : RecordFault) → b ≡ option_map f a
-    → ((image : List ℕ) → P image → Q (f image)) → HasCause b Q fault → HasCause a P fault
-cause_at a b f P Q DiskFault made so cause = tt
-cause_at a b f P Q NoMemory made so cause = tt
-cause_at None b f P Q (BadRecord at) made so cause = tt
-cause_at (Some image) b f P Q (BadRecord at) made so cause = λ is.
-    subst (λ (o : Option (List ℕ)). HasCause o Q (BadRecord at)) made cause (so image is)
 
 -- ---- an owner's chain
 

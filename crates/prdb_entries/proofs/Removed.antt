@@ -2,7 +2,7 @@
 use Rattle.std.proofs.Common.{◌≡◌, ◌≢◌, ℕ, ℤ, ◌+◌, ◌-◌, ◌*◌, ◌/◌, ◌<◌, inr, ⊎_elim, Bool, true, false, List, Some, length, sym, ap, subst, ◌∙◌, arith}
 use Rattle.std.specs.List.{Contains}
 use Rattle.std.proofs.lemmas.Bool.{cases_Bool, cases_eq}
-use Rattle.db_blocks.specs.Blocks.{IsWhole, word_at as any_word}
+use Rattle.db_blocks.specs.Blocks.{IsWhole, word_at as any_word, kind_of}
 use Rattle.db_chains.specs.Ends.{HasSome}
 use Rattle.db_chains.specs.Free.{IsAscending, IsFreed, free_links, put_among, with_freed}
 use Rattle.db_chains.specs.Links.{block_of}
@@ -10,12 +10,13 @@ use Rattle.db_chains.proofs.Framed.{block_mark, block_word}
 use Rattle.db_chains.proofs.Freed.{freed}
 use Rattle.db_chains.proofs.Kept.{chain_freed}
 use Rattle.prdb_layout.specs.Blocks.{block_count}
-use Rattle.prdb_layout.specs.Bytes.{zeros}
-use Rattle.prdb_layout.specs.Records.{after_remove as entries_after, block_in, entry_in, first_block, has_id, kind_of, with_block}
+use Rattle.db_blocks.specs.Bytes.{zeros}
+use Rattle.db_blocks.proofs.FirstBlocks.{first_at}
+use Rattle.db_chains.proofs.Leaving.{all_of}
+use Rattle.prdb_layout.specs.Records.{after_remove as entries_after, block_in, entry_in, first_block, has_id, with_block}
 use Rattle.prdb_layout.specs.Registry.{MayBeRemoved, Registry, without_entry}
 use Rattle.prdb_layout.specs.State.{PrEntry}
 use Rattle.prdb_layout.proofs.BlockPlaces.{put_block}
-use Rattle.prdb_layout.proofs.FirstBlocks.{first_at}
 use Rattle.prdb_layout.proofs.LaidOut.{whole_same as entries_same, zero_kind}
 use Rattle.prdb_layout.proofs.Lookups.{id_parts}
 use Rattle.prdb_lists.specs.Layout.{HoldsPairs}
@@ -25,7 +26,6 @@ use Rattle.prdb_finds.specs.Keys.{id_key}
 use Rattle.prdb_finds.specs.Places.{free_blocks, id_place, name_place}
 use Rattle.prdb_finds.specs.Records.{AreChains, HasIdKey, HasNameKey, Holds, IsEntryAt, IsGroupOf, IsOwned, whole}
 use Rattle.prdb_finds.specs.Unchained.{unchained}
-use Rattle.prdb_finds.proofs.Lists.{all_of}
 use Rattle.prdb_finds.proofs.Lookups.{id_has, same_block}
 use Rattle.prdb_finds.proofs.Taken.{free_all, not_free}
 use Rattle.prdb_finds.proofs.Told.{laid_without, whole_same}
@@ -115,10 +115,6 @@ entry_was : (u v : List ℕ) (k j : ℕ) → IsWithout u v k → IsEntry v j →
 entry_was u v k j gone entry =
     let below : j < block_count u = omega (arith, entry.below, gone.count) in
     record { below = below; kind = sym (ap kind_of (gone.others j below (entry_differs u v k j gone entry))) ∙ entry.kind }
-
-entry_stays : (u v : List ℕ) (k j : ℕ) → IsWithout u v k → IsEntry u j → j ≢ k → IsEntry v j
-entry_stays u v k j gone entry other =
-    record { below = omega (arith, entry.below, gone.count); kind = ap kind_of (gone.others j entry.below other) ∙ entry.kind }
 
 at_was : (u v : List ℕ) (k w : ℕ) (P : PrEntry → Type 0) → IsWithout u v k → IsEntryAt v P w → IsEntryAt u P w × (w - 1 ≢ k)
 at_was u v k w P gone at =

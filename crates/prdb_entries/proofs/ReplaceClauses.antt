@@ -12,6 +12,7 @@ use Rattle.db_image.specs.declared.faults.RecordFault.{RecordFault}
 use Rattle.db_blocks.specs.Ends.{HasCause}
 use Rattle.db_chains.specs.declared.walks.Link.{Link}
 use Rattle.db_chains.specs.Ends.{HasWord}
+use Rattle.db_chains.proofs.Results.{cause_at, cause_so}
 use Rattle.prdb_layout.specs.Records.{block_in, block_place, entry_in, new_block}
 use Rattle.prdb_layout.specs.Registry.{IsRecord, MayReplace, Registry}
 use Rattle.prdb_layout.specs.State.{PrEntry}
@@ -26,7 +27,7 @@ use Rattle.prdb_entries.specs.Changes.{fitted, moved, name_moved, owner_entered,
 use Rattle.prdb_entries.specs.Ends.{CanMove, HasEntered, HasLeft, HasLink, HasMoved}
 use Rattle.prdb_entries.proofs.InsertClauses.{on_false, on_true}
 use Rattle.prdb_entries.proofs.Refitted.{IsRefit, can_move, refit_of}
-use Rattle.prdb_entries.proofs.RemoveClauses.{IsLinkOf, block_of_link, cause_at, cause_so, link_at, link_cause, same_map}
+use Rattle.prdb_entries.proofs.RemoveClauses.{IsLinkOf, block_of_link, link_at, link_cause, same_map}
 use Rattle.prdb_entries.proofs.Removed.{entry_held, is_false, linked_of, own_link, own_number}
 
 -- ---- a choice

@@ -4,16 +4,17 @@ use Rattle.std.specs.Int.{w32, from_be_bytes}
 use Rattle.std.proofs.lemmas.Bool.{cases_eq, cases_lt}
 use Rattle.std.proofs.lemmas.Grind.{same_number_lists}
 use Rattle.std.proofs.lemmas.List.{drop_at, get_or-drop, get_or-take, length-drop, length-take-le, take_at}
-use Rattle.db_blocks.specs.Blocks.{IsWhole}
+use Rattle.db_blocks.specs.Blocks.{IsWhole, kind_of, blanked}
 use Rattle.prdb_layout.specs.Blocks.{block_count}
-use Rattle.prdb_layout.specs.Bytes.{filled, word, words}
-use Rattle.prdb_layout.specs.Records.{block_in, field_numbers, kind_of, with_block, with_fields}
+use Rattle.db_blocks.specs.Bytes.{filled, word, words}
+use Rattle.db_chains.proofs.Bytes.{blanked_stays}
+use Rattle.prdb_layout.specs.Records.{block_in, field_numbers, with_block, with_fields}
 use Rattle.prdb_layout.specs.State.{PrEntry}
 use Rattle.prdb_layout.proofs.BlockPlaces.{block_len, put_block}
 use Rattle.prdb_layout.proofs.EntryFields.{behind_name, length-with_fields, name_field}
-use Rattle.prdb_finds.specs.Unchained.{blanked, unchained, unlinked, unlinked_head}
+use Rattle.prdb_finds.specs.Unchained.{unchained, unlinked, unlinked_head}
 use Rattle.prdb_finds.proofs.Beside.{inside_same}
-use Rattle.prdb_finds.proofs.Fields.{blanked_stays, entry_unlinked, unlinked_len}
+use Rattle.prdb_finds.proofs.Fields.{entry_unlinked, unlinked_len}
 use Rattle.prdb_finds.proofs.Laid.{same_image}
 use Rattle.prdb_finds.proofs.Without.{unchained_block, unchained_count, unchained_head, unchained_len}
 use Rattle.prdb_entries.proofs.Refilled.{IsRefilled}

@@ -8,8 +8,10 @@ use Rattle.std.proofs.lemmas.Grind.{same_number_lists}
 use Rattle.std.proofs.lemmas.List.{get_or-take}
 use Rattle.std.proofs.lemmas.Slice.Eq.{bytes_eq-Decides}
 use Rattle.prdb_layout.specs.Blocks.{block_count, block_name}
-use Rattle.prdb_layout.specs.Bytes.{filled, words, zeros}
-use Rattle.prdb_layout.specs.Records.{IsBlock, IsEntryBlock, block_in, entry_in, field_numbers, kind_of, new_block, with_fields}
+use Rattle.db_blocks.specs.Bytes.{filled, words, zeros}
+use Rattle.db_blocks.specs.Blocks.{kind_of}
+use Rattle.db_chains.proofs.Bytes.{blanked_stays}
+use Rattle.prdb_layout.specs.Records.{IsBlock, IsEntryBlock, block_in, entry_in, field_numbers, new_block, with_fields}
 use Rattle.prdb_layout.specs.Registry.{Registry}
 use Rattle.prdb_layout.specs.State.{PrEntry}
 use Rattle.prdb_layout.proofs.BlockPlaces.{block_len}
@@ -19,7 +21,7 @@ use Rattle.prdb_lists.specs.Members.{Members}
 use Rattle.prdb_lists.proofs.RecordsKeep.{zeros_len}
 use Rattle.prdb_finds.specs.Records.{Holds, whole}
 use Rattle.prdb_finds.specs.Unchained.{unchained, unlinked}
-use Rattle.prdb_finds.proofs.Fields.{blanked_stays, entry_unlinked}
+use Rattle.prdb_finds.proofs.Fields.{entry_unlinked}
 use Rattle.prdb_finds.proofs.Laid.{same_image}
 use Rattle.prdb_finds.proofs.Told.{laid_without}
 use Rattle.prdb_finds.proofs.Without.{unchained_block, unchained_count, unchained_kind}

@@ -6,9 +6,8 @@ use Rattle.ubik_types.specs.Image.{changed}
 use Rattle.ubik_types.specs.declared.images.Change.TheVariants.{Put}
 use Rattle.db_blocks.specs.Blocks.{word_at}
 use Rattle.db_chains.specs.Changes.{put_in, without}
-use Rattle.db_chains.specs.Ends.{walk_cost}
+use Rattle.db_chains.specs.Ends.{walk_cost, first_cost, out_cost}
 use Rattle.db_chains.specs.Free.{free_cost, next_number, take_cost, with_freed, with_taken}
-use Rattle.db_chains.specs.declared.links.Links.{Links}
 use Rattle.db_chains.specs.Walks.{stop_place}
 use Rattle.db_image.specs.Draft.{put_cost}
 use Rattle.db_image.specs.declared.services.Layout.{Layout}
@@ -44,11 +43,8 @@ after_insert e image =
     let old = whole image in
     entered (next_number free_blocks old) e (with_taken free_blocks (new_block e) old)
 
--- How many bytes are read at most: where a word comes in front of a chain, where it comes in front of an owner's chain, in an image of this
--- length, where a block comes into its chains, and where an entry is inserted, which may write the first image.
-abbrev pub first_cost : Layout → ℕ
-first_cost layout = 4 + 2 * put_cost layout 4
-
+-- How many bytes are read at most: where a block comes in front of its owner's chain, in an image of this length, where it comes into its
+-- chains, and where an entry is inserted, which may write the first image.
 abbrev pub owner_cost : Layout → (len : ℕ) → ℕ
 owner_cost layout len = walk_cost id_links len + first_cost layout
 
@@ -79,12 +75,9 @@ after_remove id image =
     let n = number_of id old in
     with_freed free_blocks n (left n (entry_in (block_in old (n - 1))) old)
 
--- How many bytes are read at most where a word goes out of a chain, out of an owner's chain, out of those of a name and an id, where a
--- block goes out of its chains, and where an entry is removed, in an image of this length: a walk along each of these chains, one to find
--- the entry and one to find its owner, one along the free blocks, and the first image, which may be written.
-abbrev pub out_cost : Links → Layout → (len : ℕ) → ℕ
-out_cost l layout len = walk_cost l len + 4 + 2 * put_cost layout 4
-
+-- How many bytes are read at most where a block goes out of its owner's chain, out of those of its name and its id, out of all of its
+-- chains, and where an entry is removed, in an image of this length: a walk along each of these chains, one to find the entry and one to
+-- find its owner, one along the free blocks, and the first image, which may be written.
 abbrev pub owner_out_cost : Layout → (len : ℕ) → ℕ
 owner_out_cost layout len = walk_cost id_links len + out_cost owned_links layout len
 

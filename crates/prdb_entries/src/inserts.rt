@@ -13,13 +13,13 @@ ghost use Rattle.prdb_finds.specs.declared.places.TheConstants.{FIRST_LEN};
 ghost use Rattle.prdb_entries.specs.Changes.{after_insert, enter_cost, entered, insert_cost, is_owned, owner_cost, owner_first};
 ghost use Rattle.prdb_entries.specs.Ends.{HasLink, HasOwner};
 
+use db_blocks::{BLOCK_LEN, Block};
+use db_chains::{put_first, take_block};
+use db_image::{Draft, ImageRead, RecordFault};
 use prdb_finds::{
     find_link, free_blocks, id_chain, id_links, make_whole, name_chain, name_links, owned_links,
     owned_place,
 };
-use db_blocks::{BLOCK_LEN, Block};
-use db_chains::{put_first, take_block};
-use db_image::{Draft, ImageRead, RecordFault};
 use prdb_layout::{PrEntry, with_fields};
 use std::alloc::{AllocError, Global};
 

@@ -10,7 +10,7 @@ ghost use Rattle.prdb_entries.specs.Ends.{MayGo};
 /// The image after an entry more holds it, all others, and the same pairs.
 pub fn law_insert_adds_the_entry()
     ensures { (image : List ℕ) (r : Registry) (m : Members) (e : PrEntry) → Holds image r m → IsRecord e → MayBeAdded e r
-        → length image < 2 ^ 31 → Holds (after_insert e image) (with_entry e r) m }
+        → Holds (after_insert e image) (with_entry e r) m }
 {}
 
 /// The image after an entry got other fields holds it with them, all others, and the same pairs.

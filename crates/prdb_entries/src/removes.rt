@@ -13,14 +13,14 @@ ghost use Rattle.prdb_finds.specs.declared.places.TheConstants.{FIRST_LEN, HEAD_
 ghost use Rattle.prdb_entries.specs.Changes.{after_remove, is_owned, leave_cost, left, named_out_cost, owner_out_cost, owner_without, remove_cost};
 ghost use Rattle.prdb_entries.specs.Ends.{IsOwnedBy, MayGo, StandsInChains};
 
-use prdb_finds::{
-    find_link, free_blocks, id_chain, id_links, make_whole, name_chain, name_links, owned_links,
-    owned_place,
-};
 use db_blocks::Block;
 use db_chains::{free_block, take_out};
 use db_image::{Draft, ImageRead, RecordFault};
 use entry_scans::{EntryView, entry_in};
+use prdb_finds::{
+    find_link, free_blocks, id_chain, id_links, make_whole, name_chain, name_links, owned_links,
+    owned_place,
+};
 use std::alloc::Global;
 
 /// Whether an entry is a group that has an owner.

@@ -17,11 +17,11 @@ ghost use Rattle.prdb_entries.specs.Ends.{CanMove, HasEntered, HasLeft, HasMoved
 
 use crate::inserts::{enter_owned, is_owned, new_block};
 use crate::removes::{is_owned as is_view_owned, leave_owned};
-use prdb_finds::{HEAD_LEN, find_link, make_whole, name_chain, name_links};
 use db_blocks::{Block, block_place};
 use db_chains::{put_first, take_out};
 use db_image::{Draft, ImageRead, RecordFault, VecImage};
 use entry_scans::{EntryView, entry_in};
+use prdb_finds::{HEAD_LEN, find_link, make_whole, name_chain, name_links};
 use prdb_layout::{PrEntry, draft_over, find_id};
 use std::alloc::Global;
 

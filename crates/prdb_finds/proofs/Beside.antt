@@ -4,21 +4,21 @@ use Rattle.std.specs.List.{flat_map, range_with_len}
 use Rattle.std.proofs.lemmas.Bool.{cases_eq, cases_lt}
 use Rattle.std.proofs.lemmas.Grind.{same_number_lists}
 use Rattle.std.proofs.lemmas.List.{get_or-drop, get_or-take, length-drop, length-take-le, places}
-use Rattle.db_blocks.specs.Blocks.{IsWhole}
+use Rattle.db_blocks.specs.Blocks.{IsWhole, word_at, kind_of, blanked}
 use Rattle.db_blocks.proofs.BlockPlaces.{changed_laid, laid}
 use Rattle.db_chains.specs.Changes.{put_in, put_word, taken_out}
 use Rattle.db_chains.specs.Links.{block_of, is_right, next_place}
-use Rattle.db_chains.proofs.Bytes.{StaysBut, word_len, word_put, word_stays}
+use Rattle.db_chains.proofs.Bytes.{StaysBut, word_len, word_put, word_stays, blanked_len, blanked_stays}
 use Rattle.db_chains.proofs.Framed.{block_stays, byte_stays}
 use Rattle.db_chains.proofs.Words.{in_block, right, right_names}
 use Rattle.prdb_layout.specs.Blocks.{block_count}
-use Rattle.prdb_layout.specs.Bytes.{word_at, zeros}
-use Rattle.prdb_layout.specs.Records.{block_in, block_place, kind_of}
+use Rattle.db_blocks.specs.Bytes.{zeros}
+use Rattle.db_blocks.proofs.Lengths.{length-zeros}
+use Rattle.prdb_layout.specs.Records.{block_in, block_place}
 use Rattle.prdb_layout.proofs.BlockPlaces.{block_len}
-use Rattle.prdb_layout.proofs.Fields.{length-zeros}
 use Rattle.prdb_finds.specs.Places.{IsEntryPlace, IsInEntry, entry_links}
-use Rattle.prdb_finds.specs.Unchained.{blanked, unchained, unlinked, unlinked_head}
-use Rattle.prdb_finds.proofs.Fields.{blanked_len, blanked_stays, entry_unlinked, free_unlinked}
+use Rattle.prdb_finds.specs.Unchained.{unchained, unlinked, unlinked_head}
+use Rattle.prdb_finds.proofs.Fields.{entry_unlinked, free_unlinked}
 use Rattle.prdb_finds.proofs.Lookups.{same_block}
 
 -- ---- blanked bytes

@@ -1,24 +1,16 @@
 -- What is read of a block does not rest on the words of chains in it.
-use Rattle.std.proofs.Common.{◌≡◌, ℕ, ◌+◌, ◌≤◌, Bool, true, false, eqb, cond, inl, List, ◌++◌, length, take, drop, refl, sym, ap, subst, ◌∙◌, append_assoc, arith}
+use Rattle.std.proofs.Common.{◌≡◌, ℕ, ◌+◌, ◌≤◌, Bool, true, false, eqb, cond, inl, List, ◌++◌, length, take, drop, refl, sym, ap, ◌∙◌, append_assoc, arith}
 use Rattle.std.specs.Int.{w32, from_be_bytes}
 use Rattle.std.proofs.lemmas.List.{drop-take, length-take-le, take-append-le, take-take}
 use Rattle.db_blocks.proofs.BlockPlaces.{changed_laid, laid}
-use Rattle.db_chains.proofs.Bytes.{StaysBut, put_len, put_stays, word_stays}
+use Rattle.db_chains.proofs.Bytes.{word_stays, blanked_stays, blanked_len}
 use Rattle.prdb_layout.specs.Blocks.{block_name}
-use Rattle.prdb_layout.specs.Bytes.{word_at, zeros}
-use Rattle.prdb_layout.specs.Records.{entry_in, kind_of}
-use Rattle.prdb_layout.proofs.Fields.{length-zeros}
-use Rattle.prdb_finds.specs.Unchained.{blanked, unlinked}
+use Rattle.db_blocks.specs.Blocks.{word_at, kind_of, blanked}
+use Rattle.db_blocks.specs.Bytes.{zeros}
+use Rattle.prdb_layout.specs.Records.{entry_in}
+use Rattle.prdb_finds.specs.Unchained.{unlinked}
 
 -- ---- blanked bytes
-
-pub blanked_stays : (at len : ℕ) (bytes : List ℕ) → at + len ≤ length bytes → StaysBut at len bytes (blanked at len bytes)
-blanked_stays at len bytes within =
-    subst (λ (n : ℕ). StaysBut at n bytes (blanked at len bytes)) (length-zeros len) (put_stays bytes (zeros len) at (omega
-    (arith, length-zeros len)))
-
-pub blanked_len : (at len : ℕ) (bytes : List ℕ) → at + len ≤ length bytes → length (blanked at len bytes) ≡ length bytes
-blanked_len at len bytes within = put_len bytes (zeros len) at (omega (arith, length-zeros len))
 
 -- what stands before them
 pub blanked_front : (at len n : ℕ) (bytes : List ℕ) → n ≤ at → at + len ≤ length bytes → take n (blanked at len bytes) ≡ take n bytes

@@ -3,7 +3,7 @@ use Rattle.std.proofs.Common.{◌≡◌, ℕ, pos, negsuc, List, [], ◌++◌, l
 use Rattle.std.specs.List.{flat_map, range_with_len}
 use Rattle.db_chains.specs.Changes.{put_in, put_word}
 use Rattle.prdb_layout.specs.Blocks.{block_count}
-use Rattle.prdb_layout.specs.Bytes.{words, zeros}
+use Rattle.db_blocks.specs.Bytes.{words, zeros}
 use Rattle.prdb_layout.specs.Layout.{block_of, head_of, layout, numbers_of}
 use Rattle.prdb_layout.specs.Records.{block_in, maxima_in}
 use Rattle.prdb_layout.specs.State.{fixed_entries, initial_state}

@@ -6,16 +6,17 @@ use Rattle.std.specs.List.{Contains}
 use Rattle.std.proofs.lemmas.Bool.{and_parts, cases_eq, eqb-true, ne_eqb}
 use Rattle.std.proofs.lemmas.Int.{ints}
 use Rattle.std.proofs.lemmas.List.{drop-drop}
-use Rattle.db_blocks.specs.Blocks.{IsWhole}
+use Rattle.db_blocks.specs.Blocks.{IsWhole, word_at, kind_of}
 use Rattle.db_chains.specs.declared.links.Links.{Links}
 use Rattle.db_chains.specs.Chains.{HasChain}
 use Rattle.db_chains.specs.Changes.{put_in, put_word}
 use Rattle.db_chains.specs.Links.{is_right, next_place}
 use Rattle.db_chains.specs.Visits.{Visits}
 use Rattle.prdb_layout.specs.Blocks.{block_count, block_name}
-use Rattle.prdb_layout.specs.Bytes.{word_at, words, zeros}
+use Rattle.db_blocks.specs.Bytes.{words, zeros}
+use Rattle.db_chains.specs.Keys.{name_key}
 use Rattle.prdb_layout.specs.Layout.{block_of, head_of, layout, numbers_of}
-use Rattle.prdb_layout.specs.Records.{IsLaidOut, block_in, entry_in, kind_of, whole as entries_whole}
+use Rattle.prdb_layout.specs.Records.{IsLaidOut, block_in, entry_in, whole as entries_whole}
 use Rattle.prdb_layout.specs.Registry.{Registry, first_registry}
 use Rattle.prdb_layout.specs.State.{PrEntry, fixed_entries, initial_state}
 use Rattle.prdb_layout.proofs.Initial.{length-initial}
@@ -25,7 +26,7 @@ use Rattle.prdb_lists.specs.Members.{Members, no_members}
 use Rattle.prdb_lists.proofs.FirstPairs.{holds_none}
 use Rattle.prdb_lists.proofs.ListFound.{whole_none}
 use Rattle.prdb_finds.specs.First.{first_image}
-use Rattle.prdb_finds.specs.Keys.{id_key, name_key}
+use Rattle.prdb_finds.specs.Keys.{id_key}
 use Rattle.prdb_finds.specs.Places.{id_links, id_place, name_links, name_place, owned_links, owned_place}
 use Rattle.prdb_finds.specs.Records.{AreChains, HasIdKey, HasNameKey, Holds, IsEntryAt, IsGroupOf, IsOwned, whole}
 use Rattle.prdb_finds.proofs.FirstChains.{first_len, first_unchained}

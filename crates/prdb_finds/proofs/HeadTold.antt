@@ -7,11 +7,10 @@ use Rattle.db_image.specs.Images.{ReadsAtMost}
 use Rattle.db_image.specs.declared.images.ImageRead.{Ghosts}
 use Rattle.db_image.specs.declared.faults.RecordFault.{RecordFault}
 use Rattle.db_image.specs.declared.faults.RecordFault.TheVariants.{DiskFault, BadRecord, NoMemory}
-use Rattle.db_blocks.specs.Blocks.{IsWhole}
+use Rattle.db_blocks.specs.Blocks.{IsWhole, word_at, blanked}
 use Rattle.db_blocks.specs.Ends.{HasCause}
 use Rattle.db_chains.specs.Ends.{LooksAtMost}
-use Rattle.db_chains.proofs.Bytes.{word_stays}
-use Rattle.prdb_layout.specs.Bytes.{word_at}
+use Rattle.db_chains.proofs.Bytes.{word_stays, blanked_len, blanked_stays}
 use Rattle.prdb_layout.specs.Records.{maxima_in, signed_at}
 use Rattle.prdb_layout.specs.Registry.{AreMaxima, Registry}
 use Rattle.prdb_layout.proofs.Held.{maxima_of}
@@ -20,8 +19,7 @@ use Rattle.prdb_layout.proofs.MaximaRead.{maxima_read}
 use Rattle.prdb_lists.specs.Members.{Members}
 use Rattle.prdb_finds.specs.Ends.{HoldsSome}
 use Rattle.prdb_finds.specs.Records.{Holds, whole}
-use Rattle.prdb_finds.specs.Unchained.{blanked, unchained, unlinked_head}
-use Rattle.prdb_finds.proofs.Fields.{blanked_len, blanked_stays}
+use Rattle.prdb_finds.specs.Unchained.{unchained, unlinked_head}
 use Rattle.prdb_finds.proofs.FirstChains.{first_maxima}
 use Rattle.prdb_finds.proofs.Told.{empty_is, laid_without, whole_same}
 use Rattle.prdb_finds.proofs.Without.{unchained_head}

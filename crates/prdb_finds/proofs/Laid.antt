@@ -2,17 +2,18 @@
 use Rattle.std.proofs.Common.{◌≡◌, ◌≢◌, ℕ, ◌+◌, ◌-◌, ◌*◌, ◌/◌, ◌%◌, ◌<◌, ◌≤◌, ◌⊎◌, inl, inr, ⊎_elim, List, length, slice_index, take, drop, refl, sym, ap, ◌∙◌, arith}
 use Rattle.std.proofs.lemmas.Bool.{cases_eq, cases_lt}
 use Rattle.std.proofs.lemmas.Grind.{same_number_lists}
-use Rattle.std.proofs.lemmas.List.{get_or-drop, get_or-take, length-take-le, places}
+use Rattle.std.proofs.lemmas.List.{get_or-drop, get_or-take, length-take-le}
 use Rattle.ubik_types.specs.Image.{changed}
 use Rattle.ubik_types.specs.declared.images.Change.TheVariants.{Put}
-use Rattle.db_blocks.specs.Blocks.{IsWhole}
-use Rattle.db_blocks.proofs.BlockPlaces.{head_put as any_head_put, laid}
+use Rattle.db_blocks.specs.Blocks.{IsWhole, blanked}
+use Rattle.db_blocks.proofs.BlockPlaces.{head_put as any_head_put, laid, laid_out, laid_in, laid_len}
+use Rattle.db_chains.proofs.Bytes.{blanked_len, blanked_stays}
 use Rattle.prdb_layout.specs.Blocks.{block_count}
 use Rattle.prdb_layout.specs.Records.{block_in, with_block}
 use Rattle.prdb_layout.proofs.BlockPlaces.{IsPut, add_block, put_block}
-use Rattle.prdb_finds.specs.Unchained.{blanked, unchained, unlinked, unlinked_head}
+use Rattle.prdb_finds.specs.Unchained.{unchained, unlinked, unlinked_head}
 use Rattle.prdb_finds.proofs.Beside.{inside_same}
-use Rattle.prdb_finds.proofs.Fields.{blanked_len, blanked_stays, unlinked_len}
+use Rattle.prdb_finds.proofs.Fields.{unlinked_len}
 use Rattle.prdb_finds.proofs.Lookups.{same_block}
 use Rattle.prdb_finds.proofs.Without.{unchained_block, unchained_count, unchained_head, unchained_len}
 
@@ -37,21 +38,6 @@ same_image u v n len_u len_v head blocks =
     (cases_lt i 2112))
 
 -- ---- the head
-
-laid_len : (image bytes : List ℕ) (at : ℕ) → at + length bytes ≤ length image → length (laid image at bytes) ≡ length image
-unfolding laid
-laid_len image bytes at within = grind (arith, places)
-
-laid_out : (image bytes : List ℕ) (at i : ℕ) → at + length bytes ≤ length image → (i < at) ⊎ (at + length bytes ≤ i)
-    → slice_index (laid image at bytes) i ≡ slice_index image i
-unfolding laid
-laid_out image bytes at i within beside =
-    ⊎_elim (λ (before : i < at). grind (arith, places)) (λ (behind : at + length bytes ≤ i). grind (arith, places)) beside
-
-laid_in : (image bytes : List ℕ) (at i : ℕ) → at + length bytes ≤ length image → at ≤ i → i < at + length bytes
-    → slice_index (laid image at bytes) i ≡ slice_index bytes (i - at)
-unfolding laid
-laid_in image bytes at i within from below = grind (arith, places)
 
 -- a byte that stands in no chain
 head_byte : (h : List ℕ) (i : ℕ) → length h ≡ 2112 → (i < 20) ⊎ ((24 ≤ i) × (i < 64))

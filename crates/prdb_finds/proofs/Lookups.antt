@@ -9,7 +9,7 @@ use Rattle.std.proofs.lemmas.Bool.Decides.{Decides-int_eq}
 use Rattle.std.proofs.lemmas.Slice.Eq.{bytes_eq-Decides}
 use Rattle.db_image.specs.declared.faults.RecordFault.{RecordFault}
 use Rattle.db_image.specs.declared.faults.RecordFault.TheVariants.{DiskFault, BadRecord, NoMemory}
-use Rattle.db_blocks.specs.Blocks.{IsWhole, block_in as any_block}
+use Rattle.db_blocks.specs.Blocks.{IsWhole, block_in as any_block, kind_of}
 use Rattle.db_blocks.specs.Ends.{HasCause}
 use Rattle.db_chains.specs.declared.links.Links.{Links}
 use Rattle.db_chains.specs.Chains.{HasChain}
@@ -17,16 +17,17 @@ use Rattle.db_chains.specs.Ends.{HasSome}
 use Rattle.db_chains.specs.Links.{block_of}
 use Rattle.db_chains.specs.Walks.{first_met, meets}
 use Rattle.db_chains.proofs.Words.{right_names}
+use Rattle.db_chains.specs.Keys.{name_key}
 use Rattle.prdb_layout.specs.Blocks.{block_count, block_name}
 use Rattle.prdb_layout.specs.RecordEnds.{seen}
-use Rattle.prdb_layout.specs.Records.{block_in, entry_in, has_id, has_name, kind_of}
+use Rattle.prdb_layout.specs.Records.{block_in, entry_in, has_id, has_name}
 use Rattle.prdb_layout.specs.Registry.{IsNamed, Registry}
 use Rattle.prdb_layout.specs.State.{PrEntry}
 use Rattle.prdb_layout.specs.declared.records.PrEntry.{PrEntry as CodeEntry}
 use Rattle.prdb_layout.proofs.Lookups.{id_parts}
 use Rattle.prdb_lists.specs.Members.{Members}
 use Rattle.prdb_finds.specs.Ends.{HoldsSome}
-use Rattle.prdb_finds.specs.Keys.{id_chain, id_key, name_chain, name_key}
+use Rattle.prdb_finds.specs.Keys.{id_chain, id_key, name_chain}
 use Rattle.prdb_finds.specs.Places.{id_links, name_links}
 use Rattle.prdb_finds.specs.Records.{Holds, whole}
 use Rattle.prdb_finds.specs.Sought.{IsRead}

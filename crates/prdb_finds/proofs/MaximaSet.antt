@@ -8,7 +8,7 @@ use Rattle.ubik_types.specs.declared.images.Change.TheVariants.{Put}
 use Rattle.db_image.specs.Draft.{Drafted, put_cost}
 use Rattle.db_image.specs.declared.images.ImageRead.{Ghosts}
 use Rattle.db_image.specs.declared.services.Layout.{Layout}
-use Rattle.db_blocks.specs.Blocks.{IsWhole, block_in as any_block}
+use Rattle.db_blocks.specs.Blocks.{IsWhole, block_in as any_block, word_at, kind_of}
 use Rattle.db_chains.specs.declared.links.Links.{Links}
 use Rattle.db_chains.specs.Chains.{HasChain}
 use Rattle.db_chains.specs.Ends.{DraftsAtMost, LooksAtMost}
@@ -21,8 +21,9 @@ use Rattle.db_chains.proofs.Results.{drafts_on}
 use Rattle.db_chains.proofs.Framed.{block_stays, block_word, named_stays}
 use Rattle.db_chains.proofs.Words.{right_names}
 use Rattle.prdb_layout.specs.Blocks.{block_count}
-use Rattle.prdb_layout.specs.Bytes.{bits, word, word_at}
-use Rattle.prdb_layout.specs.Records.{after_set_maxima as entries_after, block_in, entry_in, kind_of, maxima_in, whole as entries_whole}
+use Rattle.db_blocks.specs.Bytes.{word}
+use Rattle.prdb_layout.specs.Bytes.{bits}
+use Rattle.prdb_layout.specs.Records.{after_set_maxima as entries_after, block_in, entry_in, maxima_in, whole as entries_whole}
 use Rattle.prdb_layout.specs.Registry.{AreMaxima, Registry, with_maxima}
 use Rattle.prdb_layout.specs.State.{PrEntry}
 use Rattle.prdb_layout.proofs.Held.{maxima_of}

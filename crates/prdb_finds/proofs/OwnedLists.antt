@@ -9,7 +9,7 @@ use Rattle.db_image.specs.declared.faults.RecordFault.{RecordFault}
 use Rattle.db_image.specs.declared.faults.RecordFault.TheVariants.{DiskFault, BadRecord, NoMemory}
 use Rattle.db_image.specs.declared.images.ImageRead.{Ghosts}
 use Rattle.db_image.proofs.ReadSteps.{asks_then}
-use Rattle.db_blocks.specs.Blocks.{block_in as any_block}
+use Rattle.db_blocks.specs.Blocks.{block_in as any_block, word_at, kind_of}
 use Rattle.db_blocks.specs.Ends.{HasCause}
 use Rattle.db_chains.specs.declared.walks.Link.{Link}
 use Rattle.db_chains.specs.Along.{StandAlong, to_end}
@@ -21,14 +21,13 @@ use Rattle.db_chains.specs.Walks.{IsBad, IsFound, first_met, meets, stop_place}
 use Rattle.db_chains.proofs.Counted.{chain_unique}
 use Rattle.db_chains.proofs.Words.{right_names}
 use Rattle.prdb_layout.specs.Blocks.{block_count}
-use Rattle.prdb_layout.specs.Bytes.{word_at}
 use Rattle.prdb_layout.specs.RecordEnds.{HasCause as HasEntryCause, seen}
-use Rattle.prdb_layout.specs.Records.{Holds as HoldsEntries, block_in, entry_in, has_id, kind_of}
+use Rattle.prdb_layout.specs.Records.{Holds as HoldsEntries, block_in, entry_in, has_id}
 use Rattle.prdb_layout.specs.Registry.{Registry}
 use Rattle.prdb_layout.specs.State.{PrEntry}
 use Rattle.prdb_layout.specs.declared.records.PrEntry.{PrEntry as CodeEntry}
 use Rattle.prdb_layout.proofs.Lookups.{id_parts}
-use Rattle.prdb_lists.specs.Lists.{IsAscending, IsListOf}
+use Rattle.entry_scans.specs.Lists.{IsAscending, IsListOf}
 use Rattle.prdb_lists.specs.Members.{IsOwned, Members}
 use Rattle.prdb_finds.specs.Ends.{HoldsSome}
 use Rattle.prdb_finds.specs.Keys.{id_chain}

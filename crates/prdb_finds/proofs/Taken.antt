@@ -2,11 +2,9 @@
 use Rattle.std.proofs.Common.{◌≡◌, ◌≢◌, ℕ, ◌+◌, ◌-◌, ◌*◌, ◌/◌, ◌^◌, ◌<◌, ◌≤◌, ◌⊎◌, inl, inr, ⊎_elim, Bool, false, cond, List, [], ◌∷◌, length, drop, refl, sym, ap, subst, ◌∙◌, arith}
 use Rattle.std.specs.List.{Contains}
 use Rattle.std.proofs.lemmas.Bool.{cases_eq, eq-eqb, ne_eqb}
-use Rattle.ubik_types.specs.Image.{changed}
-use Rattle.ubik_types.specs.declared.images.Change.TheVariants.{Put}
-use Rattle.db_blocks.specs.Blocks.{IsWhole, with_block as any_with, word_at}
+use Rattle.db_blocks.specs.Blocks.{IsWhole, with_block as any_with, word_at, kind_of}
 use Rattle.db_blocks.specs.Bytes.{number_word}
-use Rattle.db_blocks.proofs.Numbers.{number_fits}
+use Rattle.db_blocks.proofs.FirstBlocks.{first_at, first_none}
 use Rattle.db_chains.specs.Chains.{HasChain}
 use Rattle.db_chains.specs.Changes.{put_word, taken_out}
 use Rattle.db_chains.specs.Free.{AreFree, AreNotFree, IsAscending, IsTaken, free_links, next_number, with_new, with_taken}
@@ -17,9 +15,8 @@ use Rattle.db_chains.proofs.Framed.{block_mark, block_stays}
 use Rattle.db_chains.proofs.Free.{IsOut, is_out, taken_first, taken_new}
 use Rattle.db_chains.proofs.Words.{right, right_names, right_some}
 use Rattle.prdb_layout.specs.Blocks.{block_count}
-use Rattle.prdb_layout.specs.Records.{block_in, is_free, kind_of, next_block, with_block, with_count}
+use Rattle.prdb_layout.specs.Records.{block_in, is_free, next_block, with_block, with_count}
 use Rattle.prdb_layout.proofs.BlockPlaces.{add_block}
-use Rattle.prdb_layout.proofs.FirstBlocks.{first_at, first_none}
 use Rattle.prdb_finds.specs.Places.{entry_links, free_blocks}
 use Rattle.prdb_finds.specs.Records.{HasFree}
 use Rattle.prdb_finds.specs.Unchained.{unchained, unlinked}
@@ -112,29 +109,28 @@ no_words old [] none chain = refl
 no_words old (w ∷ ws) none chain =
     absurd (right_some (free_links free_blocks) old w (omega arith) chain.1 (sym chain.0 ∙ none))
 
-new_form : (old block : List ℕ) → IsWhole 2112 old → length old < 2 ^ 31 → length block ≡ 192
+new_form : (old block : List ℕ) → IsWhole 2112 old → length block ≡ 192
     → unchained (with_new free_blocks (block_count old) block old)
     ≡ with_count (block_count old + 1) (with_block (block_count old) (unlinked block) (unchained old))
 unfolding with_new put_word
-new_form old block whole short len =
+new_form old block whole len =
     let n = block_count old in
     let mid = with_block n block old in
     let put = add_block old block n whole len in
     let whole_mid : IsWhole 2112 mid = omega (arith, put.size) in
     head_laid mid (number_word (n + 1)) 16 whole_mid (omega arith)
-    ∙ ap (λ (b : List ℕ). changed (unchained mid) (Put 16 b)) (number_fits (n + 1) (omega (arith, short)))
     ∙ ap (with_count (n + 1)) (block_added old block whole len)
 
-made_new : (old block : List ℕ) → IsWhole 2112 old → length old < 2 ^ 31 → length block ≡ 192 → HasFree old → word_at old 20 ≡ 0
+made_new : (old block : List ℕ) → IsWhole 2112 old → length block ≡ 192 → HasFree old → word_at old 20 ≡ 0
     → IsMade old block (block_count old + 1) (with_new free_blocks (block_count old) block old)
-made_new old block whole short len f none =
+made_new old block whole len f none =
     let n = block_count old in
     let back : n + 1 - 1 ≡ n = omega arith in record {
       taken = taken_new free_blocks block old n free_all whole len none;
       free = λ k below same. absurd (omega (arith, below, same));
       most = omega arith;
       least = none_free old whole f (no_words old f.words none f.chain) ∙ sym back;
-      form = inr (refl, new_form old block whole short len);
+      form = inr (refl, new_form old block whole len);
     }
 
 -- ---- the first free block
@@ -199,15 +195,15 @@ made_first old block w whole len f is some =
 
 -- ---- what `take_block` makes
 
-pub is_made : (old block : List ℕ) → IsWhole 2112 old → length old < 2 ^ 31 → length block ≡ 192 → HasFree old
+pub is_made : (old block : List ℕ) → IsWhole 2112 old → length block ≡ 192 → HasFree old
     → IsMade old block (next_number free_blocks old) (with_taken free_blocks block old)
 unfolding with_taken
-is_made old block whole short len f =
+is_made old block whole len f =
     let w = word_at old 20 in
     let made = with_new free_blocks (block_count old) block old in
     let used = any_with 2112 (w - 1) block (taken_out (free_links free_blocks) 20 old) in
     let At : Bool → Type 0 = λ b. IsMade old block (cond b (block_count old + 1) w) (cond b made used) in
     ⊎_elim
-    (λ (none : w ≡ 0). subst At (sym (eq-eqb w 0 none)) (made_new old block whole short len f none))
+    (λ (none : w ≡ 0). subst At (sym (eq-eqb w 0 none)) (made_new old block whole len f none))
     (λ (some : w ≢ 0). subst At (sym (ne_eqb w 0 some)) (made_first old block w whole len f refl (omega (arith, some))))
     (cases_eq w 0)

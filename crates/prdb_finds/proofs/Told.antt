@@ -1,7 +1,8 @@
 -- What an image that holds a registry tells of its entries, and an image that is read whole.
 use Rattle.std.proofs.Common.{◌≡◌, ℕ, ℤ, ◌<◌, List, [], ◌∷◌, Some, length, sym, ap, subst, ◌∙◌, refl, arith}
+use Rattle.db_blocks.specs.Blocks.{kind_of}
 use Rattle.prdb_layout.specs.Blocks.{block_count}
-use Rattle.prdb_layout.specs.Records.{block_in, entry_in, IsLaidOut, kind_of, registry_in}
+use Rattle.prdb_layout.specs.Records.{block_in, entry_in, IsLaidOut, registry_in}
 use Rattle.prdb_layout.specs.Registry.{Registry}
 use Rattle.prdb_layout.specs.State.{PrEntry}
 use Rattle.prdb_layout.proofs.LaidOut.{whole_same as entries_same}

@@ -2,12 +2,13 @@
 use Rattle.std.proofs.Common.{◌≡◌, ℕ, zero, suc, ◌+◌, ◌*◌, ◌<◌, ◌≤◌, List, ◌++◌, length, take, drop, refl, sym, ap, ◌∙◌, arith}
 use Rattle.std.specs.List.{flat_map, range_with_len}
 use Rattle.std.proofs.lemmas.List.{drop-drop, drop_at, length-append, length-take-le, take_at}
-use Rattle.db_blocks.specs.Blocks.{IsWhole}
+use Rattle.db_blocks.specs.Blocks.{IsWhole, kind_of, blanked}
+use Rattle.db_chains.proofs.Bytes.{blanked_len}
 use Rattle.prdb_layout.specs.Blocks.{block_count}
-use Rattle.prdb_layout.specs.Records.{block_in, entry_in, kind_of}
+use Rattle.prdb_layout.specs.Records.{block_in, entry_in}
 use Rattle.prdb_layout.proofs.BlockPlaces.{block_len}
-use Rattle.prdb_finds.specs.Unchained.{blanked, unchained, unlinked, unlinked_head}
-use Rattle.prdb_finds.proofs.Fields.{blanked_len, unlinked_entry, unlinked_kind, unlinked_len}
+use Rattle.prdb_finds.specs.Unchained.{unchained, unlinked, unlinked_head}
+use Rattle.prdb_finds.proofs.Fields.{unlinked_entry, unlinked_kind, unlinked_len}
 
 -- ---- parts of one length, one behind the other
 

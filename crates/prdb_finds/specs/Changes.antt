@@ -5,7 +5,8 @@ use Rattle.ubik_types.specs.Image.{changed}
 use Rattle.ubik_types.specs.declared.images.Change.TheVariants.{Put}
 use Rattle.db_image.specs.Draft.{put_cost}
 use Rattle.db_image.specs.declared.services.Layout.{Layout}
-use Rattle.prdb_layout.specs.Bytes.{bits, word}
+use Rattle.db_blocks.specs.Bytes.{word}
+use Rattle.prdb_layout.specs.Bytes.{bits}
 use Rattle.prdb_layout.specs.Records.{maxima_in}
 use Rattle.prdb_finds.specs.Records.{whole}
 

@@ -1,11 +1,8 @@
 -- Which chain a name or an id stands in (own).
-use Rattle.std.specs.Prelude.{ℕ, ℤ, ◌%◌, List, sum}
+use Rattle.std.specs.Prelude.{ℕ, ℤ, ◌%◌, List}
+use Rattle.db_chains.specs.Keys.{name_key}
 use Rattle.prdb_layout.specs.Bytes.{bits}
 use Rattle.prdb_finds.specs.Places.{id_place, name_place}
-
--- the sum of the bytes of a name, modulo the number of chains
-abbrev pub name_key : List ℕ → ℕ
-name_key name = sum name % 256
 
 -- an id, with 2 ^ 32 added where it is negative, modulo the number of chains
 abbrev pub id_key : ℤ → ℕ

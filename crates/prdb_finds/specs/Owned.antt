@@ -7,7 +7,7 @@ use Rattle.db_chains.specs.Walks.{IsBad}
 use Rattle.prdb_layout.specs.Blocks.{block_count}
 use Rattle.prdb_layout.specs.Records.{block_in, entry_in, has_id}
 use Rattle.prdb_layout.specs.Registry.{Registry}
-use Rattle.prdb_lists.specs.Lists.{IsListOf}
+use Rattle.entry_scans.specs.Lists.{IsListOf}
 use Rattle.prdb_lists.specs.Members.{IsOwned}
 use Rattle.prdb_finds.specs.Keys.{id_chain}
 use Rattle.prdb_finds.specs.Places.{id_links, owned_links, owned_place}

@@ -1,9 +1,10 @@
 -- How the words of the chains stand in the blocks, and where those of a key begin (own). A word is the number of a block.
 use Rattle.std.specs.Prelude.{ℕ, ◌≡◌, ◌+◌, ◌*◌, ◌<◌, ◌≤◌, ◌⊎◌, List}
+use Rattle.db_blocks.specs.Blocks.{kind_of}
 use Rattle.db_chains.specs.declared.free_blocks.FreeBlocks.{FreeBlocks}
 use Rattle.db_chains.specs.declared.links.Links.{Links}
 use Rattle.prdb_layout.specs.Blocks.{block_count}
-use Rattle.prdb_layout.specs.Records.{block_in, block_place, kind_of}
+use Rattle.prdb_layout.specs.Records.{block_in, block_place}
 
 -- chains of entries, whose next words stand at an offset of their blocks
 abbrev pub entry_links : (next : ℕ) → Links

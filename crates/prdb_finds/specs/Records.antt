@@ -1,20 +1,20 @@
 -- How an image holds the protection database with its chains (layout of format 1).
 use Rattle.std.specs.Prelude.{ℕ, ℤ, pos, ◌≡◌, ◌≢◌, ◌+◌, ◌-◌, ◌<◌, ◌≤◌, ◌<ℤ◌, List, [], ◌∷◌}
 use Rattle.std.specs.List.{Contains}
-use Rattle.db_blocks.specs.Blocks.{IsWhole}
+use Rattle.db_blocks.specs.Blocks.{IsWhole, word_at, kind_of}
 use Rattle.db_chains.specs.Chains.{HasChain}
 use Rattle.db_chains.specs.Free.{IsAscending, free_links}
 use Rattle.db_chains.specs.Visits.{Visits}
+use Rattle.db_chains.specs.Keys.{name_key}
 use Rattle.prdb_layout.specs.Blocks.{block_count}
-use Rattle.prdb_layout.specs.Bytes.{word_at}
-use Rattle.prdb_layout.specs.Records.{block_in, entry_in, kind_of}
+use Rattle.prdb_layout.specs.Records.{block_in, entry_in}
 use Rattle.prdb_layout.specs.Registry.{Registry}
 use Rattle.prdb_layout.specs.State.{PrEntry}
 use Rattle.prdb_layout.specs.declared.blocks.TheConstants.{HEAD_LEN}
 use Rattle.prdb_lists.specs.Layout.{HoldsPairs}
 use Rattle.prdb_lists.specs.Members.{Members}
 use Rattle.prdb_finds.specs.First.{first_image}
-use Rattle.prdb_finds.specs.Keys.{id_key, name_key}
+use Rattle.prdb_finds.specs.Keys.{id_key}
 use Rattle.prdb_finds.specs.Places.{free_blocks, id_links, id_place, name_links, name_place, owned_links, owned_place}
 use Rattle.prdb_finds.specs.Unchained.{unchained}
 

@@ -1,16 +1,10 @@
--- An image without the words of its chains: what is said of images without chains is said of it.
+-- An image without the words of its chains: what prdb_layout and prdb_lists say of images is said of it.
 use Rattle.std.specs.Prelude.{ℕ, ◌==◌, List, ◌++◌, take, if◌then◌else◌}
 use Rattle.std.specs.List.{flat_map, range_with_len}
-use Rattle.ubik_types.specs.Image.{changed}
-use Rattle.ubik_types.specs.declared.images.Change.TheVariants.{Put}
 use Rattle.prdb_layout.specs.Blocks.{block_count}
-use Rattle.prdb_layout.specs.Bytes.{zeros}
-use Rattle.prdb_layout.specs.Records.{block_in, kind_of}
+use Rattle.db_blocks.specs.Blocks.{kind_of, blanked}
+use Rattle.prdb_layout.specs.Records.{block_in}
 use Rattle.prdb_layout.specs.declared.blocks.TheConstants.{HEAD_LEN}
-
--- bytes with so many zero bytes laid from a position on
-abbrev pub blanked : (at len : ℕ) → List ℕ → List ℕ
-blanked at len bytes = changed bytes (Put at (zeros len))
 
 -- the head without the first free block, and without the first words of the chains of names and ids
 unfoldable pub unlinked_head : List ℕ → List ℕ

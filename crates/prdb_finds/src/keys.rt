@@ -1,6 +1,7 @@
 //! The keys of chains: each name and each id has one of 256.
 ghost use Rattle.std.specs.Prelude.{◌≡◌, ◌<◌};
-ghost use Rattle.prdb_finds.specs.Keys.{id_key, name_key};
+ghost use Rattle.db_chains.specs.Keys.{name_key};
+ghost use Rattle.prdb_finds.specs.Keys.{id_key};
 
 /// How many chains there are of names, and how many of ids.
 const CHAINS: u32 = 256;

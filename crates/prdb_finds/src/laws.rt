@@ -1,13 +1,12 @@
 //! What the layout says of images.
 ghost use Rattle.std.specs.Prelude.{◌≡◌, ◌+◌, ◌<◌, ◌≤◌, ◌⊎◌, ℕ, ℤ, pos, negsuc, true, List, [], codes};
-ghost use Rattle.db_blocks.specs.Blocks.{IsWhole};
+ghost use Rattle.db_blocks.specs.Blocks.{IsWhole, word_at, kind_of};
 ghost use Rattle.db_chains.specs.Changes.{put_in, put_word, taken_out};
 ghost use Rattle.db_chains.specs.Free.{AreFree, AreNotFree};
 ghost use Rattle.db_chains.specs.Links.{is_right};
 ghost use Rattle.db_chains.specs.Others.{AreOtherSorts};
 ghost use Rattle.prdb_layout.specs.Blocks.{block_count};
-ghost use Rattle.prdb_layout.specs.Bytes.{word_at};
-ghost use Rattle.prdb_layout.specs.Records.{block_in, block_place, kind_of, registry_in};
+ghost use Rattle.prdb_layout.specs.Records.{block_in, block_place, registry_in};
 ghost use Rattle.prdb_layout.specs.Registry.{Registry, first_registry};
 ghost use Rattle.prdb_lists.specs.Members.{Members, no_members};
 ghost use Rattle.prdb_finds.specs.Keys.{id_chain, name_chain};

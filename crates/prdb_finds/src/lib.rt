@@ -1,4 +1,4 @@
-//! The protection database's records over a draft: its entries, found by chains of their names and ids, and the two maxima.
+//! The protection database's entries over a draft, found by the chains of their names, ids and owners, and the two maxima.
 #![tactic(auto)]
 
 mod changes;

@@ -12,7 +12,7 @@ ghost use Rattle.db_chains.specs.Sought.{EndsChain};
 ghost use Rattle.db_chains.specs.Walks.{IsBad};
 ghost use Rattle.prdb_layout.specs.Records.{has_id};
 ghost use Rattle.prdb_layout.specs.Registry.{Registry};
-ghost use Rattle.prdb_lists.specs.Lists.{IsAscending};
+ghost use Rattle.entry_scans.specs.Lists.{IsAscending};
 ghost use Rattle.prdb_lists.specs.Members.{Members};
 ghost use Rattle.prdb_finds.specs.Ends.{HasItsCause};
 ghost use Rattle.prdb_finds.specs.Keys.{id_chain};

@@ -10,9 +10,9 @@ use Rattle.db_blocks.specs.declared.scans.Found.{Found}
 use Rattle.db_chains.specs.Chains.{HasChain}
 use Rattle.db_chains.specs.Free.{free_cost, take_cost}
 use Rattle.prdb_layout.specs.Registry.{Registry}
+use Rattle.entry_scans.specs.Lists.{IsListOf}
 use Rattle.prdb_lists.specs.Changes.{blocks_for}
 use Rattle.prdb_lists.specs.Layout.{PairList}
-use Rattle.prdb_lists.specs.Lists.{IsListOf}
 use Rattle.prdb_lists.specs.Members.{MayLeave, Members, are_paired}
 use Rattle.prdb_lists.specs.Sides.{IsPlace}
 use Rattle.prdb_lists.specs.declared.sides.Place.{Place}

@@ -1,14 +1,12 @@
 -- What a change of a pair makes of a draft, and why it is not made.
-use Rattle.std.proofs.Common.{◌≡◌, ◌≢◌, ℕ, ℤ, ◌+◌, ◌^◌, ◌<◌, ◌≤◌, List, Option, Some, None, IfSome, IsSome, Result, Ok, Err, OnOk, IfErr, length, sym, ap, subst, ◌∙◌, ⊎_elim, arith}
+use Rattle.std.proofs.Common.{◌≡◌, ◌≢◌, ℕ, ℤ, ◌+◌, ◌^◌, ◌<◌, ◌≤◌, List, Option, Some, None, IfSome, IsSome, Result, Ok, Err, OnOk, IfErr, sym, ap, subst, ◌∙◌}
 use Rattle.std.specs.Prelude.{IsSomeAnd}
 use Rattle.std.specs.List.{Contains}
 use Rattle.std.specs.Option.{option_map}
-use Rattle.std.proofs.lemmas.Bool.{cases_lt}
 use Rattle.db_image.specs.declared.faults.RecordFault.{RecordFault}
 use Rattle.db_image.specs.declared.faults.RecordFault.TheVariants.{DiskFault, BadRecord, NoMemory}
 use Rattle.db_blocks.specs.Ends.{HasCause}
 use Rattle.db_chains.proofs.Results.{err_so}
-use Rattle.prdb_layout.specs.Blocks.{block_count}
 use Rattle.prdb_layout.specs.Records.{block_in}
 use Rattle.prdb_layout.specs.Registry.{Registry}
 use Rattle.prdb_lists.specs.Layout.{PairList}
@@ -22,8 +20,6 @@ use Rattle.prdb_lists.proofs.Side.{set_other}
 use Rattle.prdb_lists.proofs.Written.{fault_before}
 use Rattle.prdb_finds.specs.Ends.{HasCauseWhere}
 use Rattle.prdb_finds.specs.Records.{Holds, whole}
-use Rattle.prdb_finds.proofs.FirstChains.{first_len}
-use Rattle.prdb_finds.proofs.Told.{empty_is, whole_same}
 use Rattle.prdb_members.specs.Changes.{after_join, after_part, gained, lost}
 use Rattle.prdb_members.specs.Sides.{HasEntry, HasLists, HoldsLists, HoldsPlace}
 use Rattle.prdb_members.proofs.Joined.{HasHalf, apart, half_joined, join, stands_on}
@@ -60,16 +56,6 @@ pub made_from : (now : Option (List ℕ)) (made after : List ℕ) (r : Registry)
 made_from now made after r m is same holds =
     (is ∙ ap Some same, subst (λ (o : Option (List ℕ)). IsSomeAnd o (λ bytes. Holds bytes r m)) (sym is) holds)
 
--- an image of a draft is not too long
-pub whole_small : (image : List ℕ) → length image < 2 ^ 31 → block_count (whole image) + 2 < 2 ^ 32
-whole_small image short =
-    ⊎_elim
-    (λ (none : length image < 1).
-    let first : length (whole image) ≡ 3264 = ap (λ (i : List ℕ). length (whole i)) (empty_is image (omega arith)) ∙ first_len in
-    omega (arith, first))
-    (λ (some : 1 ≤ length image). let same : length (whole image) ≡ length image = ap length (whole_same image some) in omega (arith, same))
-    (cases_lt (length image) 1)
-
 -- ---- a pair more
 
 abbrev pub Joins : Option (List ℕ) → Option (List ℕ) → (x y : ℤ) → Type 0
@@ -83,11 +69,11 @@ fresh_in image r m p x y h may own at = λ has.
     (h.pairs.each x may.member_there y
     (subst (λ (l : PairList). Contains l.ids y) (list_is (whole image) r h.pairs.lists p x own at) has))
 
-joined_some : (image : List ℕ) (b c d e : Option (List ℕ)) (p q : Place) (x y : ℤ) → length image < 2 ^ 30 → b ≡ Some (whole image) → c ≡ b
+joined_some : (image : List ℕ) (b c d e : Option (List ℕ)) (p q : Place) (x y : ℤ) → b ≡ Some (whole image) → c ≡ b
     → p.entry ≡ x → q.entry ≡ y → Stands b p → Stands b q
     → (¬ Contains p.listed.ids y → d ≡ option_map (gains p y) c) → (¬ Contains q.listed.ids x → e ≡ option_map (gains q x) d)
     → (r : Registry) (m : Members) → Holds image r m → MayJoin x y r m → IsMade e (after_join x y image) r (with_pair x y m)
-joined_some image b c d e p q x y short is same first second at_p at_q one two r m h may =
+joined_some image b c d e p q x y is same first second at_p at_q one two r m h may =
     let w = whole image in
     let hl = lists_of image r m h in
     let w_p = subst (λ (o : Option (List ℕ)). Stands o p) is at_p r h.pairs.lists hl in
@@ -97,7 +83,7 @@ joined_some image b c d e p q x y short is same first second at_p at_q one two r
     (turned m y x
     (h.pairs.each y may.group_there x (subst (λ (l : PairList). Contains l.ids x) (list_is w r h.pairs.lists q y second w_q) has))) in
     let made = join image r m x y p.found.number q.found.number h may (stands w r h.pairs.lists p x first w_p)
-    (stands w r h.pairs.lists q y second w_q) (whole_small image (omega arith)) in
+    (stands w r h.pairs.lists q y second w_q) in
     let a : d ≡ Some (gained p.found.number x (block_in w p.found.number) (h.pairs.lists x) y w) =
     one (fresh_in image r m p x y h may first w_p) ∙ ap (option_map (gains p y)) (same ∙ is)
     ∙ ap Some (gains_at w w r h.pairs.lists p x y first w_p) in
@@ -108,15 +94,15 @@ joined_some image b c d e p q x y short is same first second at_p at_q one two r
     ∙ ap Some (gains_at w (gained p.found.number x (block_in w p.found.number) (h.pairs.lists x) y w) r h.pairs.lists q y x second w_q) in
     made_from e _ (after_join x y image) r (with_pair x y m) b made.0 made.1
 
-pub joined_ok : {T E : Type 0} (r : Result T E) (a b c d e : Option (List ℕ)) (p q : Place) (x y : ℤ) (len : ℕ) → len < 2 ^ 30
-    → IfSome a (λ image. length image ≡ len) → b ≡ option_map whole a → c ≡ b
+pub joined_ok : {T E : Type 0} (r : Result T E) (a b c d e : Option (List ℕ)) (p q : Place) (x y : ℤ)
+    → b ≡ option_map whole a → c ≡ b
     → p.entry ≡ x → q.entry ≡ y
     → Stands b p → Stands b q → (¬ Contains p.listed.ids y → d ≡ option_map (gains p y) c)
     → OnOk r (¬ Contains q.listed.ids x → e ≡ option_map (gains q x) d) → OnOk r (Joins a e x y)
-joined_ok (Err f) a b c d e p q x y len short told is same first second at_p at_q one two = tt
-joined_ok (Ok v) None b c d e p q x y len short told is same first second at_p at_q one two = tt
-joined_ok (Ok v) (Some image) b c d e p q x y len short told is same first second at_p at_q one two =
-    joined_some image b c d e p q x y (omega arith) is same first second at_p at_q one two
+joined_ok (Err f) a b c d e p q x y is same first second at_p at_q one two = tt
+joined_ok (Ok v) None b c d e p q x y is same first second at_p at_q one two = tt
+joined_ok (Ok v) (Some image) b c d e p q x y is same first second at_p at_q one two =
+    joined_some image b c d e p q x y is same first second at_p at_q one two
 
 pub joined_bytes : {T E : Type 0} (r : Result T E) (a e : Option (List ℕ)) (x y : ℤ) → OnOk r (Joins a e x y)
     → OnOk r (IfSome a (λ image. (s : Registry) (m : Members) → Holds image s m → MayJoin x y s m → e ≡ Some (after_join x y image)))
@@ -133,13 +119,13 @@ joined_holds (Ok v) None e x y is = tt
 joined_holds (Ok v) (Some image) e x y is = λ s m h may. (is s m h may).1
 
 -- the image alone
-pub join_holds : (image : List ℕ) (r : Registry) (m : Members) (a b : ℤ) → Holds image r m → MayJoin a b r m → length image < 2 ^ 31
+pub join_holds : (image : List ℕ) (r : Registry) (m : Members) (a b : ℤ) → Holds image r m → MayJoin a b r m
     → Holds (after_join a b image) r (with_pair a b m)
-join_holds image r m a b h may short =
+join_holds image r m a b h may =
     let hl = lists_of image r m h in
     let p = place_of (whole image) r h.pairs.lists a hl may.member_there in
     let q = place_of (whole image) r h.pairs.lists b hl may.group_there in
-    let j = join image r m a b p.k q.k h may p.at q.at (whole_small image short) in
+    let j = join image r m a b p.k q.k h may p.at q.at in
     subst (λ (i : List ℕ). Holds i r (with_pair a b m)) j.0 j.1
 
 pub part_holds : (image : List ℕ) (r : Registry) (m : Members) (a b : ℤ) → Holds image r m → MayLeave a b m
@@ -220,48 +206,48 @@ then_place old one r lists p q x y other first second at_p at_q s there =
     )
 
 half_place : (image : List ℕ) (r : Registry) (m : Members) (p q : Place) (x y : ℤ) (h : Holds image r m) → MayJoin x y r m
-    → length image < 2 ^ 30 → p.entry ≡ x → q.entry ≡ y
+    → p.entry ≡ x → q.entry ≡ y
     → IsPlace (whole image) r h.pairs.lists p → IsPlace (whole image) r h.pairs.lists q → HoldsPlace q x (gains p y (whole image))
-half_place image r m p q x y h may short first second at_p at_q =
+half_place image r m p q x y h may first second at_p at_q =
     let w = whole image in
     let lists = h.pairs.lists in
     let s_p = stands w r lists p x first at_p in
     let s : HasHalf w (gained p.found.number x (block_in w p.found.number) (lists x) y w) r lists x p.found.number =
-    half_joined image r m x y p.found.number h may s_p (whole_small image (omega arith)) in
+    half_joined image r m x y p.found.number h may s_p in
     subst (λ (i : List ℕ). HoldsPlace q x i) (sym (gains_at w w r lists p x y first at_p))
     (then_place w (gained p.found.number x (block_in w p.found.number) (lists x) y w) r lists p q x y
     (up_down x y may.user may.group_id) first second at_p at_q s may.member_there)
 
-two_some : (image : List ℕ) (b c d : Option (List ℕ)) (p q : Place) (x y : ℤ) (at : ℕ) → length image < 2 ^ 30 → b ≡ Some (whole image)
+two_some : (image : List ℕ) (b c d : Option (List ℕ)) (p q : Place) (x y : ℤ) (at : ℕ) → b ≡ Some (whole image)
     → c ≡ b → p.entry ≡ x → q.entry ≡ y → Stands b p → Stands b q
     → (¬ Contains p.listed.ids y → d ≡ option_map (gains p y) c) → HasCause d (HoldsPlace q x) (BadRecord at) → HoldsJoin x y image → ⊥
-two_some image b c d p q x y at short is same first second at_p at_q one cause j =
+two_some image b c d p q x y at is same first second at_p at_q one cause j =
     let hl = lists_of image j.0 j.1 j.2 in
     let w_p = subst (λ (o : Option (List ℕ)). Stands o p) is at_p j.0 j.2.pairs.lists hl in
     let w_q = subst (λ (o : Option (List ℕ)). Stands o q) is at_q j.0 j.2.pairs.lists hl in
     let d_is : d ≡ Some (gains p y (whole image)) =
     one (fresh_in image j.0 j.1 p x y j.2 j.3 first w_p) ∙ ap (option_map (gains p y)) (same ∙ is) in
     let none = subst (λ (o : Option (List ℕ)). HasCause o (HoldsPlace q x) (BadRecord at)) d_is cause in
-    none (half_place image j.0 j.1 p q x y j.2 j.3 short first second w_p w_q)
+    none (half_place image j.0 j.1 p q x y j.2 j.3 first second w_p w_q)
 
-join_two_fault : (a b c d : Option (List ℕ)) (p q : Place) (x y : ℤ) (len : ℕ) (fault : RecordFault) → len < 2 ^ 30
-    → IfSome a (λ image. length image ≡ len) → b ≡ option_map whole a → c ≡ b
+join_two_fault : (a b c d : Option (List ℕ)) (p q : Place) (x y : ℤ) (fault : RecordFault)
+    → b ≡ option_map whole a → c ≡ b
     → p.entry ≡ x → q.entry ≡ y → Stands b p → Stands b q
     → (¬ Contains p.listed.ids y → d ≡ option_map (gains p y) c) → HasCause d (HoldsPlace q x) fault → HasCauseWhere (MayJoin x y) a fault
-join_two_fault a b c d p q x y len DiskFault short told is same first second at_p at_q one cause = tt
-join_two_fault a b c d p q x y len NoMemory short told is same first second at_p at_q one cause = tt
-join_two_fault None b c d p q x y len (BadRecord at) short told is same first second at_p at_q one cause = tt
-join_two_fault (Some image) b c d p q x y len (BadRecord at) short told is same first second at_p at_q one cause =
-    two_some image b c d p q x y at (omega arith) is same first second at_p at_q one cause
+join_two_fault a b c d p q x y DiskFault is same first second at_p at_q one cause = tt
+join_two_fault a b c d p q x y NoMemory is same first second at_p at_q one cause = tt
+join_two_fault None b c d p q x y (BadRecord at) is same first second at_p at_q one cause = tt
+join_two_fault (Some image) b c d p q x y (BadRecord at) is same first second at_p at_q one cause =
+    two_some image b c d p q x y at is same first second at_p at_q one cause
 
-pub join_two_err : {T : Type 0} (r : Result T RecordFault) (a b c d : Option (List ℕ)) (p q : Place) (x y : ℤ) (len : ℕ) → len < 2 ^ 30
-    → IfSome a (λ image. length image ≡ len) → b ≡ option_map whole a
+pub join_two_err : {T : Type 0} (r : Result T RecordFault) (a b c d : Option (List ℕ)) (p q : Place) (x y : ℤ)
+    → b ≡ option_map whole a
     → c ≡ b → p.entry ≡ x → q.entry ≡ y → Stands b p → Stands b q
     → (¬ Contains p.listed.ids y → d ≡ option_map (gains p y) c) → IfErr r (HasCause d (HoldsPlace q x))
     → IfErr r (HasCauseWhere (MayJoin x y) a)
-join_two_err r a b c d p q x y len short told is same first second at_p at_q one err =
+join_two_err r a b c d p q x y is same first second at_p at_q one err =
     err_so r (HasCause d (HoldsPlace q x)) (HasCauseWhere (MayJoin x y) a) err
-    (λ fault cause. join_two_fault a b c d p q x y len fault short told is same first second at_p at_q one cause)
+    (λ fault cause. join_two_fault a b c d p q x y fault is same first second at_p at_q one cause)
 
 -- ---- a pair less
 

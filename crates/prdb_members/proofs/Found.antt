@@ -14,10 +14,10 @@ use Rattle.prdb_layout.specs.Records.{IsLaidOut, whole as entries_whole}
 use Rattle.prdb_layout.specs.Registry.{Registry}
 use Rattle.prdb_layout.specs.State.{PrEntry}
 use Rattle.prdb_layout.proofs.LaidOut.{whole_same as entries_same}
+use Rattle.entry_scans.specs.Lists.{IsListOf}
 use Rattle.prdb_lists.specs.Changes.{blocks_for}
 use Rattle.prdb_lists.specs.Found.{IsFound}
 use Rattle.prdb_lists.specs.Layout.{AreLists, HoldsPairs, IsListed, PairList}
-use Rattle.prdb_lists.specs.Lists.{IsListOf}
 use Rattle.prdb_lists.specs.Members.{Members, are_paired}
 use Rattle.prdb_lists.specs.declared.listed.Listed.{Listed}
 use Rattle.prdb_lists.proofs.ListFound.{first_has_none, has_of, is_first_or, no_list, none_or, none_paired, same_truth, whole_none}

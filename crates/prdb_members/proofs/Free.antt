@@ -3,7 +3,7 @@ use Rattle.std.proofs.Common.{◌≡◌, ◌≢◌, ℕ, zero, suc, ◌+◌, ◌
 use Rattle.std.specs.Prelude.{slice_get, unwrap_or}
 use Rattle.std.specs.List.{AllByRecursion, Contains}
 use Rattle.std.proofs.lemmas.List.Elements.{Contains-append_cases, Contains-append_right}
-use Rattle.db_blocks.specs.Blocks.{IsWhole, block_in as any_block}
+use Rattle.db_blocks.specs.Blocks.{IsWhole, block_in as any_block, kind_of}
 use Rattle.db_chains.specs.Chains.{HasChain}
 use Rattle.db_chains.specs.Free.{IsAscending, IsTaken, free_links}
 use Rattle.db_chains.specs.Links.{block_of, next_place}
@@ -11,7 +11,7 @@ use Rattle.db_chains.specs.Others.{NamesSame}
 use Rattle.db_chains.proofs.Counted.{others_behind}
 use Rattle.db_chains.proofs.Framed.{head_word, named_stays}
 use Rattle.prdb_layout.specs.Blocks.{block_count}
-use Rattle.prdb_layout.specs.Records.{block_in, kind_of}
+use Rattle.prdb_layout.specs.Records.{block_in}
 use Rattle.prdb_layout.proofs.BlockPlaces.{block_len}
 use Rattle.prdb_lists.specs.Layout.{PairList}
 use Rattle.prdb_lists.proofs.Gains.{one_of}

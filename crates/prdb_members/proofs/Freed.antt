@@ -4,8 +4,8 @@ use Rattle.std.specs.Prelude.{◌⊎◌}
 use Rattle.std.specs.List.{AllByRecursion, Contains}
 use Rattle.std.proofs.lemmas.Bool.{cases_eq}
 use Rattle.std.proofs.lemmas.List.Elements.{Contains-append_cases, Contains-append_left, Contains-append_right}
-use Rattle.db_blocks.specs.Blocks.{IsWhole}
-use Rattle.db_blocks.specs.Bytes.{zeros as any_zeros}
+use Rattle.db_blocks.specs.Blocks.{IsWhole, word_at, kind_of}
+use Rattle.db_blocks.specs.Bytes.{zeros}
 use Rattle.db_chains.specs.Chains.{HasChain}
 use Rattle.db_chains.specs.Changes.{place_above, put_in, put_word}
 use Rattle.db_chains.specs.Free.{IsAscending, IsFreed, blank, free_links, put_among, with_freed}
@@ -15,8 +15,7 @@ use Rattle.db_chains.proofs.Bytes.{word_len}
 use Rattle.db_chains.proofs.Freed.{Split, freed, split}
 use Rattle.db_chains.proofs.Stops.{above_behind}
 use Rattle.prdb_layout.specs.Blocks.{block_count}
-use Rattle.prdb_layout.specs.Bytes.{word_at, zeros}
-use Rattle.prdb_layout.specs.Records.{block_in, block_place, entry_in, kind_of, with_block}
+use Rattle.prdb_layout.specs.Records.{block_in, block_place, entry_in, with_block}
 use Rattle.prdb_layout.proofs.BlockPlaces.{IsPut, put_block}
 use Rattle.prdb_layout.proofs.LaidOut.{count_is, zero_kind}
 use Rattle.prdb_lists.proofs.RecordsKeep.{zeros_len}
@@ -40,7 +39,7 @@ put_behind x image n at (b ∷ below) more chain here each =
     put_behind x image n (next_place (free_links free_blocks) b) below more chain.2 (each b (names_of 0 4 image b chain.1)) each
 
 blank_zeros : blank free_blocks ≡ zeros 192
-unfolding any_zeros zeros
+unfolding zeros
 blank_zeros = refl
 
 freed_is : (image : List ℕ) (f p : ℕ) → place_above (free_links free_blocks) 20 (f + 1) image ≡ p

@@ -6,11 +6,12 @@ use Rattle.std.proofs.lemmas.Bool.Decides.{Decides-int_eq}
 use Rattle.std.proofs.lemmas.List.Elements.{Contains-append_cases}
 use Rattle.db_chains.specs.Free.{IsTaken, next_number, with_taken}
 use Rattle.prdb_layout.specs.Blocks.{block_count}
-use Rattle.prdb_layout.specs.Bytes.{zeros}
-use Rattle.prdb_layout.specs.Records.{block_in, entry_in, has_id, kind_of, next_block}
+use Rattle.db_blocks.specs.Bytes.{zeros}
+use Rattle.db_blocks.specs.Blocks.{kind_of}
+use Rattle.db_blocks.proofs.FirstBlocks.{first_at}
+use Rattle.prdb_layout.specs.Records.{block_in, entry_in, has_id, next_block}
 use Rattle.prdb_layout.specs.Registry.{Registry}
 use Rattle.prdb_layout.proofs.BlockPlaces.{block_len}
-use Rattle.prdb_layout.proofs.FirstBlocks.{first_at}
 use Rattle.prdb_layout.proofs.LaidOut.{zero_kind}
 use Rattle.prdb_layout.proofs.Lookups.{id_parts}
 use Rattle.prdb_lists.specs.Changes.{blocks_for, gained as plain_gained, list_in, place_in, relisted, with_free}
@@ -136,10 +137,10 @@ side_same image r lists x k l h at blocks =
 -- ---- a block more
 
 mid_taken : (image : List ℕ) (r : Registry) (lists : ℤ → PairList) (x : ℤ) (k : ℕ) → HasLists image r lists
-    → StandsAt image x k → IsSome (r.entry x) → block_count image + 1 < 2 ^ 32
+    → StandsAt image x k → IsSome (r.entry x)
     → IsMid image (with_taken free_blocks (zeros 192) image) (with_free (unchained image))
     ((lists x).more ++ (next_number free_blocks image - 1) ∷ [])
-mid_taken image r lists x k h at there small =
+mid_taken image r lists x k h at there =
     let c = block_count image in
     let n = next_number free_blocks image in
     let free = h.chains.free in
@@ -158,7 +159,7 @@ mid_taken image r lists x k h at there small =
     ∙ same_block image j in
     record {
       keeps = keeps_taken image (zeros 192) mid n h.size taken (λ one. omega (arith, one, zero_kind)) spare;
-      same = taken_zero image free.words r h.size h.without.laid small free.chain free.ascending free.each;
+      same = taken_zero image free.words r h.size h.without.laid free.chain free.ascending free.each;
       stays = λ j below one. stays j below (λ none. omega (arith, none, one));
       free = free_taken image (zeros 192) mid old n h.size free taken spare used;
       below = λ j has. elim (Contains-append_cases old ((n - 1) ∷ []) j has) [
@@ -179,13 +180,13 @@ mid_taken image r lists x k h at there small =
     }
 
 gain_one : (image : List ℕ) (r : Registry) (lists : ℤ → PairList) (x : ℤ) (k : ℕ) (ids : List ℤ) → HasLists image r lists
-    → StandsAt image x k → IsSome (r.entry x) → block_count image + 1 < 2 ^ 32
+    → StandsAt image x k → IsSome (r.entry x)
     → IsSide image
     (relisted k x (block_in image k) (record { ids = ids; more = (lists x).more ++ (next_number free_blocks image - 1) ∷ [] })
     (with_taken free_blocks (zeros 192) image))
     (relisted k x (block_in (unchained image) k) (record { ids = ids; more = (lists x).more ++ next_block (unchained image) ∷ [] })
     (with_free (unchained image))) k
-gain_one image r lists x k ids h at there small =
+gain_one image r lists x k ids h at there =
     let u = unchained image in
     let n = next_number free_blocks image in
     let free = h.chains.free in
@@ -195,20 +196,20 @@ gain_one image r lists x k ids h at there small =
     subst
     (λ (m : ℕ). IsSide image new (relisted k x (block_in u k) (record { ids = ids; more = old ++ m ∷ [] }) (with_free u)) k) number
     (side_over image (with_taken free_blocks (zeros 192) image) (with_free u) r lists x k (record { ids = ids; more = old ++ (n - 1) ∷ [] }) h
-    at (mid_taken image r lists x k h at there small))
+    at (mid_taken image r lists x k h at there))
 
 -- ---- one id more
 
 pub gain : (image : List ℕ) (r : Registry) (lists : ℤ → PairList) (x id : ℤ) (k : ℕ) → HasLists image r lists → StandsAt image x k
-    → IsSome (r.entry x) → block_count image + 1 < 2 ^ 32
+    → IsSome (r.entry x)
     → IsSide image (gained k x (block_in image k) (lists x) id image)
     (plain_gained k x (block_in (unchained image) k) (lists x) id (unchained image)) k
-gain image r lists x id k h at there small =
+gain image r lists x id k h at there =
     let ids = ids_with id (lists x).ids in
     ⊎_elim
     (λ (wanted : length (lists x).more < blocks_for (length (ids_with id (lists x).ids))).
     rw (lt-ltb (length (lists x).more) (blocks_for (length (ids_with id (lists x).ids))) wanted)
-    (gain_one image r lists x k ids h at there small))
+    (gain_one image r lists x k ids h at there))
     (λ (enough : blocks_for (length (ids_with id (lists x).ids)) ≤ length (lists x).more).
     rw (le-ltb (length (lists x).more) (blocks_for (length (ids_with id (lists x).ids))) enough)
     (side_same image r lists x k (record { ids = ids; more = (lists x).more }) h at (list_blocks image r lists x k h at there)))

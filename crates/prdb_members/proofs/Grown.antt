@@ -3,7 +3,7 @@ use Rattle.std.proofs.Common.{ℕ, ℤ, ◌+◌, ◌-◌, ◌≤◌, List, [], �
 use Rattle.std.specs.Prelude.{nat_lt}
 use Rattle.db_chains.specs.Changes.{put_in, without}
 use Rattle.db_chains.specs.Free.{with_taken}
-use Rattle.prdb_layout.specs.Bytes.{zeros}
+use Rattle.db_blocks.specs.Bytes.{zeros}
 use Rattle.prdb_layout.specs.Records.{block_in, block_place, with_block}
 use Rattle.prdb_lists.specs.Changes.{blocks_for, list_in, place_in, relisted, with_list, with_more}
 use Rattle.prdb_lists.specs.Layout.{PairList, link_to, more_block}

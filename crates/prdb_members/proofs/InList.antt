@@ -1,8 +1,8 @@
--- The list of ids under which an entry acts, over an image with chains.
+-- The list of ids for which an entry counts.
 use Rattle.std.proofs.Common.{◌≡◌, ◌≢◌, ℕ, ℤ, pos, true, List, [], Option, Some, None, IfSome}
 use Rattle.std.specs.Prelude.{◌<ℤ◌}
 use Rattle.prdb_layout.specs.Registry.{Registry}
-use Rattle.prdb_lists.specs.Lists.{IsAscending, IsListOf}
+use Rattle.entry_scans.specs.Lists.{IsAscending, IsListOf}
 use Rattle.prdb_lists.specs.Members.{IsInList, Members, any_user, are_paired, not_signed_in, signed_in}
 use Rattle.prdb_lists.proofs.InList.{HasMore, InEach as InEachPlain, anonymous_in as plain_anonymous, group_in as plain_group, user_in as plain_user}
 use Rattle.prdb_finds.specs.Records.{Holds, whole}

@@ -1,8 +1,8 @@
 -- Both sides of a pair more.
 use Rattle.std.proofs.Common.{◌≡◌, ◌≢◌, ℕ, ℤ, ◌+◌, ◌^◌, ◌<◌, List, sym, ap, subst, ◌∙◌, arith}
-use Rattle.db_blocks.specs.Blocks.{IsWhole}
+use Rattle.db_blocks.specs.Blocks.{IsWhole, kind_of}
 use Rattle.prdb_layout.specs.Blocks.{block_count}
-use Rattle.prdb_layout.specs.Records.{block_in, entry_in, kind_of, whole as entries_whole}
+use Rattle.prdb_layout.specs.Records.{block_in, entry_in, whole as entries_whole}
 use Rattle.prdb_layout.specs.Registry.{Registry}
 use Rattle.prdb_layout.specs.State.{PrEntry}
 use Rattle.prdb_layout.proofs.LaidOut.{whole_same as entries_same}
@@ -95,17 +95,17 @@ plain_first image r m a b ka h may at_a =
     (λ has. no_pair r m a b h.pairs.valid may (h.pairs.each a may.member_there b has))
 
 pub half_joined : (image : List ℕ) (r : Registry) (m : Members) (a b : ℤ) (ka : ℕ) (h : Holds image r m) → MayJoin a b r m
-    → StandsAt (whole image) a ka → block_count (whole image) + 2 < 2 ^ 32
+    → StandsAt (whole image) a ka
     → HasHalf (whole image) (gained ka a (block_in (whole image) ka) (h.pairs.lists a) b (whole image)) r h.pairs.lists a ka
-half_joined image r m a b ka h may at_a small =
+half_joined image r m a b ka h may at_a =
     let w = whole image in
     let lists = h.pairs.lists in
     half_of w (gained ka a (block_in w ka) (lists a) b w) (plain_gained ka a (block_in (unchained w) ka) (lists a) b (unchained w)) r lists
-    ka 192 a (ids_with b (lists a).ids) (gain w r lists a b ka (lists_of image r m h) at_a may.member_there (omega (arith, small)))
+    ka 192 a (ids_with b (lists a).ids) (gain w r lists a b ka (lists_of image r m h) at_a may.member_there)
     (plain_first image r m a b ka h may at_a)
 
 pub join : (image : List ℕ) (r : Registry) (m : Members) (a b : ℤ) (ka kb : ℕ) (h : Holds image r m) → MayJoin a b r m
-    → StandsAt (whole image) a ka → StandsAt (whole image) b kb → block_count (whole image) + 2 < 2 ^ 32
+    → StandsAt (whole image) a ka → StandsAt (whole image) b kb
     → (gained kb b (block_in (whole image) kb) (h.pairs.lists b) a
     (gained ka a (block_in (whole image) ka) (h.pairs.lists a) b (whole image))
     ≡ after_join a b image)
@@ -113,7 +113,7 @@ pub join : (image : List ℕ) (r : Registry) (m : Members) (a b : ℤ) (ka kb : 
     (gained kb b (block_in (whole image) kb) (h.pairs.lists b) a
     (gained ka a (block_in (whole image) ka) (h.pairs.lists a) b (whole image))) r (with_pair a b m)
 unfolding after_join
-join image r m a b ka kb h may at_a at_b small =
+join image r m a b ka kb h may at_a at_b =
     let w = whole image in
     let u = unchained w in
     let lists = h.pairs.lists in
@@ -122,7 +122,7 @@ join image r m a b ka kb h may at_a at_b small =
     let other : a ≢ b = up_down a b may.user may.group_id in
     let one = gained ka a (block_in w ka) (lists a) b w in
     let plain_one = plain_gained ka a (block_in u ka) (lists a) b u in
-    let side_one : IsSide w one plain_one ka = gain w r lists a b ka hl at_a may.member_there (omega (arith, small)) in
+    let side_one : IsSide w one plain_one ka = gain w r lists a b ka hl at_a may.member_there in
     let plain_a = stands_plain w a ka h.size at_a in
     let plain_b = stands_plain w b kb h.size at_b in
     let s : IsRelisted u plain_one 192 r lists ka a (ids_with b (lists a).ids) =
@@ -135,7 +135,7 @@ join image r m a b ka kb h may at_a at_b small =
     let two = gained kb b (block_in one kb) (lists_one b) a one in
     let plain_two = plain_gained kb b (block_in (unchained one) kb) (lists_one b) a (unchained one) in
     let side_two : IsSide one two plain_two kb =
-    gain one r lists_one b a kb hl_one at_b1 may.group_there (omega (arith, small, side_one.most)) in
+    gain one r lists_one b a kb hl_one at_b1 may.group_there in
     let stood : block_in one kb ≡ block_in w kb = side_one.others kb at_b.below differ at_b.kind in
     let is_two : two ≡ gained kb b (block_in w kb) (lists b) a one =
     ap (λ (c : List ℕ). gained kb b c (lists_one b) a one) stood ∙ ap (λ (l : PairList). gained kb b (block_in w kb) l a one) same_b in

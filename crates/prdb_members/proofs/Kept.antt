@@ -1,14 +1,13 @@
 -- Chains of names, ids and owners where entries and their words of chains stay.
 use Rattle.std.proofs.Common.{◌≡◌, ℕ, ◌+◌, ◌-◌, ◌<◌, ◌≤◌, true, List, [], ◌∷◌, refl, sym, ap, subst, ◌∙◌, arith}
-use Rattle.db_blocks.specs.Blocks.{IsWhole}
+use Rattle.db_blocks.specs.Blocks.{IsWhole, word_at, kind_of}
 use Rattle.db_chains.specs.Chains.{HasChain}
 use Rattle.db_chains.specs.Links.{block_of, is_right, next_place}
 use Rattle.db_chains.specs.declared.links.Links.{Links}
 use Rattle.db_chains.specs.Visits.{Visits}
 use Rattle.db_chains.proofs.Words.{in_block, right, right_from, right_names}
 use Rattle.prdb_layout.specs.Blocks.{block_count}
-use Rattle.prdb_layout.specs.Bytes.{word_at}
-use Rattle.prdb_layout.specs.Records.{block_in, block_place, entry_in, kind_of}
+use Rattle.prdb_layout.specs.Records.{block_in, block_place, entry_in}
 use Rattle.prdb_layout.specs.State.{PrEntry}
 use Rattle.prdb_finds.specs.Places.{entry_links, id_place, name_place, owned_place}
 use Rattle.prdb_finds.specs.Records.{AreChains, HasFree, HasIdKey, HasNameKey, IsEntryAt, IsGroupOf, IsOwned}

@@ -1,19 +1,20 @@
--- The lists of an image with chains are those of the image without their words.
+-- The lists of an image are those of the image without words of chains.
 use Rattle.std.proofs.Common.{◌≡◌, true, ℕ, ℤ, ◌+◌, ◌-◌, ◌<◌, eqb, cond, List, [], ◌∷◌, length, take, drop, Option, Some, None, IsSome, refl, sym, ap, subst, ◌∙◌, arith}
 use Rattle.std.proofs.lemmas.Grind.{same_number_lists}
 use Rattle.std.proofs.lemmas.List.{get_or-drop, length-drop}
-use Rattle.db_blocks.specs.Blocks.{IsWhole}
+use Rattle.db_blocks.specs.Blocks.{IsWhole, kind_of, blanked}
 use Rattle.db_blocks.specs.declared.scans.Found.{Found}
+use Rattle.db_chains.proofs.Bytes.{blanked_len, blanked_stays}
 use Rattle.prdb_layout.specs.Blocks.{block_count}
-use Rattle.prdb_layout.specs.Records.{IsLaidOut, block_in, entry_in, has_id, kind_of, whole as entries_whole}
+use Rattle.prdb_layout.specs.Records.{IsLaidOut, block_in, entry_in, has_id, whole as entries_whole}
 use Rattle.prdb_layout.specs.Registry.{Registry}
 use Rattle.prdb_layout.specs.State.{PrEntry}
 use Rattle.prdb_layout.proofs.BlockPlaces.{block_len}
 use Rattle.prdb_layout.proofs.LaidOut.{whole_same as entries_same}
 use Rattle.prdb_layout.proofs.Lookups.{id_parts}
+use Rattle.entry_scans.specs.Lists.{IsListOf}
 use Rattle.prdb_lists.specs.Changes.{blocks_for}
 use Rattle.prdb_lists.specs.Layout.{AreLists, IsChain, IsListed, PairList, link_to}
-use Rattle.prdb_lists.specs.Lists.{IsListOf}
 use Rattle.prdb_lists.specs.Members.{Members, are_paired}
 use Rattle.prdb_lists.proofs.BlockIds.{kind_of_more}
 use Rattle.prdb_lists.proofs.Gains.{HasPlace, listed_at as plain_listed, more_length as plain_length, some_entry}
@@ -22,8 +23,8 @@ use Rattle.prdb_lists.proofs.Relist.{StandsAt}
 use Rattle.prdb_finds.specs.Keys.{id_chain, id_key}
 use Rattle.prdb_finds.specs.Places.{id_links}
 use Rattle.prdb_finds.specs.Records.{Holds, whole}
-use Rattle.prdb_finds.specs.Unchained.{blanked, unchained, unlinked}
-use Rattle.prdb_finds.proofs.Fields.{blanked_front, blanked_len, blanked_stays, entry_unlinked, part_same}
+use Rattle.prdb_finds.specs.Unchained.{unchained, unlinked}
+use Rattle.prdb_finds.proofs.Fields.{blanked_front, entry_unlinked, part_same}
 use Rattle.prdb_finds.proofs.Lookups.{id_has, is_false, not_met, same_block}
 use Rattle.prdb_finds.proofs.Told.{whole_same}
 use Rattle.prdb_finds.proofs.Without.{unchained_block, unchained_count, unchained_entry, unchained_kind, unchained_len}

@@ -5,8 +5,9 @@ use Rattle.std.proofs.lemmas.List.{get_or_append_left, get_or-append_right, leng
 use Rattle.std.proofs.lemmas.List.Elements.{Contains-append_left, Contains-append_right}
 use Rattle.db_chains.specs.Free.{with_freed as with_free_block}
 use Rattle.prdb_layout.specs.Blocks.{block_count}
-use Rattle.prdb_layout.specs.Bytes.{zeros}
-use Rattle.prdb_layout.specs.Records.{block_in, kind_of, with_block}
+use Rattle.db_blocks.specs.Bytes.{zeros}
+use Rattle.db_blocks.specs.Blocks.{kind_of}
+use Rattle.prdb_layout.specs.Records.{block_in, with_block}
 use Rattle.prdb_layout.specs.Registry.{Registry}
 use Rattle.prdb_lists.specs.Changes.{blocks_for, list_in, lost as plain_lost, relisted, with_freed as plain_freed}
 use Rattle.prdb_lists.specs.Layout.{IsDistinct, PairList}

@@ -10,9 +10,9 @@ use Rattle.db_chains.specs.Ends.{walk_cost}
 use Rattle.db_chains.specs.declared.links.Links.{Links}
 use Rattle.prdb_layout.specs.Registry.{Registry}
 use Rattle.prdb_layout.proofs.Changed.{by_id}
+use Rattle.entry_scans.specs.Lists.{IsListOf}
 use Rattle.prdb_lists.specs.Changes.{blocks_for}
 use Rattle.prdb_lists.specs.Layout.{PairList}
-use Rattle.prdb_lists.specs.Lists.{IsListOf}
 use Rattle.prdb_lists.specs.Members.{Members, are_paired}
 use Rattle.prdb_lists.specs.Moves.{MayMove}
 use Rattle.prdb_lists.specs.Sides.{IsPlace, set_list}

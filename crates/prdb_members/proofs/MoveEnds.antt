@@ -10,19 +10,20 @@ use Rattle.db_image.specs.Draft.{Drafted}
 use Rattle.db_image.specs.declared.faults.RecordFault.{RecordFault}
 use Rattle.db_image.specs.declared.faults.RecordFault.TheVariants.{DiskFault, BadRecord, NoMemory}
 use Rattle.db_image.specs.declared.images.ImageRead.{Ghosts}
-use Rattle.db_blocks.specs.Blocks.{IsWhole}
+use Rattle.db_blocks.specs.Blocks.{IsWhole, word_at}
 use Rattle.db_blocks.specs.Ends.{HasCause, OnlyDrafts, OnlyLooks}
+use Rattle.db_blocks.proofs.Scanned.{drafts_then}
 use Rattle.db_chains.specs.Ends.{HasWord}
 use Rattle.db_chains.proofs.Results.{err_same, ok_no_err}
-use Rattle.prdb_layout.specs.Bytes.{word_at}
 use Rattle.prdb_layout.specs.Records.{whole as entries_whole}
 use Rattle.prdb_layout.specs.Registry.{Registry}
 use Rattle.prdb_layout.proofs.LaidOut.{whole_same as entries_same}
 use Rattle.prdb_layout.proofs.Initial.{length-initial}
 use Rattle.prdb_layout.proofs.Lengths.{fits_id}
+use Rattle.entry_scans.specs.Lists.{IsAscending}
 use Rattle.prdb_lists.specs.Changes.{place_in, relisted}
 use Rattle.prdb_lists.specs.Layout.{HoldsPairs, PairList}
-use Rattle.prdb_lists.specs.Lists.{IsAscending, ids_without}
+use Rattle.prdb_lists.specs.Lists.{ids_without}
 use Rattle.prdb_lists.specs.Members.{Members}
 use Rattle.prdb_lists.specs.Moves.{MayMove, after_move as plain_after_move, after_put_id, after_relist, after_relists, ids_moved, moved_members, moved_registry, with_id_word}
 use Rattle.prdb_lists.specs.Sides.{IsPlace}
@@ -35,7 +36,7 @@ use Rattle.prdb_lists.proofs.Moved.{AreAll, image_is, move_holds, others_are}
 use Rattle.prdb_lists.proofs.MovedIds.{length-moved, lists_stay, moved_list, moved_lists, not_without}
 use Rattle.prdb_lists.proofs.Places.{list_at, list_is, stands}
 use Rattle.prdb_lists.proofs.Relists.{relists_push}
-use Rattle.prdb_lists.proofs.Written.{cause_same, drafts_so, drafts_then}
+use Rattle.prdb_lists.proofs.Written.{cause_same, drafts_so}
 use Rattle.prdb_finds.specs.Ends.{HasCauseWhere, HasItsCause, HoldsSome}
 use Rattle.prdb_finds.specs.Keys.{id_chain}
 use Rattle.prdb_finds.specs.Places.{id_links, name_place, owned_place}

@@ -3,7 +3,7 @@ use Rattle.std.proofs.Common.{◌≡◌, ℕ, ℤ, pos, ◌+◌, ◌-◌, ◌<�
 use Rattle.std.specs.Prelude.{◌<ℤ◌, ◌↔◌, IsSome, IsSomeAnd}
 use Rattle.std.specs.Int.{w32, cast_signed}
 use Rattle.std.specs.List.{Contains}
-use Rattle.db_blocks.specs.Blocks.{block_in as any_block}
+use Rattle.db_blocks.specs.Blocks.{block_in as any_block, word_at, kind_of}
 use Rattle.db_chains.specs.declared.walks.Link.{Link}
 use Rattle.db_chains.specs.Along.{StandAlong}
 use Rattle.db_chains.specs.Chains.{HasChain}
@@ -13,8 +13,7 @@ use Rattle.db_chains.specs.Walks.{first_met, meets}
 use Rattle.db_chains.proofs.Counted.{chain_unique}
 use Rattle.std.specs.Option.{option_map}
 use Rattle.prdb_layout.specs.Blocks.{block_count}
-use Rattle.prdb_layout.specs.Bytes.{word_at}
-use Rattle.prdb_layout.specs.Records.{block_in, entry_in, has_id, kind_of}
+use Rattle.prdb_layout.specs.Records.{block_in, entry_in, has_id}
 use Rattle.prdb_layout.specs.Registry.{Registry}
 use Rattle.prdb_layout.specs.State.{PrEntry}
 use Rattle.prdb_layout.proofs.Lookups.{id_parts}

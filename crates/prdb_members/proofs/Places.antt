@@ -3,7 +3,7 @@ use Rattle.std.proofs.Common.{◌≡◌, ℕ, ℤ, ◌+◌, ◌^◌, ◌<◌, �
 use Rattle.std.specs.Prelude.{◌⊎◌}
 use Rattle.std.specs.List.{Contains}
 use Rattle.std.specs.Option.{option_map}
-use Rattle.std.proofs.lemmas.Bool.{le-ltb, lt-ltb}
+use Rattle.std.proofs.lemmas.Bool.{lt-ltb}
 use Rattle.db_image.specs.declared.faults.RecordFault.{RecordFault}
 use Rattle.db_image.specs.declared.faults.RecordFault.TheVariants.{BadRecord}
 use Rattle.db_blocks.specs.Ends.{HasCause}
@@ -11,13 +11,14 @@ use Rattle.db_blocks.specs.declared.scans.Found.{Found}
 use Rattle.db_chains.specs.Ends.{HasSome}
 use Rattle.db_chains.specs.Free.{IsNumber, with_freed as with_free_block, with_taken}
 use Rattle.db_chains.specs.declared.free_blocks.FreeBlocks.{FreeBlocks}
-use Rattle.prdb_layout.specs.Bytes.{zeros}
+use Rattle.db_blocks.specs.Bytes.{zeros}
 use Rattle.prdb_layout.specs.Registry.{Registry}
 use Rattle.prdb_layout.proofs.Becoming.{becomes_then}
+use Rattle.entry_scans.specs.Lists.{IsAscending}
 use Rattle.prdb_lists.specs.Blocks.{AreWithin}
 use Rattle.prdb_lists.specs.Changes.{blocks_for, relisted}
 use Rattle.prdb_lists.specs.Layout.{IsListed, PairList}
-use Rattle.prdb_lists.specs.Lists.{IsAscending, ids_with, ids_without}
+use Rattle.prdb_lists.specs.Lists.{ids_with, ids_without}
 use Rattle.prdb_lists.specs.Sides.{IsPlace}
 use Rattle.prdb_lists.specs.declared.sides.Place.{Place}
 use Rattle.prdb_lists.proofs.Ids.{few_ids}
@@ -73,12 +74,6 @@ pub listed_fault : (bytes : Option (List ℕ)) (id : ℤ) (f : Found) (fault : R
 listed_fault bytes id f fault is cause = cause_so bytes (Lists id f.block) (HasEntry id) fault cause (entry_lists bytes id f is)
 
 -- ---- a block is taken
-
-no_more : (count : ℕ) (there image : List ℕ) → blocks_for count ≤ length there → more_for count there image ≡ there
-no_more count there image enough = rw (le-ltb (length there) (blocks_for count) enough) refl
-
-not_taken : (count : ℕ) (there image : List ℕ) → blocks_for count ≤ length there → taken_for count there image ≡ image
-not_taken count there image enough = rw (le-ltb (length there) (blocks_for count) enough) refl
 
 one_taken : (count : ℕ) (there image : List ℕ) → length there < blocks_for count
     → taken_for count there image ≡ with_taken free_blocks (zeros 192) image

@@ -5,7 +5,7 @@ use Rattle.std.specs.Int.{w32}
 use Rattle.std.specs.List.{Contains}
 use Rattle.std.proofs.lemmas.Bool.{cases_eq}
 use Rattle.std.proofs.lemmas.Int.{ints}
-use Rattle.db_blocks.specs.Blocks.{IsWhole}
+use Rattle.db_blocks.specs.Blocks.{IsWhole, word_at, kind_of}
 use Rattle.db_chains.specs.Chains.{HasChain}
 use Rattle.db_chains.specs.Changes.{put_in, put_word, taken_out, without}
 use Rattle.db_chains.specs.Ends.{HasWord}
@@ -18,9 +18,9 @@ use Rattle.db_chains.proofs.Bytes.{word_here}
 use Rattle.db_chains.proofs.Leaving.{stands}
 use Rattle.db_chains.proofs.Framed.{head_word}
 use Rattle.db_chains.proofs.Others.{put_sorts, taken_sorts}
+use Rattle.db_chains.specs.Keys.{name_key}
 use Rattle.prdb_layout.specs.Blocks.{block_count}
-use Rattle.prdb_layout.specs.Bytes.{word_at}
-use Rattle.prdb_layout.specs.Records.{block_in, entry_in, kind_of}
+use Rattle.prdb_layout.specs.Records.{block_in, entry_in}
 use Rattle.prdb_layout.specs.Registry.{Registry}
 use Rattle.prdb_layout.specs.State.{PrEntry}
 use Rattle.prdb_layout.proofs.Lengths.{fits_id}
@@ -32,7 +32,7 @@ use Rattle.prdb_lists.proofs.MovedImage.{put_id_is as plain_put_id_is}
 use Rattle.prdb_lists.proofs.MovedRegistry.{there_differs}
 use Rattle.prdb_lists.proofs.Relist.{StandsAt}
 use Rattle.prdb_layout.proofs.BlockPlaces.{block_len}
-use Rattle.prdb_finds.specs.Keys.{id_chain, id_key, name_key}
+use Rattle.prdb_finds.specs.Keys.{id_chain, id_key}
 use Rattle.prdb_finds.specs.Places.{free_blocks, id_links, id_place}
 use Rattle.prdb_finds.specs.Records.{AreChains, HasFree, HasIdKey, HasNameKey, IsEntryAt, IsGroupOf, IsOwned}
 use Rattle.prdb_finds.specs.Unchained.{unchained}

@@ -1,13 +1,13 @@
--- The lists of those with whom an entry is paired, in which its new id takes the place of the old one, over an image with chains.
+-- The lists of those with whom an entry is paired, in which its new id takes the place of the old one.
 use Rattle.std.proofs.Common.{◌≡◌, ◌≢◌, ℕ, ℤ, List, [], ◌∷◌, refl, sym, ap, subst, ◌∙◌, arith}
 use Rattle.std.specs.Prelude.{FitsSigned}
 use Rattle.std.specs.Int.{w32}
 use Rattle.std.specs.List.{Contains}
 use Rattle.prdb_layout.specs.Records.{block_in}
 use Rattle.prdb_layout.specs.Registry.{Registry}
+use Rattle.entry_scans.specs.Lists.{IsAscending}
 use Rattle.prdb_lists.specs.Changes.{list_in, relisted}
 use Rattle.prdb_lists.specs.Layout.{PairList}
-use Rattle.prdb_lists.specs.Lists.{IsAscending}
 use Rattle.prdb_lists.specs.Moves.{MayRelist as MayRelistPlain, after_relist, after_relists}
 use Rattle.prdb_lists.specs.Sides.{HasLists as HasPlainLists, set_list}
 use Rattle.prdb_lists.proofs.Ascending.{ascending_right}

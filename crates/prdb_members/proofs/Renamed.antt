@@ -4,14 +4,16 @@ use Rattle.std.specs.Prelude.{FitsSigned}
 use Rattle.std.specs.Int.{w32, from_be_bytes}
 use Rattle.std.specs.List.{Contains}
 use Rattle.std.proofs.lemmas.List.{drop-append-le, drop-drop, drop-take, length-append, length-take-le, take-append-drop, take-take, take_at, drop_at}
-use Rattle.db_blocks.specs.Blocks.{IsWhole}
+use Rattle.db_blocks.specs.Blocks.{IsWhole, word_at, kind_of, blanked}
 use Rattle.db_blocks.proofs.BlockPlaces.{changed_laid, laid}
 use Rattle.prdb_layout.specs.Blocks.{block_count}
-use Rattle.prdb_layout.specs.Bytes.{bits, word, word_at, zeros}
-use Rattle.prdb_layout.specs.Records.{block_in, entry_in, kind_of}
+use Rattle.db_blocks.specs.Bytes.{word, zeros}
+use Rattle.db_blocks.proofs.Lengths.{length-zeros}
+use Rattle.db_chains.proofs.Bytes.{blanked_len}
+use Rattle.prdb_layout.specs.Bytes.{bits}
+use Rattle.prdb_layout.specs.Records.{block_in, entry_in}
 use Rattle.prdb_layout.specs.Registry.{Registry}
 use Rattle.prdb_layout.proofs.BlockPlaces.{block_len}
-use Rattle.prdb_layout.proofs.Fields.{length-zeros}
 use Rattle.prdb_lists.specs.Changes.{list_in, relisted}
 use Rattle.prdb_lists.specs.Layout.{PairList}
 use Rattle.prdb_lists.specs.Moves.{after_put_id, with_id_word}
@@ -19,8 +21,8 @@ use Rattle.prdb_lists.proofs.MovedBlock.{entry_put, length-with_id_word, with_id
 use Rattle.prdb_lists.proofs.MovedImage.{put_id_is as plain_put_id_is}
 use Rattle.prdb_lists.proofs.Relist.{StandsAt}
 use Rattle.prdb_lists.proofs.WithList.{entry_kept, kind_kept}
-use Rattle.prdb_finds.specs.Unchained.{blanked, unchained, unlinked}
-use Rattle.prdb_finds.proofs.Fields.{blanked_front, blanked_len, entry_unlinked}
+use Rattle.prdb_finds.specs.Unchained.{unchained, unlinked}
+use Rattle.prdb_finds.proofs.Fields.{blanked_front, entry_unlinked}
 use Rattle.prdb_finds.proofs.Without.{unchained_block}
 use Rattle.prdb_members.specs.Sides.{HasLists}
 use Rattle.prdb_members.proofs.Gains.{place_is, told_at}

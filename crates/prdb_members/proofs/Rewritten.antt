@@ -1,26 +1,27 @@
--- A list that is written over blocks of an image with chains, and the image without their words.
+-- A list that is written over blocks of an image, and the image without words of chains.
 use Rattle.std.proofs.Common.{◌≡◌, ◌≢◌, ℕ, ℤ, suc, ◌+◌, ◌*◌, ◌-◌, ◌<◌, ◌≤◌, List, [], ◌∷◌, ◌++◌, length, take, drop, refl, sym, ap, subst, ◌∙◌, ⊎_elim, inl, inr, arith}
 use Rattle.std.specs.Prelude.{◌⊎◌}
 use Rattle.std.specs.Int.{w32, from_be_bytes}
 use Rattle.std.specs.List.{Contains}
 use Rattle.std.proofs.lemmas.Bool.{cases_eq}
 use Rattle.std.proofs.lemmas.List.{drop-append-le, drop-drop, drop-take, length-append, length-take-le, take-append-drop, take_at}
-use Rattle.db_blocks.specs.Blocks.{IsWhole}
+use Rattle.db_blocks.specs.Blocks.{IsWhole, word_at, kind_of, blanked}
 use Rattle.db_blocks.proofs.BlockPlaces.{changed_laid, laid}
 use Rattle.db_chains.proofs.Framed.{head_word}
 use Rattle.prdb_layout.specs.Blocks.{block_count}
-use Rattle.prdb_layout.specs.Bytes.{word_at, zeros}
-use Rattle.prdb_layout.specs.Records.{block_in, entry_in, kind_of, with_block}
+use Rattle.db_blocks.specs.Bytes.{zeros}
+use Rattle.db_blocks.proofs.Lengths.{length-zeros}
+use Rattle.db_chains.proofs.Bytes.{blanked_len}
+use Rattle.prdb_layout.specs.Records.{block_in, entry_in, with_block}
 use Rattle.prdb_layout.proofs.BlockPlaces.{IsPut, block_len, put_block}
-use Rattle.prdb_layout.proofs.Fields.{length-zeros}
 use Rattle.prdb_layout.proofs.LaidOut.{count_is}
 use Rattle.prdb_lists.specs.Changes.{relisted, with_list, with_more}
 use Rattle.prdb_lists.specs.Layout.{PairList, link_to, more_block}
 use Rattle.prdb_lists.proofs.BlockIds.{kind_of_more}
 use Rattle.prdb_lists.proofs.Side.{behind, contains_or}
 use Rattle.prdb_lists.proofs.WithList.{entry_kept, first_of, front_kept, front_told, kind_kept, length-more, length-with_list, mid_part, middle_kept, take_few}
-use Rattle.prdb_finds.specs.Unchained.{blanked, unchained, unlinked}
-use Rattle.prdb_finds.proofs.Fields.{blanked_front, blanked_len, entry_unlinked, part_same}
+use Rattle.prdb_finds.specs.Unchained.{unchained, unlinked}
+use Rattle.prdb_finds.proofs.Fields.{blanked_front, entry_unlinked, part_same}
 use Rattle.prdb_finds.proofs.Laid.{block_laid}
 use Rattle.prdb_members.proofs.Kept.{KeepsEntries}
 use Rattle.prdb_members.proofs.Listed.{behind_same, more_unlinked}

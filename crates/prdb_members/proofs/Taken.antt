@@ -1,13 +1,13 @@
 -- The block that a list takes is the lowest free one, and so it is without the words of chains.
 use Rattle.std.proofs.Common.{◌≡◌, ◌≢◌, ℕ, zero, suc, ◌+◌, ◌-◌, ◌/◌, ◌^◌, ◌<◌, ◌≤◌, inl, inr, Bool, cond, List, [], ◌∷◌, length, drop, max, refl, sym, ap, subst, ◌∙◌, ⊎_elim, arith}
 use Rattle.std.specs.Prelude.{nat_lt}
-use Rattle.std.specs.Int.{byte_at}
 use Rattle.std.specs.List.{AllByRecursion, Contains}
 use Rattle.std.proofs.lemmas.Bool.{cases_eq, cases_lt, eq-eqb, eqb-true, le-ltb, lt-ltb, ne_eqb}
 use Rattle.ubik_types.specs.Image.{changed}
 use Rattle.ubik_types.specs.declared.images.Change.TheVariants.{Put}
-use Rattle.db_blocks.specs.Blocks.{IsWhole, with_block as any_with}
-use Rattle.db_blocks.specs.Bytes.{number_word}
+use Rattle.db_blocks.specs.Blocks.{IsWhole, with_block as any_with, word_at, kind_of}
+use Rattle.db_blocks.specs.Bytes.{number_word, zeros}
+use Rattle.db_blocks.proofs.FirstBlocks.{first_at, first_met, first_none, first_within}
 use Rattle.db_chains.specs.Chains.{HasChain}
 use Rattle.db_chains.specs.Changes.{put_word, taken_out}
 use Rattle.db_chains.specs.Free.{AreFree, IsAscending, IsTaken, free_links, next_number, with_new, with_taken}
@@ -17,11 +17,9 @@ use Rattle.db_chains.proofs.Changed.{chain_taken_out}
 use Rattle.db_chains.proofs.Framed.{block_stays}
 use Rattle.db_chains.proofs.Free.{is_out, taken_first, taken_new}
 use Rattle.prdb_layout.specs.Blocks.{block_count}
-use Rattle.prdb_layout.specs.Bytes.{word, word_at, zeros}
-use Rattle.prdb_layout.specs.Records.{IsLaidOut, block_in, block_place, entry_in, is_free, kind_of, next_block, with_block, with_count}
+use Rattle.prdb_layout.specs.Records.{IsLaidOut, block_in, block_place, entry_in, is_free, next_block, with_block, with_count}
 use Rattle.prdb_layout.specs.Registry.{Registry}
 use Rattle.prdb_layout.proofs.BlockPlaces.{IsPut, add_block, put_block}
-use Rattle.prdb_layout.proofs.FirstBlocks.{first_at, first_met, first_none, first_within}
 use Rattle.prdb_layout.proofs.LaidOut.{count_is, zero_kind}
 use Rattle.prdb_lists.specs.Changes.{with_free}
 use Rattle.prdb_lists.proofs.FreeBlock.{free_zero}
@@ -128,24 +126,17 @@ next_same image (w ∷ ws) size chain up all =
 
 -- ---- the image without the words of chains
 
-first_byte : (n : ℕ) → n < 2 ^ 32 → n / 16777216 ≡ byte_at 3 n
-first_byte n small = omega arith
-
-number_small : (n : ℕ) → n < 2 ^ 32 → number_word n ≡ word n
-number_small n small = ap (λ (b : ℕ). b ∷ byte_at 2 n ∷ byte_at 1 n ∷ byte_at 0 n ∷ []) (first_byte n small)
-
-unchained_new : (image block : List ℕ) → IsWhole 2112 image → length block ≡ 192 → block_count image + 1 < 2 ^ 32
+unchained_new : (image block : List ℕ) → IsWhole 2112 image → length block ≡ 192
     → unchained (with_new free_blocks (block_count image) block image)
     ≡ with_count (block_count image + 1) (with_block (block_count image) (unlinked block) (unchained image))
 unfolding with_new put_word
-unchained_new image block size len small =
+unchained_new image block size len =
     let n = block_count image in
     let mid = with_block n block image in
     let put : IsPut n block image mid (n + 1) = add_block image block n size len in
     let count : block_count mid ≡ n + 1 = count_is mid (n + 1) put.size in
     head_laid mid (number_word (n + 1)) 16 (omega (arith, put.size, count)) (omega arith)
     ∙ ap (λ (i : List ℕ). changed i (Put 16 (number_word (n + 1)))) (block_added image block size len)
-    ∙ ap (λ (b : List ℕ). changed (with_block n (unlinked block) (unchained image)) (Put 16 b)) (number_small (n + 1) small)
 
 pub free_next : (w : ℕ) → next_place (free_links free_blocks) w ≡ block_place (w - 1) + 4
 free_next w = omega arith
@@ -188,21 +179,21 @@ with_next block u =
     cond (nat_lt (next_block u) (block_count u)) (with_block (next_block u) block u)
     (with_count (block_count u + 1) (with_block (block_count u) block u))
 
-pub unchained_taken : (image block ws : List ℕ) → IsWhole 2112 image → length block ≡ 192 → block_count image + 1 < 2 ^ 32
+pub unchained_taken : (image block ws : List ℕ) → IsWhole 2112 image → length block ≡ 192
     → HasChain (free_links free_blocks) image 20 ws → IsAscending ws → AreAll image ws
     → unchained (with_taken free_blocks block image) ≡ with_next (unlinked block) (unchained image)
-unchained_taken image block [] size len small chain up all =
+unchained_taken image block [] size len chain up all =
     let u = unchained image in
     let n = block_count image in
     let count : block_count u ≡ n = unchained_count image size in
     let next = next_same image [] size chain up all in
     let last : block_count u ≤ next_block u = omega (arith, next, number_none image chain, count) in
-    ap unchained (taken_none block image chain) ∙ unchained_new image block size len small
+    ap unchained (taken_none block image chain) ∙ unchained_new image block size len
     ∙ ap (λ (m : ℕ). with_count (m + 1) (with_block m (unlinked block) u)) (sym count)
     ∙ sym (ap (λ (b : Bool).
     cond b (with_block (next_block u) (unlinked block) u) (with_count (block_count u + 1) (with_block (block_count u) (unlinked block) u)))
     (le-ltb (next_block u) (block_count u) last))
-unchained_taken image block (w ∷ ws) size len small chain up all =
+unchained_taken image block (w ∷ ws) size len chain up all =
     let u = unchained image in
     let r = names_of 0 4 image w chain.1 in
     let count : block_count u ≡ block_count image = unchained_count image size in
@@ -255,11 +246,11 @@ next_zero u r laid =
     ∙ sym (ap (λ (b : Bool). cond b u (with_count (n + 1) (with_block n (zeros 192) u))) (le-ltb k n last)))
     (cases_lt k n)
 
-pub taken_zero : (image ws : List ℕ) (r : Registry) → IsWhole 2112 image → IsLaidOut (unchained image) r → block_count image + 1 < 2 ^ 32
+pub taken_zero : (image ws : List ℕ) (r : Registry) → IsWhole 2112 image → IsLaidOut (unchained image) r
     → HasChain (free_links free_blocks) image 20 ws → IsAscending ws → AreAll image ws
     → unchained (with_taken free_blocks (zeros 192) image) ≡ with_free (unchained image)
-taken_zero image ws r size laid small chain up all =
-    unchained_taken image (zeros 192) ws size zeros_len small chain up all
+taken_zero image ws r size laid chain up all =
+    unchained_taken image (zeros 192) ws size zeros_len chain up all
     ∙ ap (λ (b : List ℕ). with_next b (unchained image)) zeros_unlinked ∙ next_zero (unchained image) r laid
 
 -- ---- what a taken block leaves

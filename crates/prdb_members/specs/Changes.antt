@@ -1,7 +1,7 @@
--- What becomes of an image with chains when the list of an entry is another one (layout of format 1).
+-- What becomes of an image when the list of an entry is another one (layout of format 1).
 use Rattle.std.specs.Prelude.{ℕ, ℤ, ◌+◌, ◌-◌, List, [], ◌∷◌, ◌++◌, length, take, drop, nat_lt, if◌then◌else◌}
 use Rattle.db_chains.specs.Free.{next_number, with_freed as with_free_block, with_taken}
-use Rattle.prdb_layout.specs.Bytes.{zeros}
+use Rattle.db_blocks.specs.Bytes.{zeros}
 use Rattle.prdb_layout.specs.Records.{block_in}
 use Rattle.prdb_lists.specs.Changes.{blocks_for, list_in, place_in, relisted}
 use Rattle.prdb_lists.specs.Layout.{PairList}

@@ -8,9 +8,9 @@ use Rattle.db_chains.specs.Chains.{HasChain}
 use Rattle.db_chains.specs.Ends.{CostsAtMost, walk_cost}
 use Rattle.db_chains.specs.Free.{free_cost, take_cost}
 use Rattle.prdb_layout.specs.Registry.{Registry}
+use Rattle.entry_scans.specs.Lists.{IsListOf}
 use Rattle.prdb_lists.specs.Changes.{blocks_for}
 use Rattle.prdb_lists.specs.Layout.{PairList}
-use Rattle.prdb_lists.specs.Lists.{IsListOf}
 use Rattle.prdb_lists.specs.Members.{MayLeave, Members, are_paired}
 use Rattle.prdb_lists.specs.Moves.{MayMove}
 use Rattle.prdb_finds.specs.Keys.{id_chain}

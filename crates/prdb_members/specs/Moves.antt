@@ -1,15 +1,16 @@
--- What becomes of an image with chains when an entry gets another id.
+-- What becomes of an image when an entry gets another id.
 use Rattle.std.specs.Prelude.{ℕ, ℤ, ◌≡◌, ◌+◌, ◌<◌, true, List, Option, Some, IfSome, IsSome, IsSomeAnd}
 use Rattle.std.specs.List.{Contains}
 use Rattle.db_image.specs.Draft.{Drafted}
+use Rattle.db_blocks.specs.Blocks.{kind_of}
 use Rattle.db_chains.specs.Chains.{HasChain}
 use Rattle.db_chains.specs.Changes.{put_in, without}
 use Rattle.prdb_layout.specs.Blocks.{block_count}
-use Rattle.prdb_layout.specs.Records.{block_in, kind_of}
+use Rattle.prdb_layout.specs.Records.{block_in}
 use Rattle.prdb_layout.specs.Registry.{Registry}
+use Rattle.entry_scans.specs.Lists.{IsListOf}
 use Rattle.prdb_lists.specs.Changes.{place_in}
 use Rattle.prdb_lists.specs.Layout.{PairList}
-use Rattle.prdb_lists.specs.Lists.{IsListOf}
 use Rattle.prdb_lists.specs.Members.{Members, are_paired}
 use Rattle.prdb_lists.specs.Moves.{MayMove, after_put_id, after_relists, moved_members, moved_registry}
 use Rattle.prdb_finds.specs.Keys.{id_chain}

@@ -1,4 +1,4 @@
--- One list of pairs among those of all entries: what holds of an image with chains between the two sides of a change of a pair.
+-- One list of pairs among those of all entries: what holds of an image between the two sides of a change of a pair.
 use Rattle.std.specs.Prelude.{ℕ, ℤ, List, IsSome}
 use Rattle.std.specs.List.{Contains}
 use Rattle.db_blocks.specs.Blocks.{IsWhole}

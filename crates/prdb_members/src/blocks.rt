@@ -10,9 +10,9 @@ ghost use Rattle.prdb_finds.specs.Places.{id_links};
 ghost use Rattle.prdb_finds.specs.declared.places.TheConstants.{HEAD_LEN};
 ghost use Rattle.prdb_members.specs.Found.{IsBlockOf};
 
-use prdb_finds::find_link;
 use db_blocks::Found;
 use db_image::{Draft, ImageRead, RecordFault};
+use prdb_finds::find_link;
 use ubik_types::WORD_LEN;
 
 /// The block of the entry of an id, and its number, the first being 0. The draft is not empty.

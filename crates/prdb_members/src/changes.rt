@@ -12,8 +12,8 @@ ghost use Rattle.prdb_members.specs.Costs.{JoinCosts, PartCosts};
 ghost use Rattle.prdb_members.specs.Ends.{MakesPairs};
 
 use crate::sides::{add_id, find_place, remove_id};
-use prdb_finds::make_whole;
 use db_image::{Draft, ImageRead, RecordFault};
+use prdb_finds::make_whole;
 use std::alloc::Global;
 
 /// Adds a pair of a user and a group that are there; the pair is not. Where both lists take a block, the member's is first (own). After an

@@ -2,8 +2,8 @@
 ghost use Rattle.std.specs.Prelude.{◌≡◌, ◌<◌, ◌^◌, true, IfOk, IfErr, IfSome, IsErrOf};
 ghost use Rattle.db_blocks.specs.Ends.{OnlyLooks};
 ghost use Rattle.prdb_layout.specs.Registry.{Registry};
+ghost use Rattle.entry_scans.specs.Lists.{IsListOf};
 ghost use Rattle.prdb_lists.specs.Found.{IsFound};
-ghost use Rattle.prdb_lists.specs.Lists.{IsListOf};
 ghost use Rattle.prdb_lists.specs.Members.{IsInList, Members, are_paired};
 ghost use Rattle.prdb_finds.specs.Ends.{HasItsCause};
 ghost use Rattle.prdb_finds.specs.Records.{Holds};

@@ -1,9 +1,9 @@
 //! Laws of the images that the changes make.
 ghost use Rattle.std.specs.Prelude.{◌≡◌, ◌+◌, ◌<◌, ◌≤◌, ◌^◌, true, ℕ, ℤ, List, length};
-ghost use Rattle.prdb_layout.specs.Bytes.{word_at};
+ghost use Rattle.db_blocks.specs.Blocks.{word_at};
 ghost use Rattle.prdb_layout.specs.Registry.{Registry};
+ghost use Rattle.entry_scans.specs.Lists.{IsListOf};
 ghost use Rattle.prdb_lists.specs.Changes.{place_in};
-ghost use Rattle.prdb_lists.specs.Lists.{IsListOf};
 ghost use Rattle.prdb_lists.specs.Members.{MayJoin, MayLeave, Members, are_paired, with_pair, without_pair};
 ghost use Rattle.prdb_lists.specs.Moves.{MayMove, moved_members, moved_registry};
 ghost use Rattle.prdb_finds.specs.Keys.{id_chain};
@@ -14,7 +14,7 @@ ghost use Rattle.prdb_members.specs.Moves.{KeepsOrder, after_move};
 /// The image after a pair more holds the pair, and all others.
 pub fn law_join_adds_the_pair()
     ensures { (image : List ℕ) (r : Registry) (m : Members) (member group : ℤ) → Holds image r m → MayJoin member group r m
-        → length image < 2 ^ 31 → Holds (after_join member group image) r (with_pair member group m) }
+        → Holds (after_join member group image) r (with_pair member group m) }
 {}
 
 /// The image after a pair less holds all others.

@@ -17,3 +17,4 @@ pub use laws::{
 };
 pub use moves::move_id;
 pub use owned::owned_in_order;
+pub use prdb_lists::IdList;

@@ -18,10 +18,10 @@ ghost use Rattle.prdb_members.specs.Sides.{HasEntry};
 
 use crate::finds::elements;
 use crate::sides::find_place;
-use prdb_finds::{id_chain, id_links};
 use db_blocks::Block;
 use db_chains::{put_first, take_out};
 use db_image::{Draft, ImageRead, RecordFault};
+use prdb_finds::{id_chain, id_links};
 use prdb_lists::write_list;
 use std::alloc::Global;
 use ubik_types::WORD_LEN;

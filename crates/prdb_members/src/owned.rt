@@ -15,9 +15,9 @@ ghost use Rattle.prdb_finds.specs.Places.{id_links};
 ghost use Rattle.prdb_finds.specs.Records.{Holds};
 ghost use Rattle.prdb_members.specs.Owned.{AreInOrder};
 
-use prdb_finds::{find_link, owned_links, owned_place};
 use db_chains::read_along;
 use db_image::{Draft, ImageRead, RecordFault};
+use prdb_finds::{find_link, owned_links, owned_place};
 use std::alloc::{AllocError, Global};
 use ubik_types::WORD_LEN;
 

@@ -17,10 +17,10 @@ ghost use Rattle.prdb_members.specs.Costs.{PlaceCosts, gain_cost, lose_cost};
 ghost use Rattle.prdb_members.specs.Sides.{HasEntry, HasFreeChain, HasLists, HoldsPlace};
 
 use crate::blocks::find_block;
-use prdb_finds::free_blocks;
 use db_blocks::BLOCK_LEN;
 use db_chains::{free_block, take_block};
 use db_image::{Draft, ImageRead, RecordFault};
+use prdb_finds::free_blocks;
 use prdb_lists::{Place, blocks_for, read_list, write_list};
 use std::alloc::Global;
 

@@ -6,19 +6,17 @@ use Rattle.std.specs.List.{AllByRecursion}
 use Rattle.std.proofs.lemmas.Bool.{cases_Bool, eqb-true, ltb-false, ltb-true}
 use Rattle.std.proofs.lemmas.List.{drop_all}
 use Rattle.db_blocks.specs.Ascending.{ascending, first_blocks, numbers_met, put_by}
-use Rattle.db_blocks.specs.Blocks.{IsWhole, block_in as any_block}
+use Rattle.db_blocks.specs.Blocks.{IsWhole, block_in as any_block, word_at, kind_of, blanked}
 use Rattle.db_blocks.proofs.Ascending.{all_put, all_take}
-use Rattle.db_chains.proofs.Bytes.{word_stays}
+use Rattle.db_chains.proofs.Bytes.{word_stays, blanked_stays}
 use Rattle.prdb_layout.specs.Blocks.{block_count}
-use Rattle.prdb_layout.specs.Bytes.{word_at}
-use Rattle.prdb_layout.specs.Records.{block_in, block_place, entry_in, kind_of}
+use Rattle.prdb_layout.specs.Records.{block_in, block_place, entry_in}
 use Rattle.prdb_layout.specs.State.{PrEntry}
 use Rattle.prdb_layout.proofs.BlockPlaces.{block_len}
 use Rattle.entry_scans.specs.Pages.{IsOfEntry, rank_in, rank_of}
 use Rattle.entry_scans.specs.Sought.{is_sought}
 use Rattle.entry_scans.proofs.Told.{sought_parts}
-use Rattle.prdb_finds.specs.Unchained.{blanked, unchained, unlinked}
-use Rattle.prdb_finds.proofs.Fields.{blanked_stays}
+use Rattle.prdb_finds.specs.Unchained.{unchained, unlinked}
 use Rattle.prdb_finds.proofs.Lookups.{same_block}
 use Rattle.prdb_finds.proofs.Without.{unchained_block, unchained_count, unchained_entry, unchained_kind, unchained_len}
 

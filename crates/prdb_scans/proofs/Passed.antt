@@ -4,11 +4,11 @@ use Rattle.std.proofs.lemmas.Bool.{cases_Bool, le-leb, leb-true}
 use Rattle.db_image.specs.declared.faults.RecordFault.{RecordFault}
 use Rattle.db_image.specs.declared.faults.RecordFault.TheVariants.{BadRecord}
 use Rattle.db_blocks.specs.Ascending.{AreGood}
-use Rattle.db_blocks.specs.Blocks.{IsFirst, block_in as any_block}
+use Rattle.db_blocks.specs.Blocks.{IsFirst, block_in as any_block, kind_of}
 use Rattle.db_blocks.specs.Ends.{HasCause}
 use Rattle.db_blocks.specs.declared.scans.Found.{Found}
 use Rattle.db_blocks.proofs.FoundBlocks.{found_meets, none_meets}
-use Rattle.prdb_layout.specs.Records.{block_in, entry_in, kind_of}
+use Rattle.prdb_layout.specs.Records.{block_in, entry_in}
 use Rattle.prdb_layout.specs.Registry.{Registry}
 use Rattle.prdb_layout.specs.State.{PrEntry}
 use Rattle.prdb_lists.specs.Members.{Members}

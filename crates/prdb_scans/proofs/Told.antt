@@ -9,10 +9,10 @@ use Rattle.std.proofs.lemmas.Cmp.{int_eq_equiv}
 use Rattle.std.proofs.lemmas.Int.{ints}
 use Rattle.std.proofs.lemmas.Map.Views.{Contains-from_any, list_any-from_Contains}
 use mathlib.Core.Path.{fun_ext}
-use Rattle.db_chains.proofs.Bytes.{word_stays}
+use Rattle.db_chains.proofs.Bytes.{word_stays, blanked_stays}
 use Rattle.prdb_layout.specs.Blocks.{block_count}
-use Rattle.prdb_layout.specs.Bytes.{word_at}
-use Rattle.prdb_layout.specs.Records.{block_in, entry_at, entry_in, kind_of, registry_in, whole as without_whole}
+use Rattle.db_blocks.specs.Blocks.{word_at, kind_of, blanked}
+use Rattle.prdb_layout.specs.Records.{block_in, entry_at, entry_in, registry_in, whole as without_whole}
 use Rattle.prdb_layout.specs.Registry.{Registry}
 use Rattle.prdb_layout.specs.State.{PrEntry}
 use Rattle.prdb_layout.proofs.BlockPlaces.{block_len}
@@ -20,7 +20,6 @@ use Rattle.prdb_layout.proofs.LaidOut.{whole_same as without_same}
 use Rattle.prdb_layout.proofs.Told.{registry_told}
 use Rattle.prdb_lists.specs.Changes.{list_in, place_in}
 use Rattle.prdb_lists.specs.Layout.{HoldsPairs, PairList}
-use Rattle.prdb_lists.specs.Lists.{IsListOf}
 use Rattle.prdb_lists.specs.Members.{Members, are_paired}
 use Rattle.prdb_lists.proofs.Ascending.{lt_from, lt_to}
 use Rattle.prdb_lists.proofs.BlockIds.{count_of}
@@ -28,14 +27,15 @@ use Rattle.prdb_lists.proofs.Both.{lists_of}
 use Rattle.prdb_lists.proofs.Gains.{place_is, place_of, told_at}
 use Rattle.prdb_lists.proofs.RecordsKeep.{or_left}
 use Rattle.entry_scans.specs.Pages.{pair_count_in}
+use Rattle.entry_scans.specs.Lists.{IsListOf}
 use Rattle.prdb_finds.specs.Records.{Holds, whole}
-use Rattle.prdb_finds.specs.Unchained.{blanked, unchained}
-use Rattle.prdb_finds.proofs.Fields.{blanked_stays, entry_unlinked}
+use Rattle.prdb_finds.specs.Unchained.{unchained}
+use Rattle.prdb_finds.proofs.Fields.{entry_unlinked}
 use Rattle.prdb_finds.proofs.Told.{registry_is}
 use Rattle.prdb_finds.proofs.Without.{unchained_block, unchained_count, unchained_entry, unchained_kind, unchained_len}
 use Rattle.prdb_scans.specs.Told.{HasCounted, is_listed, members_in}
 
--- ---- pairs over an image without chains
+-- ---- pairs over an image without words of chains
 
 entry_is : (image : List ℕ) (r : Registry) (m : Members) → HoldsPairs image r m → (x : ℤ) → r.entry x ≡ entry_at (without_whole image) x
 unfolding registry_in
@@ -95,7 +95,7 @@ pairs_without image r m h =
     same_truth (m.has user group) (is_listed (without_whole image) user group) (listed_to image r m h user group)
     (listed_from image r m h user group))))
 
--- ---- with chains
+-- ---- with them
 
 pub pairs_told : (image : List ℕ) (r : Registry) (m : Members) → Holds image r m → m ≡ members_in (unchained (whole image))
 pairs_told image r m holds =

@@ -5,9 +5,9 @@ use Rattle.db_image.specs.declared.faults.RecordFault.{RecordFault}
 use Rattle.db_image.specs.declared.faults.RecordFault.TheVariants.{DiskFault, BadRecord, NoMemory}
 use Rattle.db_image.specs.Images.{IsOfImage}
 use Rattle.db_blocks.specs.Ascending.{AreGood}
-use Rattle.db_blocks.specs.Blocks.{block_in as any_block}
+use Rattle.db_blocks.specs.Blocks.{block_in as any_block, kind_of}
 use Rattle.db_blocks.specs.Ends.{HasCause}
-use Rattle.prdb_layout.specs.Records.{block_in, kind_of}
+use Rattle.prdb_layout.specs.Records.{block_in}
 use Rattle.prdb_layout.specs.Registry.{Registry}
 use Rattle.prdb_layout.proofs.LaidOut.{kind_small}
 use Rattle.prdb_lists.specs.Members.{Members}

@@ -4,9 +4,9 @@ use Rattle.std.specs.List.{list_any}
 use Rattle.std.specs.Ordering.{int_eq}
 use Rattle.prdb_layout.specs.Records.{block_in, entry_at, entry_in}
 use Rattle.prdb_lists.specs.Changes.{list_in, place_in}
-use Rattle.prdb_lists.specs.Lists.{IsListOf}
 use Rattle.prdb_lists.specs.Members.{Members, are_paired}
 use Rattle.entry_scans.specs.Pages.{pair_count_in}
+use Rattle.entry_scans.specs.Lists.{IsListOf}
 
 -- the list of a user has a group
 abbrev pub is_listed : List ℕ → (user group : ℤ) → Bool

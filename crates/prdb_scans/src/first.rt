@@ -2,8 +2,8 @@
 ghost use Rattle.std.specs.Prelude.{◌≡◌, ◌<◌, ◌^◌, [], IfOk, IfErr};
 ghost use Rattle.prdb_finds.specs.Records.{whole};
 
-use prdb_finds::make_whole;
 use db_image::{Draft, RecordFault, VecImage};
+use prdb_finds::make_whole;
 use prdb_layout::draft_over;
 use std::alloc::Global;
 

@@ -1,11 +1,10 @@
-//! What an image with chains tells.
-ghost use Rattle.std.specs.Prelude.{◌≡◌, ◌<◌, ℕ, ℤ, true, List, length};
+//! What an image tells.
+ghost use Rattle.std.specs.Prelude.{◌≡◌, ◌<◌, ℕ, List};
+ghost use Rattle.db_blocks.specs.Blocks.{kind_of};
 ghost use Rattle.prdb_layout.specs.Blocks.{block_count};
-ghost use Rattle.prdb_layout.specs.Records.{block_in, entry_in, kind_of};
+ghost use Rattle.prdb_layout.specs.Records.{block_in};
 ghost use Rattle.prdb_layout.specs.Registry.{Registry};
-ghost use Rattle.prdb_lists.specs.Lists.{IsListOf};
-ghost use Rattle.prdb_lists.specs.Members.{Members, are_paired};
-ghost use Rattle.entry_scans.specs.Pages.{pair_count_in};
+ghost use Rattle.prdb_lists.specs.Members.{Members};
 ghost use Rattle.prdb_finds.specs.Records.{Holds, whole};
 ghost use Rattle.prdb_finds.specs.Unchained.{unchained};
 ghost use Rattle.prdb_scans.specs.Told.{HasCounted, members_in};

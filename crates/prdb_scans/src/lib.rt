@@ -1,12 +1,10 @@
-//! Passes over the blocks of the protection database's image with chains, and what such an image
-//! tells.
+//! Passes over the blocks of the protection database's image, for what stands in no chain, and what an image tells.
 #![tactic(auto)]
 
 mod first;
 mod laws;
 mod pages;
 mod scans;
-mod sought;
 
 pub use laws::{law_blocks_tell_counts, law_image_holds_one, law_image_tells_its_pairs};
 pub use pages::first_where;

@@ -14,11 +14,10 @@ ghost use Rattle.prdb_finds.specs.Records.{Holds, whole};
 ghost use Rattle.prdb_finds.specs.declared.places.TheConstants.{HEAD_LEN};
 
 use crate::first::first_draft;
-use crate::sought::{MORE, is_sought, kind_of};
-use prdb_finds::HEAD_LEN;
 use db_blocks::{BLOCK_LEN, Block, Keyed, scan_first};
 use db_image::{Draft, ImageRead, RecordFault};
-use entry_scans::{Sought, entry_in};
+use entry_scans::{MORE, Sought, entry_in, is_sought, kind_of};
+use prdb_finds::HEAD_LEN;
 use std::alloc::Global;
 
 /// A number that ascends with the id.

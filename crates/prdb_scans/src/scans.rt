@@ -1,5 +1,5 @@
 //! Whether an entry is looked for, and the ids of all that are.
-ghost use Rattle.std.specs.Prelude.{◌≡◌, ◌+◌, ◌<◌, ◌≤◌, ◌^◌, ◌↔◌, ℤ, IfSome, IfOk, IfErr, IsErrOf};
+ghost use Rattle.std.specs.Prelude.{◌<◌, ◌^◌, ◌↔◌, ℤ, IfSome, IfOk, IfErr, IsErrOf};
 ghost use Rattle.std.specs.List.{Contains};
 ghost use Rattle.db_image.specs.Asked.{AsksAtMost};
 ghost use Rattle.db_blocks.specs.Ascending.{AreGood};
@@ -15,11 +15,10 @@ ghost use Rattle.prdb_finds.specs.declared.places.TheConstants.{HEAD_LEN};
 ghost use Rattle.prdb_scans.specs.Passes.{AreIds, HasSought};
 
 use crate::first::first_draft;
-use crate::sought::{MORE, is_sought, kind_of};
-use prdb_finds::HEAD_LEN;
 use db_blocks::{Block, Wanted, block_count, block_place, read_block, scan};
 use db_image::{Draft, ImageRead, RecordFault};
-use entry_scans::{Sought, entry_in};
+use entry_scans::{MORE, Sought, entry_in, is_sought, kind_of};
+use prdb_finds::HEAD_LEN;
 use std::alloc::Global;
 
 /// What ends a pass: an entry that is looked for, or a block of no kind.

@@ -1,7 +1,8 @@
 use Rattle.std.proofs.Common.{◌*◌, arith}
 use Rattle.db_image.specs.declared.services.Layout.{Layout}
-use Rattle.prdb_entries.specs.Changes.{enter_cost, first_cost, owner_cost}
-use Rattle.prdb_entries.proofs.InsertClauses.{drafts_after}
+use Rattle.db_chains.specs.Ends.{first_cost}
+use Rattle.db_chains.proofs.Drafted.{drafts_after}
+use Rattle.prdb_entries.specs.Changes.{enter_cost, owner_cost}
 use Rattle.prdb_entries.proofs.inserts.enter.Goals as goal
 
 pub returns-then-is_owned-clause-frame : goal.returns-then-is_owned-clause-frame

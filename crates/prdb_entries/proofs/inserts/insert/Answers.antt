@@ -3,9 +3,10 @@ use Rattle.db_image.specs.Draft.{put_cost}
 use Rattle.db_image.specs.declared.services.Layout.{Layout}
 use Rattle.db_chains.specs.Free.{take_cost}
 use Rattle.db_chains.proofs.Results.{err_so, ok_so}
+use Rattle.db_chains.proofs.Drafted.{drafts_after}
 use Rattle.prdb_layout.specs.RecordEnds.{seen}
 use Rattle.prdb_entries.specs.Changes.{enter_cost, insert_cost}
-use Rattle.prdb_entries.proofs.InsertClauses.{drafts_after, enter_fault, insert_makes, inserted, whole_len}
+use Rattle.prdb_entries.proofs.InsertClauses.{enter_fault, insert_makes, inserted, whole_len}
 use Rattle.prdb_entries.proofs.inserts.insert.Goals as goal
 
 pub returns-clause-bytes : goal.returns-clause-bytes
@@ -18,14 +19,13 @@ returns-clause-bytes g c =
 pub returns-clause-holds : goal.returns-clause-holds
 returns-clause-holds g c =
     ok_so c.enter.result _ _ (returns-clause-bytes g c)
-    (insert_makes c.args.d.now.bytes c.enter.new.d.bytes c.args.d.now.len (seen c.args.e.now) c.make_whole.ensures.told c.requires.len
-    c.requires.entry)
+    (insert_makes c.args.d.now.bytes c.enter.new.d.bytes (seen c.args.e.now) c.requires.entry)
 
 pub returns-clause-fault : goal.returns-clause-fault
 returns-clause-fault g c =
     err_so c.enter.result _ _ c.enter.ensures.fault (λ x cause.
-    enter_fault c.args.d.now.bytes c.make_whole.new.d.bytes c.take_block.new.d.bytes c.args.d.now.len (seen c.args.e.now)
-    c.in_ok-number.number c.in_ok-block.block x c.make_whole.ensures.told c.requires.len c.requires.entry c.in_ok-block.ensures
+    enter_fault c.args.d.now.bytes c.make_whole.new.d.bytes c.take_block.new.d.bytes (seen c.args.e.now)
+    c.in_ok-number.number c.in_ok-block.block x c.requires.entry c.in_ok-block.ensures
     c.in_ok-make_whole.ensures.bytes (rw c.free_blocks.ensures.is at c.in_ok-number.ensures.number)
     (rw c.free_blocks.ensures.is at c.in_ok-number.ensures.bytes) cause)
 

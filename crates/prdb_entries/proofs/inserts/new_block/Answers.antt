@@ -1,5 +1,5 @@
 use Rattle.std.proofs.Common.{◌≡◌, replicate, length, refl, sym, ap, ◌∙◌}
-use Rattle.prdb_layout.specs.Bytes.{zeros}
+use Rattle.db_blocks.specs.Bytes.{zeros}
 use Rattle.prdb_layout.specs.RecordEnds.{seen}
 use Rattle.prdb_layout.specs.Records.{with_fields}
 use Rattle.prdb_entries.proofs.Base.{new_len}

@@ -6,11 +6,12 @@ use Rattle.std.proofs.lemmas.Int.{to_z-of_z}
 use Rattle.std.proofs.lemmas.Result.{err_from_is_err_and}
 use Rattle.db_blocks.specs.Ends.{HasCause}
 use Rattle.db_chains.proofs.Results.{err_so}
+use Rattle.db_chains.proofs.Drafted.{drafts_on}
 use Rattle.entry_scans.specs.Views.{viewed}
 use Rattle.prdb_layout.specs.State.{PrEntry}
 use Rattle.prdb_entries.specs.Changes.{leave_cost, left, named_out_cost, owner_out_cost}
 use Rattle.prdb_entries.specs.Ends.{StandsInChains}
-use Rattle.prdb_entries.proofs.RemoveClauses.{alone_left, drafts_on, named_cause, owned_left_ok, owner_cause}
+use Rattle.prdb_entries.proofs.RemoveClauses.{alone_left, named_cause, owned_left_ok, owner_cause}
 use Rattle.prdb_entries.proofs.removes.leave.Goals as goal
 
 pub returns-in_err-leave_named-clause-fault : goal.returns-in_err-leave_named-clause-fault

@@ -1,10 +1,10 @@
 use Rattle.std.specs.Int.{w32}
 use Rattle.std.proofs.lemmas.Int.{to_z-of_z}
 use Rattle.db_image.specs.declared.faults.RecordFault.TheVariants.{BadRecord}
-use Rattle.db_chains.proofs.Results.{err_so}
+use Rattle.db_chains.proofs.Results.{err_so, cause_so}
 use Rattle.prdb_entries.specs.Ends.{HasLink, IsOwnedBy}
 use Rattle.prdb_entries.proofs.InsertClauses.{none_fault, number_of_link}
-use Rattle.prdb_entries.proofs.RemoveClauses.{cause_so, owned_cause, owner_left_ok}
+use Rattle.prdb_entries.proofs.RemoveClauses.{owned_cause, owner_left_ok}
 use Rattle.prdb_entries.proofs.removes.leave_owned.Goals as goal
 
 pub returns-in_default-clause-fault : goal.returns-in_default-clause-fault

@@ -7,13 +7,14 @@ use Rattle.db_image.specs.declared.faults.RecordFault.TheVariants.{BadRecord}
 use Rattle.db_image.specs.declared.services.Layout.{Layout}
 use Rattle.db_chains.specs.Ends.{walk_cost}
 use Rattle.db_chains.specs.Free.{free_cost}
-use Rattle.db_chains.proofs.Results.{drafts_so, err_same, err_so, ok_so}
+use Rattle.db_chains.proofs.Results.{drafts_so, err_same, err_so, ok_so, cause_at}
+use Rattle.db_chains.proofs.Drafted.{drafts_after, looks_draft}
 use Rattle.prdb_finds.specs.Places.{free_blocks, id_links}
 use Rattle.prdb_finds.specs.Records.{whole}
 use Rattle.prdb_entries.specs.Changes.{leave_cost, remove_cost}
 use Rattle.prdb_entries.specs.Ends.{HasLink}
-use Rattle.prdb_entries.proofs.InsertClauses.{drafts_after, looks_draft, none_fault, whole_len}
-use Rattle.prdb_entries.proofs.RemoveClauses.{HasOne, cause_at, find_cause, free_cause, leave_cause, link_held, remove_makes, removed}
+use Rattle.prdb_entries.proofs.InsertClauses.{none_fault, whole_len}
+use Rattle.prdb_entries.proofs.RemoveClauses.{HasOne, find_cause, free_cause, leave_cause, link_held, remove_makes, removed}
 use Rattle.prdb_entries.proofs.removes.remove.Goals as goal
 
 pub returns-in_err-link-clause-fault : goal.returns-in_err-link-clause-fault

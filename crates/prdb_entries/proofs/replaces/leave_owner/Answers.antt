@@ -2,11 +2,10 @@ use Rattle.std.proofs.Common.{sym, ◌∙◌, rules}
 use Rattle.std.specs.Prelude.{FitsSigned}
 use Rattle.std.specs.Int.{w32}
 use Rattle.std.proofs.lemmas.Int.{to_z-of_z}
-use Rattle.db_chains.proofs.Results.{err_so}
+use Rattle.db_chains.proofs.Results.{err_so, cause_so}
 use Rattle.entry_scans.specs.Views.{viewed}
 use Rattle.prdb_entries.specs.Changes.{is_owned, owner_without}
 use Rattle.prdb_entries.specs.Ends.{HasLeft, IsOwnedBy}
-use Rattle.prdb_entries.proofs.RemoveClauses.{cause_so}
 use Rattle.prdb_entries.proofs.ReplaceClauses.{when_false, when_true_ok}
 use Rattle.prdb_entries.proofs.replaces.leave_owner.Goals as goal
 

@@ -1,10 +1,10 @@
 use Rattle.std.proofs.Common.{rules, arith}
 use Rattle.std.proofs.lemmas.Result.{err_from_is_err_and}
 use Rattle.db_chains.proofs.Results.{err_so}
+use Rattle.db_chains.proofs.Drafted.{drafts_on}
 use Rattle.entry_scans.specs.Views.{viewed}
 use Rattle.prdb_layout.specs.RecordEnds.{seen}
 use Rattle.prdb_entries.specs.Changes.{owner_cost, owner_out_cost, owners_cost}
-use Rattle.prdb_entries.proofs.RemoveClauses.{drafts_on}
 use Rattle.prdb_entries.proofs.ReplaceClauses.{entered_cause, ids_other, ids_same, left_cause, other_owner_ok, same_owner}
 use Rattle.prdb_entries.proofs.replaces.move_owner.Goals as goal
 

@@ -4,13 +4,13 @@ use Rattle.std.specs.Option.{option_map}
 use Rattle.std.proofs.lemmas.Result.{err_from_is_err_and}
 use Rattle.db_blocks.specs.Ends.{HasCause}
 use Rattle.db_chains.proofs.Results.{err_so, ok_so}
+use Rattle.db_chains.proofs.Drafted.{drafts_on}
 use Rattle.entry_scans.specs.Views.{viewed}
 use Rattle.prdb_layout.proofs.Becoming.{becomes_then}
 use Rattle.prdb_layout.specs.RecordEnds.{seen}
 use Rattle.prdb_layout.specs.State.{PrEntry}
 use Rattle.prdb_entries.specs.Changes.{moved, moved_cost, name_cost, name_moved, owner_moved, owners_cost}
 use Rattle.prdb_entries.specs.Ends.{CanMove}
-use Rattle.prdb_entries.proofs.RemoveClauses.{drafts_on}
 use Rattle.prdb_entries.proofs.ReplaceClauses.{name_cause, owner_cause}
 use Rattle.prdb_entries.proofs.replaces.move_to.Goals as goal
 

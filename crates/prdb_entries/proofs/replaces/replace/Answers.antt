@@ -6,14 +6,15 @@ use Rattle.db_image.specs.Draft.{put_cost}
 use Rattle.db_image.specs.declared.faults.RecordFault.TheVariants.{BadRecord}
 use Rattle.db_image.specs.declared.services.Layout.{Layout}
 use Rattle.db_chains.specs.Ends.{walk_cost}
-use Rattle.db_chains.proofs.Results.{drafts_so, err_same, ok_so}
+use Rattle.db_chains.proofs.Results.{drafts_so, err_same, ok_so, cause_at}
+use Rattle.db_chains.proofs.Drafted.{drafts_after, looks_draft}
 use Rattle.prdb_layout.specs.RecordEnds.{seen}
 use Rattle.prdb_finds.specs.Places.{id_links}
 use Rattle.prdb_finds.specs.Records.{whole}
 use Rattle.prdb_entries.specs.Ends.{HasLink}
 use Rattle.prdb_entries.specs.Changes.{fields_cost, moved_cost, replace_cost}
-use Rattle.prdb_entries.proofs.InsertClauses.{drafts_after, looks_draft, none_fault, whole_len}
-use Rattle.prdb_entries.proofs.RemoveClauses.{cause_at, find_cause}
+use Rattle.prdb_entries.proofs.InsertClauses.{none_fault, whole_len}
+use Rattle.prdb_entries.proofs.RemoveClauses.{find_cause}
 use Rattle.prdb_entries.proofs.Empty.{fitted_after, kept_empty, replace_makes}
 use Rattle.prdb_entries.proofs.ReplaceClauses.{HasFit, link_fit, move_cause, replaced}
 use Rattle.prdb_entries.proofs.replaces.replace.Goals as goal

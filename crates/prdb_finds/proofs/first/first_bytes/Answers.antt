@@ -1,7 +1,7 @@
 use Rattle.std.proofs.Common.{◌≡◌, length, drop, refl, ap, ◌∙◌, arith}
 use Rattle.std.proofs.lemmas.List.{take_at}
 use Rattle.db_chains.specs.Changes.{put_in, put_word}
-use Rattle.prdb_layout.specs.Bytes.{words, zeros}
+use Rattle.db_blocks.specs.Bytes.{words, zeros}
 use Rattle.prdb_layout.specs.Layout.{block_of, head_of, layout, numbers_of}
 use Rattle.prdb_layout.specs.Records.{block_in}
 use Rattle.prdb_layout.specs.State.{fixed_entries, initial_state}

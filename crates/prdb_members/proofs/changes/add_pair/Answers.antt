@@ -4,10 +4,10 @@ use Rattle.std.proofs.lemmas.Int.{to_z-of_z}
 use Rattle.std.proofs.lemmas.Result.{err_from_is_err_and}
 use Rattle.db_image.specs.declared.faults.RecordFault.{RecordFault}
 use Rattle.db_image.specs.declared.faults.RecordFault.TheVariants.{DiskFault}
-use Rattle.db_blocks.proofs.Scanned.{drafts_after, looks_then}
+use Rattle.db_blocks.proofs.Scanned.{drafts_after, looks_then, drafts_then}
 use Rattle.db_chains.proofs.Results.{image_cause}
 use Rattle.prdb_lists.specs.declared.sides.Place.{Place}
-use Rattle.prdb_lists.proofs.Written.{cause_same, drafts_looks, drafts_so, drafts_then}
+use Rattle.prdb_lists.proofs.Written.{cause_same, drafts_looks, drafts_so}
 use Rattle.prdb_members.specs.Costs.{gain_cost}
 use Rattle.prdb_members.specs.Sides.{HasEntry}
 use Rattle.prdb_members.proofs.Costs.{PlaceCostsOf, free_part, free_side, gain_side, join_costs, place_part}
@@ -105,7 +105,7 @@ returns-clause-fault g c =
     let second_raw = c.in_ok-of_group.ensures.entry in
     join_two_err c.add_id-2.result c.args.d.now.bytes c.make_whole.new.d.bytes c.find_place-2.new.d.bytes c.add_id.new.d.bytes
     c.in_ok-of_member.of_member c.in_ok-of_group.of_group
-    c.args.member c.args.group c.args.d.now.len c.requires c.make_whole.ensures.told c.in_ok-make_whole.ensures.bytes
+    c.args.member c.args.group c.in_ok-make_whole.ensures.bytes
     (c.find_place-2.ensures.frame.same.bytes ∙ c.find_place.ensures.frame.same.bytes)
     (simp to_z-of_z at first_raw) (simp to_z-of_z at second_raw) c.in_ok-of_member.ensures.found
     (stands_so c.make_whole.new.d.bytes c.find_place.new.d.bytes c.in_ok-of_group.of_group c.find_place.ensures.frame.same.bytes
@@ -124,7 +124,7 @@ returns-clause-bytes g c =
     joined_bytes c.add_id-2.result c.args.d.now.bytes c.add_id-2.new.d.bytes c.args.member c.args.group
     (joined_ok c.add_id-2.result c.args.d.now.bytes c.make_whole.new.d.bytes c.find_place-2.new.d.bytes c.add_id.new.d.bytes
     c.add_id-2.new.d.bytes c.in_ok-of_member.of_member c.in_ok-of_group.of_group
-    c.args.member c.args.group c.args.d.now.len c.requires c.make_whole.ensures.told c.in_ok-make_whole.ensures.bytes
+    c.args.member c.args.group c.in_ok-make_whole.ensures.bytes
     (c.find_place-2.ensures.frame.same.bytes ∙ c.find_place.ensures.frame.same.bytes)
     (simp to_z-of_z at first_raw) (simp to_z-of_z at second_raw) c.in_ok-of_member.ensures.found
     (stands_so c.make_whole.new.d.bytes c.find_place.new.d.bytes c.in_ok-of_group.of_group c.find_place.ensures.frame.same.bytes
@@ -144,7 +144,7 @@ returns-clause-holds g c =
     joined_holds c.add_id-2.result c.args.d.now.bytes c.add_id-2.new.d.bytes c.args.member c.args.group
     (joined_ok c.add_id-2.result c.args.d.now.bytes c.make_whole.new.d.bytes c.find_place-2.new.d.bytes c.add_id.new.d.bytes
     c.add_id-2.new.d.bytes c.in_ok-of_member.of_member c.in_ok-of_group.of_group
-    c.args.member c.args.group c.args.d.now.len c.requires c.make_whole.ensures.told c.in_ok-make_whole.ensures.bytes
+    c.args.member c.args.group c.in_ok-make_whole.ensures.bytes
     (c.find_place-2.ensures.frame.same.bytes ∙ c.find_place.ensures.frame.same.bytes)
     (simp to_z-of_z at first_raw) (simp to_z-of_z at second_raw) c.in_ok-of_member.ensures.found
     (stands_so c.make_whole.new.d.bytes c.find_place.new.d.bytes c.in_ok-of_group.of_group c.find_place.ensures.frame.same.bytes

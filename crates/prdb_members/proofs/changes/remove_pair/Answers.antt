@@ -1,9 +1,8 @@
 use Rattle.std.proofs.Common.{ℕ, refl, ◌∙◌}
 use Rattle.std.proofs.lemmas.Int.{to_z-of_z}
 use Rattle.std.proofs.lemmas.Result.{err_from_is_err_and}
-use Rattle.db_blocks.proofs.Scanned.{drafts_after}
+use Rattle.db_blocks.proofs.Scanned.{drafts_after, drafts_then}
 use Rattle.prdb_members.proofs.Ends.{part_group_fault, part_member_fault, part_one_fault, part_two_err, parted_bytes, parted_holds, parted_ok, stands_so}
-use Rattle.prdb_lists.proofs.Written.{drafts_then}
 use Rattle.prdb_members.specs.Costs.{list_cost, lose_cost}
 use Rattle.prdb_members.proofs.Costs.{PlaceCostsOf, leave_none, leave_read, leave_side, part_costs}
 use Rattle.prdb_members.proofs.changes.remove_pair.Goals as goal

@@ -6,9 +6,9 @@ use Rattle.std.proofs.lemmas.Result.{err_from_is_err_and}
 use Rattle.prdb_members.proofs.MoveCosts.{costs_end, costs_first, costs_more, costs_put, costs_read, costs_stop}
 use Rattle.prdb_members.proofs.MoveEnds.{FindsAll, drafts_err, elements_fault, moved_holds, moved_ok, moving_more, moving_none, other_is, put_done, put_fault, rechain_err, relist_fault}
 use Rattle.db_image.specs.declared.faults.RecordFault.TheVariants.{DiskFault}
+use Rattle.db_blocks.proofs.Scanned.{drafts_then}
 use Rattle.prdb_lists.specs.Changes.{place_in}
 use Rattle.prdb_lists.specs.Moves.{after_put_id}
-use Rattle.prdb_lists.proofs.Written.{drafts_then}
 use Rattle.prdb_members.proofs.moves.move_id.Goals as goal
 
 pub returns-in_err-others-clause-fault : goal.returns-in_err-others-clause-fault

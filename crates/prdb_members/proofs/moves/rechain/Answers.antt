@@ -1,5 +1,5 @@
 use Rattle.std.proofs.lemmas.Result.{err_from_is_err_and}
-use Rattle.prdb_lists.proofs.Written.{drafts_then}
+use Rattle.db_blocks.proofs.Scanned.{drafts_then}
 use Rattle.prdb_members.proofs.MoveCosts.{rechain_both, rechain_out}
 use Rattle.prdb_members.proofs.moves.rechain.Goals as goal
 

@@ -1,5 +1,5 @@
 use Rattle.std.proofs.Common.{refl, arith}
-use Rattle.prdb_layout.specs.Bytes.{zeros}
+use Rattle.db_blocks.specs.Bytes.{zeros}
 use Rattle.prdb_members.proofs.Places.{taken_one}
 use Rattle.prdb_members.proofs.sides.more_for.Goals as goal
 

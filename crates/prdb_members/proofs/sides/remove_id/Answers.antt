@@ -6,11 +6,12 @@ use Rattle.std.proofs.lemmas.List.Elements.{All-drop, All-take}
 use Rattle.std.proofs.lemmas.Result.{err_from_is_err_and}
 use Rattle.db_image.proofs.ReadSteps.{asks_none}
 use Rattle.db_blocks.specs.Blocks.{block_place}
+use Rattle.db_blocks.proofs.Scanned.{drafts_then}
 use Rattle.prdb_lists.specs.Blocks.{AreWithin}
 use Rattle.prdb_lists.specs.Lists.{ids_without}
 use Rattle.prdb_lists.proofs.Ids.{of_without}
 use Rattle.prdb_lists.proofs.Places.{list_at}
-use Rattle.prdb_lists.proofs.Written.{drafts_then, within_more_len}
+use Rattle.prdb_lists.proofs.Written.{within_more_len}
 use Rattle.prdb_members.specs.Changes.{with_freed}
 use Rattle.prdb_members.specs.Costs.{lose_cost}
 use Rattle.prdb_members.proofs.Costs.{lose_freed, lose_written}
