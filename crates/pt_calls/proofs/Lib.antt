@@ -1,6 +1,5 @@
 pub mod AnswerLaws
 pub mod Again
-pub mod NewUsers
 pub mod Steps
 pub mod Taken
 pub mod WordCalls

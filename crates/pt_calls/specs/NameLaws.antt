@@ -1,17 +1,15 @@
 -- The id of the entry that has a name.
-use Rattle.std.proofs.Common.{◌≡◌, ℕ, ℤ, zero, suc, ◌+◌, ◌<◌, ◌≤◌, Bool, true, false, List, [], ◌∷◌, ◌++◌, map, Option, Some, None, IfSome, unwrap_or, refl, sym, ap, ◌∙◌, arith, inl, inr, ◌⊎◌}
+use Rattle.std.proofs.Common.{◌≡◌, ℕ, ℤ, zero, suc, ◌+◌, ◌<◌, ◌≤◌, Bool, true, false, List, [], ◌∷◌, ◌++◌, map, Option, Some, None, refl, sym, ap, ◌∙◌, arith, inl, inr, ◌⊎◌}
 use Rattle.std.specs.Prelude.{pos, negsuc}
 use Rattle.std.specs.List.{find, range_with_len}
 use Rattle.std.specs.Option.{option_map}
 use Rattle.std.specs.Str.{bytes_eq}
 use Rattle.prdb_layout.specs.Registry.{Registry, IsRegistry, IsNamed}
-use Rattle.prdb_layout.specs.Records.{Holds}
-use Rattle.prdb_layout.specs.Names.{lowered}
-use Rattle.prdb_layout.specs.State.{PrEntry, IsId, anonymous}
+use Rattle.prdb_layout.specs.State.{PrEntry, IsId}
 use Rattle.std.specs.Bool.{Decides}
 use Rattle.std.proofs.lemmas.Bool.{cases_eq}
 use Rattle.std.proofs.lemmas.Slice.Eq.{bytes_eq-Decides}
-use Rattle.pt_calls.specs.Meaning.{ids_to, id_named, is_named, id_or_anonymous}
+use Rattle.pt_calls.specs.Meaning.{ids_to, id_named, is_named}
 
 abbrev IsIn : {X : Type 0} → List X → X → Type 0
 IsIn [] x = ⊥
@@ -100,15 +98,6 @@ named_is r name (Some e) valid h =
     find_some (λ id. is_named name (r.entry id)) (ids_to 2147483647) e.id here
     (λ id named. let f = its_name name (r.entry id) named in valid.names id e.id f.0 e f.1 h.0 (f.2 ∙ sym h.1))
     (in_ids 2147483647 e.id (is_id e.id (valid.records e.id e h.0).fields.id))
-
--- the id that was found is the one that the name is translated to
-pub id_found : (bytes : Option (List ℕ)) (name searched : List ℕ) (o : Option PrEntry) (z : ℤ) → searched ≡ lowered name
-    → z ≡ unwrap_or (option_map (λ e. e.id) o) anonymous
-    → IfSome bytes (λ image. (r : Registry) → Holds image r → IsNamed r searched o)
-    → IfSome bytes (λ image. (r : Registry) → Holds image r → z ≡ id_or_anonymous r name)
-id_found None name searched o z low is found = tt
-id_found (Some image) name searched o z low is found = λ r holds.
-    is ∙ ap (λ (i : Option ℤ). unwrap_or i anonymous) (sym (named_is r searched o holds.valid (found r holds)) ∙ ap (id_named r) low)
 
 -- no entry has a name that is none's
 pub none_named : (r : Registry) (name : List ℕ) → IsRegistry r → id_named r name ≡ None → (id : ℤ) (e : PrEntry) → r.entry id ≡ Some e

@@ -1,6 +1,6 @@
 //! What the protection database answers.
 ghost use Rattle.std.specs.Prelude.{◌≡◌};
-ghost use Rattle.pt_calls.specs.Answers.{answer_kind, asked_for};
+ghost use Rattle.pt_calls.specs.Answers.{asked_for};
 
 use crate::kinds::CallKind;
 use crate::lists::{Ids, Names};

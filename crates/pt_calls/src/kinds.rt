@@ -1,5 +1,5 @@
 //! The kinds of calls.
-ghost use Rattle.std.specs.Prelude.{◌≡◌, IfSome};
+ghost use Rattle.std.specs.Prelude.{◌≡◌};
 ghost use Rattle.pt_calls.specs.Calls.{kind_number, kind_numbered};
 ghost use Rattle.pt_calls.specs.Words.{kind_named, kind_word};
 ghost use Rattle.pt_calls.specs.Writes.{is_write};

@@ -1,5 +1,4 @@
 //! Laws of the grammar and of words: each is the clause of a call that does nothing.
-ghost use Rattle.std.specs.Prelude.{◌≡◌};
 ghost use Rattle.call_grammar.specs.Laws.{ReadsSpellings, ReadsSpellingsAlone};
 ghost use Rattle.xdr_base.specs.Laws.{NoneBeginsAnother};
 ghost use Rattle.pt_calls.specs.Calls.{IsCall, spelling};

@@ -5,17 +5,18 @@ use Rattle.std.specs.Option.{option_map}
 use Rattle.db_image.specs.Ends.{end_of}
 use Rattle.db_image.specs.declared.draft_services.CallEnd.{CallEnd}
 use Rattle.db_image.specs.declared.faults.RecordFault.{RecordFault}
-use Rattle.prdb_layout.specs.RecordEnds.{HasCause}
-use Rattle.prdb_layout.specs.Records.{Holds, after_insert, after_set_maxima}
 use Rattle.prdb_layout.specs.Registry.{Registry, IsRegistry, MayBeAdded}
 use Rattle.prdb_layout.specs.State.{PrEntry}
+use Rattle.prdb_finds.specs.Changes.{after_set_maxima}
+use Rattle.prdb_finds.specs.Ends.{HasCauseWhere, HasItsCause}
+use Rattle.prdb_entries.specs.Changes.{after_insert}
 use Rattle.pt_calls.specs.declared.answers.PtAnswer.TheVariants as answer
 use Rattle.pt_service.specs.Entering.{kind_of}
 use Rattle.pt_service.specs.Meaning.{Answers, Enter, Makes, Refuses, first_unused, made, new_entry, new_entry_of_id, owner_for, raised, reply_by}
 use Rattle.pt_service.specs.State.{is_group, is_id}
 use Rattle.pt_service.specs.Told.{IsMeant, Told}
-use Rattle.pt_service.proofs.Done.{changed, refused, told_all, told_both, told_map}
-use Rattle.pt_service.proofs.Entered.{cause_of_enter, enter_left, given_bad, given_made, given_refused, given_taken, kind_none, kind_some, may_enter, next_made, next_none, next_refused, unused_is}
+use Rattle.pt_service.proofs.Done.{changed, refused, told_both, told_map}
+use Rattle.pt_service.proofs.Entered.{cause_of_enter, enter_left, given_made, given_refused, given_taken, kind_some, may_enter, next_made, next_none, next_refused, unused_is}
 
 -- what was found over a draft of the same bytes
 pub told_same : (bytes mid : Option (List ℕ)) (P : Registry → Type 0) → mid ≡ bytes → Told mid P → Told bytes P
@@ -27,12 +28,6 @@ owned_low : (bytes : Option (List ℕ)) (group : Bool) (name low : List ℕ) (gi
 owned_low bytes group name low given found is told = subst (λ (n : List ℕ). Told bytes (λ r. found ≡ owner_for r group n given)) is told
 
 -- ---- with the next id
-
-pub new_no_kind : (bytes : Option (List ℕ)) (low : List ℕ) (kind : ℕ) (given : ℤ) (ended : CallEnd) → kind_of kind ≡ None
-    → ended ≡ end_of (reply_by (Refuses 267273)) → IsMeant bytes (λ r. new_entry r low kind given) ended bytes
-new_no_kind bytes low kind given ended none told =
-    refused bytes bytes (λ r. new_entry r low kind given) 267273 ended
-    (told_all bytes (λ r. new_entry r low kind given ≡ Refuses 267273) (λ r. kind_none r low kind given none)) told refl
 
 pub new_barred : (bytes after : Option (List ℕ)) (name low : List ℕ) (kind : ℕ) (given : ℤ) (group : Bool) (rule : ℕ) (ended : CallEnd)
     → kind_of kind ≡ Some group
@@ -84,7 +79,7 @@ new_made bytes b1 b2 b3 after name low kind k given owner u g id group e p ended
 pub new_cause : (bytes b2 b3 : Option (List ℕ)) (name low : List ℕ) (k : ℕ) (given owner id : ℤ) (group : Bool) (e : PrEntry)
     (f : RecordFault) → name ≡ low
     → Told bytes (λ r. Ok owner ≡ owner_for r group name given) → b2 ≡ bytes → Told b2 (λ r. Some id ≡ first_unused r group k)
-    → e ≡ made group low id owner → b3 ≡ bytes → HasCause b3 (λ image r. Holds image r × MayBeAdded e r) f → HasCause bytes Holds f
+    → e ≡ made group low id owner → b3 ≡ bytes → HasCauseWhere (λ r m. MayBeAdded e r) b3 f → HasItsCause bytes f
 new_cause bytes b2 b3 name low k given owner id group e f is good same2 some so same3 cause =
     let A = λ (r : Registry). Ok owner ≡ owner_for r group low given in
     let C = λ (r : Registry). Some id ≡ first_unused r group k in
@@ -94,12 +89,6 @@ new_cause bytes b2 b3 name low k given owner id group e f is good same2 some so 
     (owned_low bytes group name low given (Ok owner) is good) (told_same bytes b2 C same2 some)) cause
 
 -- ---- with a given id
-
-pub given_no_id : (bytes : Option (List ℕ)) (low : List ℕ) (id given : ℤ) (ended : CallEnd) → is_id (is_group id) id ≡ false
-    → ended ≡ end_of (reply_by (Refuses 267273)) → IsMeant bytes (λ r. new_entry_of_id r low id given) ended bytes
-given_no_id bytes low id given ended bad told =
-    refused bytes bytes (λ r. new_entry_of_id r low id given) 267273 ended
-    (told_all bytes (λ r. new_entry_of_id r low id given ≡ Refuses 267273) (λ r. given_bad r low id given bad)) told refl
 
 pub given_barred : (bytes after : Option (List ℕ)) (name low : List ℕ) (id given : ℤ) (group : Bool) (rule : ℕ) (ended : CallEnd)
     → is_id (is_group id) id ≡ true
@@ -153,7 +142,7 @@ pub given_cause : (bytes b1 b3 : Option (List ℕ)) (name low : List ℕ) (id gi
     → name ≡ low
     → Told bytes (λ r. Ok owner ≡ owner_for r group name given) → b1 ≡ bytes → Told b1 (λ r. true ≡ is_none (r.entry id))
     → e ≡ made group low id owner
-    → b3 ≡ bytes → HasCause b3 (λ image r. Holds image r × MayBeAdded e r) f → HasCause bytes Holds f
+    → b3 ≡ bytes → HasCauseWhere (λ r m. MayBeAdded e r) b3 f → HasItsCause bytes f
 given_cause bytes b1 b3 name low id given owner group e f is good same1 free so same3 cause =
     let A = λ (r : Registry). Ok owner ≡ owner_for r group low given in
     let U = λ (r : Registry). true ≡ is_none (r.entry id) in

@@ -1,5 +1,5 @@
 -- A new entry: what is decided of it, and that it may come in.
-use Rattle.std.proofs.Common.{◌≡◌, ℕ, ℤ, pos, negsuc, ◌≤◌, Bool, true, false, not, ◌&&◌, ◌||◌, cond, eqb, List, [], ◌∷◌, map, Option, Some, None, Result, Ok, Err, IsSome, IsSomeAnd, refl, sym, ap, subst, ◌∙◌, inr, arith}
+use Rattle.std.proofs.Common.{◌≡◌, ℕ, ℤ, pos, negsuc, Bool, true, false, not, ◌&&◌, ◌||◌, cond, eqb, List, [], ◌∷◌, map, Option, Some, None, Result, Ok, Err, IsSome, IsSomeAnd, refl, sym, ap, subst, ◌∙◌, inr, arith}
 use Rattle.std.specs.Prelude.{◌≤ℤ◌, FitsSigned, codes, int_lt, is_none, is_some, option_and_then, unsigned_abs}
 use Rattle.std.specs.Int.{w32}
 use Rattle.std.specs.List.{Contains, find}
@@ -9,11 +9,11 @@ use Rattle.std.specs.Str.{bytes_eq}
 use Rattle.std.proofs.lemmas.Bool.{eqb-true, ltb-true}
 use Rattle.std.proofs.lemmas.Int.{ints}
 use Rattle.db_image.specs.declared.faults.RecordFault.{RecordFault}
-use Rattle.db_image.specs.declared.faults.RecordFault.TheVariants.{DiskFault, BadRecord, NoMemory}
-use Rattle.prdb_layout.specs.RecordEnds.{HasCause}
-use Rattle.prdb_layout.specs.Records.{Holds, after_insert, after_set_maxima}
 use Rattle.prdb_layout.specs.Registry.{Registry, AreMaxima, IsRecord, IsRegistry, MayBeAdded}
 use Rattle.prdb_layout.specs.State.{PrEntry, administrators, anonymous, fixed_entries, front_of}
+use Rattle.prdb_finds.specs.Changes.{after_set_maxima}
+use Rattle.prdb_finds.specs.Ends.{HasCauseWhere, HasItsCause}
+use Rattle.prdb_entries.specs.Changes.{after_insert}
 use Rattle.pt_calls.specs.declared.answers.PtAnswer.TheVariants as answer
 use Rattle.pt_calls.specs.Meaning.{id_named, ids_to, is_named}
 use Rattle.pt_calls.specs.NameLaws.{none_named}
@@ -23,6 +23,7 @@ use Rattle.pt_service.specs.Names.{has_colon, is_name_of, system}
 use Rattle.pt_service.specs.Standing.{image_after}
 use Rattle.pt_service.specs.State.{is_group, is_id}
 use Rattle.pt_service.specs.Told.{Told}
+use Rattle.pt_service.proofs.Causes.{cause_told, told_valid}
 use Rattle.pt_service.proofs.Entries.{record_of}
 use Rattle.pt_service.proofs.Ownership.{for_is, front_is, owner_is}
 use Rattle.pt_service.proofs.Refitted.{some_with}
@@ -66,15 +67,6 @@ kind_by : (r : Registry) (name : List ℕ) (kind : ℕ) (owner : ℤ) (a b : Boo
 kind_by r name kind owner a b is_a is_b =
     ap (λ (t : Bool). cond (t || eqb kind 2) (entry_made r (eqb kind 2) name owner) (Refuses 267273)) is_a
     ∙ ap (λ (t : Bool). cond (a || t) (entry_made r t name owner) (Refuses 267273)) is_b
-
-none_by : (r : Registry) (name : List ℕ) (kind : ℕ) (owner : ℤ) (a b : Bool) → eqb kind 0 ≡ a → eqb kind 2 ≡ b
-    → cond a (Some false) (cond b (Some true) None) ≡ None → new_entry r name kind owner ≡ Refuses 267273
-none_by r name kind owner true b is_a is_b none = absurd cc
-none_by r name kind owner false true is_a is_b none = absurd cc
-none_by r name kind owner false false is_a is_b none = kind_by r name kind owner false false is_a is_b
-
-pub kind_none : (r : Registry) (name : List ℕ) (kind : ℕ) (owner : ℤ) → kind_of kind ≡ None → new_entry r name kind owner ≡ Refuses 267273
-kind_none r name kind owner none = none_by r name kind owner (eqb kind 0) (eqb kind 2) refl refl none
 
 some_by : (r : Registry) (name : List ℕ) (kind : ℕ) (owner : ℤ) (group a b : Bool) → eqb kind 0 ≡ a → eqb kind 2 ≡ b
     → cond a (Some false) (cond b (Some true) None) ≡ Some group → new_entry r name kind owner ≡ entry_made r group name owner
@@ -132,10 +124,6 @@ of_id_is : (r : Registry) (name : List ℕ) (id given : ℤ) (b : Bool) → is_i
 of_id_is r name id given b is =
     ap (λ (t : Bool). cond t (of_owner (owner_for r (is_group id) name given) (λ o. with_given r name id o (is_some (r.entry id))))
     (Refuses 267273)) is
-
-pub given_bad : (r : Registry) (name : List ℕ) (id given : ℤ) → is_id (is_group id) id ≡ false
-    → new_entry_of_id r name id given ≡ Refuses 267273
-given_bad r name id given is = of_id_is r name id given false is
 
 pub given_refused : (r : Registry) (group : Bool) (name : List ℕ) (id given : ℤ) (rule : ℕ) → is_id (is_group id) id ≡ true
     → group ≡ is_group id
@@ -289,14 +277,10 @@ may_enter r group name given owner id e valid good unused so =
     })
 
 pub cause_of_enter : (bytes mid : Option (List ℕ)) (e : PrEntry) (f : RecordFault) → mid ≡ bytes
-    → Told bytes (λ r. IsRegistry r → MayBeAdded e r)
-    → HasCause mid (λ image r. Holds image r × MayBeAdded e r) f → HasCause bytes Holds f
-cause_of_enter bytes mid e DiskFault same may cause = tt
-cause_of_enter bytes mid e NoMemory same may cause = tt
-cause_of_enter None mid e (BadRecord at) same may cause = tt
-cause_of_enter (Some image) mid e (BadRecord at) same may cause = λ r holds.
-    let none = subst (λ (b : Option (List ℕ)). HasCause b (λ i s. Holds i s × MayBeAdded e s) (BadRecord at)) same cause in
-    none r (holds, may r holds holds.valid)
+    → Told bytes (λ r. IsRegistry r → MayBeAdded e r) → HasCauseWhere (λ r m. MayBeAdded e r) mid f → HasItsCause bytes f
+cause_of_enter bytes mid e f same may cause =
+    cause_told (λ r m. MayBeAdded e r) bytes mid f same
+    (told_valid bytes (λ r. IsRegistry r → MayBeAdded e r) (λ r. MayBeAdded e r) (λ r valid so. so valid) may) cause
 
 pub enter_left : (bytes mid after : Option (List ℕ)) (e : PrEntry) (u g : ℤ) → mid ≡ bytes
     → after ≡ option_map (λ image. after_set_maxima u g (after_insert e image)) mid

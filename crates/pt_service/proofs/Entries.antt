@@ -1,5 +1,5 @@
 -- What passes the tests of an entry is one that the database may hold, and nothing else is.
-use Rattle.std.proofs.Common.{◌≡◌, ℕ, ℤ, pos, negsuc, ◌<◌, ◌≤◌, ◌^◌, Bool, true, false, ◌&&◌, ltb, List, length, Option, Some, None, IfSome, refl, sym, ap, subst, ◌∙◌, arith}
+use Rattle.std.proofs.Common.{◌≡◌, ℕ, ℤ, pos, negsuc, ◌<◌, ◌≤◌, ◌^◌, Bool, true, false, ◌&&◌, ltb, List, length, Option, Some, None, refl, sym, ap, subst, ◌∙◌, arith}
 use Rattle.std.specs.Prelude.{FitsSigned, IsSomeAnd}
 use Rattle.std.specs.Int.{w32}
 use Rattle.std.specs.Option.{option_map}
@@ -7,12 +7,12 @@ use Rattle.std.proofs.lemmas.Bool.{and_from, and_parts, lt-ltb, ltb-true}
 use Rattle.std.proofs.lemmas.Int.{ints}
 use Rattle.db_image.specs.declared.faults.RecordFault.{RecordFault}
 use Rattle.db_image.specs.declared.faults.RecordFault.TheVariants as fault
-use Rattle.prdb_layout.specs.RecordEnds.{HasCause, seen}
-use Rattle.prdb_layout.specs.Records.{Holds}
-use Rattle.prdb_layout.specs.Registry.{Registry, IsNamed, IsRecord, is_name_for}
+use Rattle.prdb_layout.specs.RecordEnds.{seen}
+use Rattle.prdb_layout.specs.Registry.{IsNamed, IsRecord, is_name_for}
 use Rattle.prdb_layout.specs.State.{PrEntry, IsId}
 use Rattle.prdb_layout.specs.declared.records.PrEntry.{PrEntry as CodeEntry}
 use Rattle.prdb_layout.proofs.UserNames.{HasForm, form}
+use Rattle.prdb_finds.specs.Ends.{HasItsCause}
 use Rattle.pt_service.specs.Fitting.{entry_fits}
 use Rattle.pt_service.specs.Names.{is_name_of}
 use Rattle.pt_service.specs.State.{is_group, is_id}
@@ -81,34 +81,34 @@ both false is not = absurd cc
 -- an entry that no database may hold is in none
 unfit : (bytes : Option (List ℕ)) (found : Option CodeEntry) (at : ℕ) → IsSomeAnd found (λ e. entry_fits (seen e) ≡ false)
     → Told bytes (λ r. (e : CodeEntry) → found ≡ Some e → (id : ℤ) × (r.entry id ≡ Some (seen e)))
-    → HasCause bytes Holds (fault.BadRecord at)
+    → HasItsCause bytes (fault.BadRecord at)
 unfit None found at bad there = tt
 unfit (Some image) None at bad there = absurd bad
-unfit (Some image) (Some e) at bad there = λ r holds.
-    let t = there r holds e refl in
-    both (entry_fits (seen e)) (record_fits (seen e) (holds.valid.records t.0 (seen e) t.1)) bad
+unfit (Some image) (Some e) at bad there = λ h.
+    let t = there h.0 h.1 h.2 e refl in
+    both (entry_fits (seen e)) (record_fits (seen e) (h.2.pairs.holds.valid.records t.0 (seen e) t.1)) bad
 
 told_id : (bytes : Option (List ℕ)) (found : Option CodeEntry) (id : ℤ)
-    → IfSome bytes (λ image. (r : Registry) → Holds image r → option_map seen found ≡ r.entry id)
+    → Told bytes (λ r. option_map seen found ≡ r.entry id)
     → Told bytes (λ r. (e : CodeEntry) → found ≡ Some e → (id : ℤ) × (r.entry id ≡ Some (seen e)))
 told_id None found id there = tt
-told_id (Some image) found id there = λ r holds e is. (id, sym (there r holds) ∙ ap (option_map seen) is)
+told_id (Some image) found id there = λ r m holds e is. (id, sym (there r m holds) ∙ ap (option_map seen) is)
 
 pub unfit_id : (bytes : Option (List ℕ)) (found : Option CodeEntry) (id : ℤ) (at : ℕ) (f : RecordFault) → f ≡ fault.BadRecord at
     → IsSomeAnd found (λ e. entry_fits (seen e) ≡ false)
-    → IfSome bytes (λ image. (r : Registry) → Holds image r → option_map seen found ≡ r.entry id)
-    → HasCause bytes Holds f
-unfit_id bytes found id at f is bad there = subst (HasCause bytes Holds) (sym is) (unfit bytes found at bad (told_id bytes found id there))
+    → Told bytes (λ r. option_map seen found ≡ r.entry id)
+    → HasItsCause bytes f
+unfit_id bytes found id at f is bad there = subst (HasItsCause bytes) (sym is) (unfit bytes found at bad (told_id bytes found id there))
 
 told_name : (bytes : Option (List ℕ)) (found : Option CodeEntry) (name : List ℕ)
-    → IfSome bytes (λ image. (r : Registry) → Holds image r → IsNamed r name (option_map seen found))
+    → Told bytes (λ r. IsNamed r name (option_map seen found))
     → Told bytes (λ r. (e : CodeEntry) → found ≡ Some e → (id : ℤ) × (r.entry id ≡ Some (seen e)))
 told_name None found name there = tt
-told_name (Some image) found name there = λ r holds e is.
-    (e.id, (subst (λ (o : Option CodeEntry). IsNamed r name (option_map seen o)) is (there r holds)).0)
+told_name (Some image) found name there = λ r m holds e is.
+    (e.id, (subst (λ (o : Option CodeEntry). IsNamed r name (option_map seen o)) is (there r m holds)).0)
 
 pub unfit_name : (bytes : Option (List ℕ)) (found : Option CodeEntry) (name : List ℕ) (at : ℕ) (f : RecordFault) → f ≡ fault.BadRecord at
     → IsSomeAnd found (λ e. entry_fits (seen e) ≡ false)
-    → IfSome bytes (λ image. (r : Registry) → Holds image r → IsNamed r name (option_map seen found)) → HasCause bytes Holds f
+    → Told bytes (λ r. IsNamed r name (option_map seen found)) → HasItsCause bytes f
 unfit_name bytes found name at f is bad there =
-    subst (HasCause bytes Holds) (sym is) (unfit bytes found at bad (told_name bytes found name there))
+    subst (HasItsCause bytes) (sym is) (unfit bytes found at bad (told_name bytes found name there))

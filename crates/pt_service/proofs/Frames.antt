@@ -4,8 +4,8 @@ use Rattle.db_image.specs.Draft.{Drafted}
 use Rattle.db_image.specs.declared.faults.RecordFault.{RecordFault}
 use Rattle.db_image.specs.declared.faults.RecordFault.TheVariants.{DiskFault, NoMemory}
 use Rattle.db_image.specs.declared.images.ImageRead.{Ghosts}
-use Rattle.prdb_layout.specs.RecordEnds.{OnlyDrafts, OnlyLooks}
-use Rattle.prdb_layout.proofs.Scanned.{drafts_after, looks_then}
+use Rattle.db_blocks.specs.Ends.{OnlyDrafts, OnlyLooks}
+use Rattle.db_blocks.proofs.Scanned.{drafts_after, looks_then}
 
 pub looked : {I : Type 0} (g : Ghosts I) (a b : Drafted I) (first failed : Type 0) → OnlyLooks g a b first → (failed → first)
     → OnlyDrafts g a b failed
@@ -41,6 +41,10 @@ pub drafted : {I : Type 0} (g : Ghosts I) (a b c : Drafted I) (first second fail
     → OnlyDrafts g b c second → (failed → second)
     → OnlyDrafts g a c failed
 drafted g a b c first second failed r s so = drafts_so g a c second failed (drafts_after g a b c first second r s) so
+
+pub looked_twice : {I : Type 0} (g : Ghosts I) (a b c : Drafted I) (first second failed : Type 0) → OnlyLooks g a b first
+    → OnlyLooks g b c second → (failed → second) → OnlyDrafts g a c failed
+looked_twice g a b c first second failed r s so = looked g a c second failed (looks_then g a b c first second r s) so
 
 pub looked_thrice : {I : Type 0} (g : Ghosts I) (a b c d : Drafted I) (first second third failed : Type 0) → OnlyLooks g a b first
     → OnlyLooks g b c second

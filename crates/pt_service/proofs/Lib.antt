@@ -1,11 +1,16 @@
+pub mod Causes
 pub mod Comes
+pub mod Costs
 pub mod Done
 pub mod Entered
 pub mod Entries
+pub mod Found
 pub mod Frames
 pub mod GroupNames
 pub mod Lengths
+pub mod Mapped
 pub mod Named
 pub mod Ownership
 pub mod Refitted
+pub mod Told
 pub mod Unused

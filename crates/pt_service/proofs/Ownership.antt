@@ -1,21 +1,20 @@
 -- Who owns a new entry, as it is found in the records.
-use Rattle.std.proofs.Common.{◌≡◌, ℕ, ℤ, pos, Bool, true, false, not, cond, List, Option, Some, None, Result, Ok, Err, IfSome, IfOk, refl, sym, ap, subst, ◌∙◌}
+use Rattle.std.proofs.Common.{◌≡◌, ℕ, ℤ, pos, Bool, true, false, not, cond, List, Option, Some, None, Result, Ok, Err, IfOk, refl, sym, ap, subst, ◌∙◌}
 use Rattle.std.specs.Prelude.{is_some}
 use Rattle.std.specs.Option.{option_map}
 use Rattle.std.specs.Ordering.{int_eq}
 use Rattle.std.specs.Str.{bytes_eq}
 use Rattle.db_image.specs.declared.faults.RecordFault.{RecordFault}
 use Rattle.prdb_layout.specs.RecordEnds.{seen}
-use Rattle.prdb_layout.specs.Records.{Holds}
 use Rattle.prdb_layout.specs.Registry.{Registry, IsNamed}
 use Rattle.prdb_layout.specs.State.{PrEntry, administrators, front_of}
 use Rattle.prdb_layout.specs.declared.records.PrEntry.{PrEntry as CodeEntry}
 use Rattle.pt_calls.specs.Meaning.{id_named}
-use Rattle.pt_calls.specs.NameLaws.{named_is}
 use Rattle.pt_service.specs.Meaning.{given_owner, owner_by_front, owner_for, owner_named, owner_of, unless_taken}
 use Rattle.pt_service.specs.Names.{has_colon, is_name_of, system}
 use Rattle.pt_service.specs.Told.{Told}
 use Rattle.pt_service.proofs.Done.{told_all, told_both, told_map}
+use Rattle.pt_service.proofs.Found.{its_id}
 
 -- ---- by the front of a name
 
@@ -33,11 +32,11 @@ ids_are None = refl
 ids_are (Some e) = refl
 
 pub front_found : (bytes : Option (List ℕ)) (front : List ℕ) (found : Option CodeEntry) (owner : Result ℤ ℕ) → bytes_eq front system ≡ false
-    → IfSome bytes (λ image. (r : Registry) → Holds image r → IsNamed r front (option_map seen found))
+    → Told bytes (λ r. IsNamed r front (option_map seen found))
     → owner ≡ owner_named (option_map (λ (e : CodeEntry). e.id) found) → Told bytes (λ r. owner ≡ owner_by_front r front)
 front_found None front found owner other named is = tt
-front_found (Some image) front found owner other named is = λ r holds.
-    is ∙ ap owner_named (sym (ids_are found) ∙ sym (named_is r front (option_map seen found) holds.valid (named r holds)))
+front_found (Some image) front found owner other named is = λ r m holds.
+    is ∙ ap owner_named (sym (ids_are found) ∙ sym (its_id image r m front (option_map seen found) holds (named r m holds)))
     ∙ sym (front_is r front false other)
 
 -- ---- the owner of a name
@@ -53,7 +52,7 @@ owner_is r name given none colon is has =
 
 pub owner_given : (bytes : Option (List ℕ)) (name : List ℕ) (given : ℤ) (found : Option CodeEntry) (owner : Result ℤ ℕ)
     → int_eq given (pos 0) ≡ false
-    → IfSome bytes (λ image. (r : Registry) → Holds image r → option_map seen found ≡ r.entry given)
+    → Told bytes (λ r. option_map seen found ≡ r.entry given)
     → owner ≡ given_owner name given (option_map seen found)
     → Told bytes (λ r. owner ≡ owner_of r name given)
 owner_given bytes name given found owner is there so =
@@ -68,11 +67,6 @@ owner_fronted (Err fault) bytes name front given is has same found = tt
 owner_fronted (Ok owner) bytes name front given is has same found =
     told_map bytes (λ r. owner ≡ owner_by_front r front) (λ r. owner ≡ owner_of r name given)
     (λ r so. so ∙ ap (owner_by_front r) same ∙ sym (owner_is r name given true true is has)) found
-
-pub owner_none : (bytes : Option (List ℕ)) (name : List ℕ) (given : ℤ) → int_eq given (pos 0) ≡ true → has_colon name ≡ false
-    → Told bytes (λ r. Ok administrators ≡ owner_of r name given)
-owner_none bytes name given is has =
-    told_all bytes (λ r. Ok administrators ≡ owner_of r name given) (λ r. sym (owner_is r name given true false is has))
 
 -- ---- the owner of a new entry
 

@@ -1,33 +1,30 @@
 -- Maxima and fields that are set.
-use Rattle.std.proofs.Common.{◌≡◌, ℕ, ℤ, pos, negsuc, ◌≤◌, Bool, true, false, cond, List, get_or, Option, Some, None, Result, Ok, Err, IsSome, IsSomeAnd, IfSome, IfErr, refl, sym, ap, subst, ◌∙◌, ⊎_elim, inl, inr, arith}
+use Rattle.std.proofs.Common.{◌≡◌, ℕ, ℤ, pos, negsuc, Bool, true, false, cond, List, get_or, Option, Some, None, Result, IsSome, IsSomeAnd, IfErr, refl, sym, ap, subst, ◌∙◌, ⊎_elim, inl, inr, arith}
 use Rattle.std.specs.Prelude.{◌≤ℤ◌, ◌⊎◌, FitsSigned, option_and_then}
 use Rattle.std.specs.Int.{w32}
 use Rattle.std.specs.Option.{option_map}
 use Rattle.std.proofs.lemmas.Bool.{ltb-true}
 use Rattle.std.proofs.lemmas.Int.{ints}
 use Rattle.db_image.specs.declared.faults.RecordFault.{RecordFault}
-use Rattle.db_image.specs.declared.faults.RecordFault.TheVariants.{DiskFault, BadRecord, NoMemory}
-use Rattle.prdb_layout.specs.RecordEnds.{HasCause}
-use Rattle.prdb_layout.specs.Records.{Holds, after_replace, after_set_maxima}
 use Rattle.prdb_layout.specs.Registry.{Registry, AreMaxima, IsAmong, IsFixedId, IsRegistry, MayReplace, with_entry}
 use Rattle.prdb_layout.specs.State.{PrEntry, fixed_entries}
 use Rattle.prdb_layout.proofs.Changed.{by_id, some_same, under_other, under_same}
+use Rattle.prdb_finds.specs.Changes.{after_set_maxima}
+use Rattle.prdb_finds.specs.Ends.{HasCauseWhere, HasItsCause}
+use Rattle.prdb_entries.specs.Changes.{after_replace}
 use Rattle.pt_calls.specs.declared.answers.PtAnswer.TheVariants as answer
 use Rattle.pt_service.specs.Fitting.{Refits}
 use Rattle.pt_service.specs.Meaning.{Maxima, Makes, Refit, Refuses, Verdict, are_bad_fields, fields_set, is_maximum, maxima_with, maximum_set, of_entry, with_fields}
 use Rattle.pt_service.specs.Standing.{image_after}
 use Rattle.pt_service.specs.Told.{Told}
-use Rattle.pt_service.proofs.Done.{told_all, told_map}
+use Rattle.pt_service.proofs.Causes.{cause_of_err, cause_told, told_valid}
+use Rattle.pt_service.proofs.Done.{told_map}
 
 -- ---- maxima
 
 set_by : (r : Registry) (id : ℤ) (group b : Bool) → is_maximum group id ≡ b
     → maximum_set r id group ≡ cond b (Makes answer.Done (maxima_with r group id)) (Refuses 267273)
 set_by r id group b is = ap (λ (t : Bool). cond t (Makes answer.Done (maxima_with r group id)) (Refuses 267273)) is
-
-pub max_refused : (bytes : Option (List ℕ)) (id : ℤ) (group : Bool) → is_maximum group id ≡ false
-    → Told bytes (λ r. maximum_set r id group ≡ Refuses 267273)
-max_refused bytes id group is = told_all bytes (λ r. maximum_set r id group ≡ Refuses 267273) (λ r. set_by r id group false is)
 
 with_by : (r : Registry) (id u g : ℤ) (group : Bool) (p : ℤ × ℤ) → ◌≡◌ {A = ℤ × ℤ} (u, g) (r.max_user, r.max_group)
     → ◌≡◌ {A = ℤ × ℤ} p (cond group (u, id) (id, g)) → maxima_with r group id ≡ Maxima p.0 p.1
@@ -39,7 +36,7 @@ with_by r id u g false p max same =
     ap (λ (z : ℤ). Maxima id z) group ∙ ap (λ (z : ℤ). Maxima z p.1) (sym (ap (λ (q : ℤ × ℤ). q.0) same))
 
 pub max_set : (bytes : Option (List ℕ)) (id u g : ℤ) (group : Bool) (p : ℤ × ℤ) → is_maximum group id ≡ true
-    → IfSome bytes (λ image. (r : Registry) → Holds image r → ◌≡◌ {A = ℤ × ℤ} (u, g) (r.max_user, r.max_group))
+    → Told bytes (λ r. ◌≡◌ {A = ℤ × ℤ} (u, g) (r.max_user, r.max_group))
     → ◌≡◌ {A = ℤ × ℤ} p (cond group (u, id) (id, g)) → Told bytes (λ r. maximum_set r id group ≡ Makes answer.Done (Maxima p.0 p.1))
 max_set bytes id u g group p is max same =
     told_map bytes (λ r. ◌≡◌ {A = ℤ × ℤ} (u, g) (r.max_user, r.max_group))
@@ -73,7 +70,7 @@ are_maxima id u g false are fits is p same =
 -- ---- fields
 
 pub no_fields : (bytes : Option (List ℕ)) (id : ℤ) (goes : PrEntry → Verdict)
-    → IfSome bytes (λ image. (r : Registry) → Holds image r → None ≡ r.entry id)
+    → Told bytes (λ r. None ≡ r.entry id)
     → Told bytes (λ r. of_entry (r.entry id) goes ≡ Refuses 267268)
 no_fields bytes id goes none =
     told_map bytes (λ r. None ≡ r.entry id) (λ r. of_entry (r.entry id) goes ≡ Refuses 267268)
@@ -85,7 +82,7 @@ fields_by mask flags quota e b is =
     ap (λ (t : Bool). cond t (Refuses 267273) (Makes answer.Done (Refit (with_fields mask flags quota e)))) is
 
 pub fields_refused : (bytes : Option (List ℕ)) (id : ℤ) (mask flags : ℕ) (quota : ℤ) (e : PrEntry) → are_bad_fields mask flags quota ≡ true
-    → IfSome bytes (λ image. (r : Registry) → Holds image r → Some e ≡ r.entry id)
+    → Told bytes (λ r. Some e ≡ r.entry id)
     → Told bytes (λ r. of_entry (r.entry id) (fields_set mask flags quota) ≡ Refuses 267273)
 fields_refused bytes id mask flags quota e is there =
     told_map bytes (λ r. Some e ≡ r.entry id) (λ r. of_entry (r.entry id) (fields_set mask flags quota) ≡ Refuses 267273)
@@ -93,7 +90,7 @@ fields_refused bytes id mask flags quota e is there =
 
 pub fields_made : (bytes : Option (List ℕ)) (id : ℤ) (mask flags : ℕ) (quota : ℤ) (e new : PrEntry)
     → are_bad_fields mask flags quota ≡ false
-    → IfSome bytes (λ image. (r : Registry) → Holds image r → Some e ≡ r.entry id) → new ≡ with_fields mask flags quota e
+    → Told bytes (λ r. Some e ≡ r.entry id) → new ≡ with_fields mask flags quota e
     → Told bytes (λ r. of_entry (r.entry id) (fields_set mask flags quota) ≡ Makes answer.Done (Refit new))
 fields_made bytes id mask flags quota e new is there so =
     told_map bytes (λ r. Some e ≡ r.entry id) (λ r. of_entry (r.entry id) (fields_set mask flags quota) ≡ Makes answer.Done (Refit new))
@@ -105,10 +102,6 @@ pub fields_left : (bytes mid after : Option (List ℕ)) (new : PrEntry) → mid 
     → after ≡ option_and_then (image_after (Refit new)) bytes
 fields_left None mid after new same made = made ∙ ap (option_map (after_replace new.id new)) same
 fields_left (Some image) mid after new same made = made ∙ ap (option_map (after_replace new.id new)) same
-
--- it stands in place of what was there
-is_there : (r : Registry) (e f : PrEntry) (id : ℤ) → r.entry id ≡ Some e → id ≡ f.id → IsSome (r.entry f.id)
-is_there r e f id at same = subst (λ (o : Option PrEntry). IsSome o) (sym (ap r.entry (sym same) ∙ at)) refl
 
 pub some_with : (r : Registry) (e : PrEntry) (id : ℤ) → IsSome (r.entry id) → IsSome ((with_entry e r).entry id)
 some_with r e id some =
@@ -142,27 +135,22 @@ refits_may r e valid refits =
     let old : PrEntry = record e { flags = refits.0; quota = refits.1 } in
     may_refit r e old valid refits.2 refl (valid.among e.id old refits.2) refl refl
 
-pub cause_of_refit : (bytes : Option (List ℕ)) (e : PrEntry) (id : ℤ) (f : RecordFault) → id ≡ e.id
-    → HasCause bytes (λ image r. Holds image r × MayReplace id e r) f → HasCause bytes (λ image r. Holds image r × Refits r e) f
-cause_of_refit bytes e id DiskFault same cause = tt
-cause_of_refit bytes e id NoMemory same cause = tt
-cause_of_refit None e id (BadRecord at) same cause = tt
-cause_of_refit (Some image) e id (BadRecord at) same cause = λ r both.
-    cause r (both.0, subst (λ (z : ℤ). MayReplace z e r) (sym same) (refits_may r e both.0.valid both.1))
+pub refit_err : {T : Type 0} (res : Result T RecordFault) (bytes : Option (List ℕ)) (e : PrEntry)
+    → IfErr res (HasCauseWhere (λ r m. MayReplace e.id e r) bytes) → IfErr res (HasCauseWhere (λ r m. Refits r e) bytes)
+refit_err res bytes e cause =
+    cause_of_err res (λ r m. MayReplace e.id e r) (λ r m. Refits r e) bytes (λ r m valid refits. refits_may r e valid refits) cause
+
+-- the entry that was found with other fields is one that refits
+found_refits : (r : Registry) (id : ℤ) (mask flags : ℕ) (quota : ℤ) (e new : PrEntry) → new ≡ with_fields mask flags quota e → IsRegistry r
+    → Some e ≡ r.entry id → Refits r new
+found_refits r id mask flags quota e new so valid there =
+    let own : id ≡ e.id = sym (valid.ids id e (sym there)) in
+    subst (λ (x : PrEntry). Refits r x) (sym so) (e.flags, e.quota, ap r.entry (sym own) ∙ sym there)
 
 pub cause_of_fields : (bytes mid : Option (List ℕ)) (id : ℤ) (mask flags : ℕ) (quota : ℤ) (e new : PrEntry) (f : RecordFault) → mid ≡ bytes
-    → IfSome bytes (λ image. (r : Registry) → Holds image r → Some e ≡ r.entry id) → new ≡ with_fields mask flags quota e
-    → HasCause mid (λ image r. Holds image r × Refits r new) f → HasCause bytes Holds f
-cause_of_fields bytes mid id mask flags quota e new DiskFault same there so cause = tt
-cause_of_fields bytes mid id mask flags quota e new NoMemory same there so cause = tt
-cause_of_fields None mid id mask flags quota e new (BadRecord at) same there so cause = tt
-cause_of_fields (Some image) mid id mask flags quota e new (BadRecord at) same there so cause = λ r holds.
-    let none = subst (λ (b : Option (List ℕ)). HasCause b (λ i s. Holds i s × Refits s new) (BadRecord at)) same cause in
-    let own : id ≡ e.id = sym (holds.valid.ids id e (sym (there r holds))) in
-    none r (holds, subst (λ (x : PrEntry). Refits r x) (sym so) (e.flags, e.quota, ap r.entry (sym own) ∙ sym (there r holds)))
-
-pub refit_err : {T : Type 0} (res : Result T RecordFault) (bytes : Option (List ℕ)) (e : PrEntry)
-    → IfErr res (HasCause bytes (λ image r. Holds image r × MayReplace e.id e r))
-    → IfErr res (HasCause bytes (λ image r. Holds image r × Refits r e))
-refit_err (Ok x) bytes e cause = tt
-refit_err (Err f) bytes e cause = cause_of_refit bytes e e.id f refl cause
+    → Told bytes (λ r. Some e ≡ r.entry id) → new ≡ with_fields mask flags quota e
+    → HasCauseWhere (λ r m. Refits r new) mid f → HasItsCause bytes f
+cause_of_fields bytes mid id mask flags quota e new f same there so cause =
+    cause_told (λ r m. Refits r new) bytes mid f same
+    (told_valid bytes (λ r. Some e ≡ r.entry id) (λ r. Refits r new)
+    (λ r valid at. found_refits r id mask flags quota e new so valid at) there) cause

@@ -5,9 +5,9 @@ use Rattle.std.specs.List.{find, range_with_len}
 use Rattle.std.proofs.lemmas.Bool.{lt-ltb}
 use Rattle.db_image.specs.Draft.{Drafted}
 use Rattle.db_image.specs.declared.images.ImageRead.{Ghosts}
-use Rattle.prdb_layout.specs.RecordEnds.{OnlyLooks}
+use Rattle.db_blocks.specs.Ends.{OnlyLooks}
+use Rattle.db_blocks.proofs.Scanned.{looks_none, looks_then, looks_so}
 use Rattle.prdb_layout.specs.Registry.{Registry}
-use Rattle.prdb_layout.proofs.Scanned.{looks_none, looks_then, looks_so}
 use Rattle.pt_service.specs.Meaning.{first_unused, id_behind, ids_behind}
 use Rattle.pt_service.specs.State.{is_id}
 use Rattle.pt_service.specs.Told.{Told}

@@ -1,3 +1,4 @@
+pub mod Costs
 pub mod Entering
 pub mod Fitting
 pub mod Meaning

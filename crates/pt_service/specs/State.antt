@@ -1,8 +1,9 @@
 -- The protection database apart from any image: its entries, the two maxima, and which user is in which group (ptserver).
-use Rattle.std.specs.Prelude.{ℕ, ℤ, pos, negsuc, ◌+ℤ◌, ◌≡◌, zero, suc, Bool, true, false, IsSome, List, [], ◌∷◌, filter, length, nat_lt, option_to_list}
+use Rattle.std.specs.Prelude.{ℕ, ℤ, pos, negsuc, ◌+ℤ◌, zero, suc, Bool, true, false, List, [], ◌∷◌, filter, length, nat_lt, option_to_list}
 use Rattle.std.specs.List.{flat_map}
-use Rattle.prdb_layout.specs.Registry.{Registry, IsRegistry, first_registry}
+use Rattle.prdb_layout.specs.Registry.{Registry, first_registry}
 use Rattle.prdb_layout.specs.State.{PrEntry}
+use Rattle.entry_scans.specs.Pages.{least_id}
 
 pub record State : Type 0 where
   pub registry : Registry
@@ -24,27 +25,12 @@ is_id true (negsuc n) = nat_lt n 2147483647
 is_id false (pos n) = nat_lt 0 n
 is_id false (negsuc n) = false
 
--- a pair is of a user and a group that are there
-pub record IsPair (r : Registry) (user group : ℤ) : Type 0 where
-  pub user_there : IsSome (r.entry user)
-  pub group_there : IsSome (r.entry group)
-  pub of_user : is_group user ≡ false
-  pub of_group : is_group group ≡ true
-
-pub record IsState (s : State) : Type 0 where
-  pub registry : IsRegistry s.registry
-  pub pairs : (user group : ℤ) → s.is_in user group ≡ true → IsPair s.registry user group
-
 -- ---- in their order
 
 -- so many numbers from one on, ascending
 unfoldable pub numbers_from : ℤ → (count : ℕ) → List ℤ
 numbers_from first zero = []
 numbers_from first (suc count) = first ∷ numbers_from (first +ℤ pos 1) count
-
--- the least id
-abbrev pub least_id : ℤ
-least_id = negsuc 2147483646
 
 -- the ids and 0, ascending
 unfoldable pub ids : List ℤ

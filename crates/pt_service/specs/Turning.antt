@@ -5,6 +5,7 @@ use Rattle.std.specs.Ordering.{int_eq}
 use Rattle.std.specs.Str.{bytes_eq}
 use Rattle.prdb_layout.specs.Registry.{Registry, is_name_for}
 use Rattle.prdb_layout.specs.State.{PrEntry, fixed_entries, front_of}
+use Rattle.prdb_lists.specs.Moves.{before}
 use Rattle.pt_service.specs.Names.{has_colon, with_front}
 use Rattle.pt_service.specs.Refusals as rule
 use Rattle.pt_service.specs.State.{State, entries, is_group, is_id}
@@ -83,10 +84,6 @@ turn_fault r e name owner new_id =
 -- an id where one id took the place of another
 abbrev pub moved : (old new : ℤ) → ℤ → ℤ
 moved old new id = if int_eq id old then new else id
-
--- the id that stood there before
-abbrev pub before : (old new : ℤ) → ℤ → Option ℤ
-before old new id = if int_eq id new then Some old else if int_eq id old then None else Some id
 
 abbrev pub turned : PrEntry → (name : List ℕ) → (owner id : ℤ) → PrEntry → PrEntry
 turned e name owner id f = record f {

@@ -1,9 +1,12 @@
 //! The calls that make an entry, with the next id or with a given one, over a draft: what is decided, and then what is changed.
 ghost use Rattle.std.specs.Prelude.{◌≡◌, ◌<◌, ◌≤◌, ◌^◌, IfSome, IfOk, IfErr, OnOk, IsErrOf, is_none, true, if◌then◌else◌};
 ghost use Rattle.db_image.specs.Ends.{IsDecided};
-ghost use Rattle.prdb_layout.specs.RecordEnds.{Becomes, HasCause, OnlyDrafts, OnlyLooks, seen};
-ghost use Rattle.prdb_layout.specs.Records.{Holds, after_insert, after_set_maxima};
+ghost use Rattle.db_blocks.specs.Ends.{Becomes, OnlyDrafts, OnlyLooks};
+ghost use Rattle.prdb_layout.specs.RecordEnds.{seen};
 ghost use Rattle.prdb_layout.specs.Registry.{AreMaxima, IsRecord, MayBeAdded};
+ghost use Rattle.prdb_finds.specs.Changes.{after_set_maxima};
+ghost use Rattle.prdb_finds.specs.Ends.{HasCauseWhere, HasItsCause};
+ghost use Rattle.prdb_entries.specs.Changes.{after_insert};
 ghost use Rattle.pt_service.specs.Entering.{kind_of};
 ghost use Rattle.pt_service.specs.Meaning.{first_unused, id_behind, made, new_entry, new_entry_of_id, raised};
 ghost use Rattle.pt_service.specs.State.{is_group, is_id};
@@ -16,7 +19,9 @@ use crate::names::lowered;
 use crate::owners::owner_for;
 use crate::rules::{BAD_ARGUMENT, ID_EXISTS, NO_IDS};
 use db_image::{CallEnd, Draft, ImageRead, RecordFault};
-use prdb_layout::{PrEntry, insert, maxima, set_maxima};
+use prdb_entries::insert;
+use prdb_finds::{maxima, set_maxima};
+use prdb_layout::PrEntry;
 use pt_calls::PtAnswer;
 use std::alloc::Global;
 use ubik_types::Bytes;
@@ -60,7 +65,7 @@ fn id_behind(group: bool, passed: u32) -> i32
 fn is_unused<I: ImageRead>(alloc: Global, d: &mut Draft<I>, id: i32) -> Result<bool, RecordFault>
     requires { d.old.len < 2 ^ 31 }
     ensures found { IfOk result (λ unused. Told d.old.bytes (λ r. unused ≡ is_none (r.entry id))) }
-    ensures fault { IfErr result (HasCause d.old.bytes Holds) }
+    ensures fault { IfErr result (HasItsCause d.old.bytes) }
     ensures frame { OnlyLooks I.ImageRead d.old d.new (IsErrOf result RecordFault.DiskFault) }
 {
     Ok(entry_of_id(alloc, d, id)?.is_none())
@@ -76,7 +81,7 @@ fn first_unused<I: ImageRead>(
     requires { d.old.len < 2 ^ 31 }
     ensures found { IfOk result (λ found. Told d.old.bytes (λ r. found ≡ first_unused r group passed)) }
     ensures id { IfOk result (λ found. IfSome found (λ id. is_id group id ≡ true)) }
-    ensures fault { IfErr result (HasCause d.old.bytes Holds) }
+    ensures fault { IfErr result (HasItsCause d.old.bytes) }
     ensures frame { OnlyLooks I.ImageRead d.old d.new (IsErrOf result RecordFault.DiskFault) }
 {
     for n in passed..MAX_ID {
@@ -132,7 +137,7 @@ fn enter<I: ImageRead>(
     requires maxima { AreMaxima maxima.0 maxima.1 }
     ensures bytes { OnOk result (Becomes (λ image. after_set_maxima maxima.0 maxima.1 (after_insert (seen e.now) image)) d.old d.new) }
     ensures longer { d.old.len ≤ d.new.len }
-    ensures fault { IfErr result (HasCause d.old.bytes (λ image r. Holds image r × MayBeAdded (seen e.now) r)) }
+    ensures fault { IfErr result (HasCauseWhere (λ r m. MayBeAdded (seen e.now) r) d.old.bytes) }
     ensures frame { OnlyDrafts I.ImageRead d.old d.new (IsErrOf result RecordFault.DiskFault) }
 {
     insert(alloc, d, e)?;
@@ -151,7 +156,7 @@ pub fn new_entry<I: ImageRead>(
     ensures meant { IfOk result (λ end. IsMeant d.old.bytes (λ r. new_entry r (lowered name.now) kind owner) end d.new.bytes) }
     ensures longer { d.old.len ≤ d.new.len }
     ensures short { IfOk result IsDecided }
-    ensures fault { IfErr result (HasCause d.old.bytes Holds) }
+    ensures fault { IfErr result (HasItsCause d.old.bytes) }
     ensures frame { OnlyDrafts I.ImageRead d.old d.new (IsErrOf result RecordFault.DiskFault) }
 {
     let Some(group) = kind_of(kind) else {
@@ -162,7 +167,7 @@ pub fn new_entry<I: ImageRead>(
         Ok(owner) => owner,
         Err(rule) => return Ok(CallEnd::Rule(rule)),
     };
-    let (max_user, max_group) = maxima(alloc, d)?;
+    let (max_user, max_group) = maxima(d)?;
     let maximum = maximum_of(group, max_user, max_group);
     let Some(id) = first_unused(alloc, d, group, maximum.unsigned_abs())? else {
         return Ok(CallEnd::Rule(NO_IDS));
@@ -185,7 +190,7 @@ pub fn new_entry_of_id<I: ImageRead>(
     ensures meant { IfOk result (λ end. IsMeant d.old.bytes (λ r. new_entry_of_id r (lowered name.now) id owner) end d.new.bytes) }
     ensures longer { d.old.len ≤ d.new.len }
     ensures short { IfOk result IsDecided }
-    ensures fault { IfErr result (HasCause d.old.bytes Holds) }
+    ensures fault { IfErr result (HasItsCause d.old.bytes) }
     ensures frame { OnlyDrafts I.ImageRead d.old d.new (IsErrOf result RecordFault.DiskFault) }
 {
     let group = is_group(id);
@@ -200,7 +205,7 @@ pub fn new_entry_of_id<I: ImageRead>(
     if !is_unused(alloc, d, id)? {
         return Ok(CallEnd::Rule(ID_EXISTS));
     }
-    let (max_user, max_group) = maxima(alloc, d)?;
+    let (max_user, max_group) = maxima(d)?;
     let end = tell(alloc, &PtAnswer::Done)?;
     let e = made(group, name, id, owner);
     enter(alloc, d, &e, raised(max_user, max_group, id))?;

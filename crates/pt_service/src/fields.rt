@@ -1,8 +1,10 @@
 //! The calls that set the maxima, and the flags and the quota of an entry, over a draft.
 ghost use Rattle.std.specs.Prelude.{◌≡◌, ◌≤◌, Some, IsTrue, IfOk, IfErr, OnOk, IsErrOf, if◌then◌else◌};
 ghost use Rattle.db_image.specs.Ends.{IsDecided};
-ghost use Rattle.prdb_layout.specs.RecordEnds.{Becomes, HasCause, OnlyDrafts, seen};
-ghost use Rattle.prdb_layout.specs.Records.{Holds, after_replace};
+ghost use Rattle.db_blocks.specs.Ends.{Becomes, OnlyDrafts};
+ghost use Rattle.prdb_layout.specs.RecordEnds.{seen};
+ghost use Rattle.prdb_finds.specs.Ends.{HasCauseWhere, HasItsCause};
+ghost use Rattle.prdb_entries.specs.Changes.{after_replace};
 ghost use Rattle.pt_service.specs.Fitting.{Refits, entry_fits};
 ghost use Rattle.pt_service.specs.Meaning.{are_bad_fields, are_flags, fields_set, is_maximum, maximum_set, names_flags, names_quota, of_entry, with_fields};
 ghost use Rattle.pt_service.specs.Told.{IsMeant};
@@ -11,7 +13,9 @@ use crate::finds::{entry_of_id, is_group, is_id};
 use crate::looks::tell;
 use crate::rules::{BAD_ARGUMENT, NO_ENTRY};
 use db_image::{CallEnd, Draft, ImageRead, RecordFault};
-use prdb_layout::{PrEntry, maxima, replace, set_maxima};
+use prdb_entries::replace;
+use prdb_finds::{maxima, set_maxima};
+use prdb_layout::PrEntry;
 use pt_calls::PtAnswer;
 use std::alloc::Global;
 
@@ -44,13 +48,13 @@ pub fn set_max<I: ImageRead>(
     ensures meant { IfOk result (λ end. IsMeant d.old.bytes (λ r. maximum_set r id group) end d.new.bytes) }
     ensures longer { d.old.len ≤ d.new.len }
     ensures short { IfOk result IsDecided }
-    ensures fault { IfErr result (HasCause d.old.bytes Holds) }
+    ensures fault { IfErr result (HasItsCause d.old.bytes) }
     ensures frame { OnlyDrafts I.ImageRead d.old d.new (IsErrOf result RecordFault.DiskFault) }
 {
     if !is_maximum(group, id) {
         return Ok(CallEnd::Rule(BAD_ARGUMENT));
     }
-    let (max_user, max_group) = maxima(alloc, d)?;
+    let (max_user, max_group) = maxima(d)?;
     let end = tell(alloc, &PtAnswer::Done)?;
     let next = with_maximum(max_user, max_group, group, id);
     set_maxima(alloc, d, next.0, next.1)?;
@@ -111,7 +115,7 @@ fn put<I: ImageRead>(alloc: Global, d: &mut Draft<I>, e: PrEntry) -> Result<(), 
     requires fits { IsTrue (entry_fits (seen e)) }
     ensures bytes { OnOk result (Becomes (after_replace e.id (seen e)) d.old d.new) }
     ensures longer { d.old.len ≤ d.new.len }
-    ensures fault { IfErr result (HasCause d.old.bytes (λ image r. Holds image r × Refits r (seen e))) }
+    ensures fault { IfErr result (HasCauseWhere (λ r m. Refits r (seen e)) d.old.bytes) }
     ensures frame { OnlyDrafts I.ImageRead d.old d.new (IsErrOf result RecordFault.DiskFault) }
 {
     replace(alloc, d, e.id, &e)
@@ -130,7 +134,7 @@ pub fn set_fields<I: ImageRead>(
     ensures meant { IfOk result (λ end. IsMeant d.old.bytes (λ r. of_entry (r.entry id) (fields_set mask flags quota)) end d.new.bytes) }
     ensures longer { d.old.len ≤ d.new.len }
     ensures short { IfOk result IsDecided }
-    ensures fault { IfErr result (HasCause d.old.bytes Holds) }
+    ensures fault { IfErr result (HasItsCause d.old.bytes) }
     ensures frame { OnlyDrafts I.ImageRead d.old d.new (IsErrOf result RecordFault.DiskFault) }
 {
     let Some(e) = entry_of_id(alloc, d, id)? else {

@@ -3,12 +3,15 @@ ghost use Rattle.std.specs.Prelude.{◌≡◌, ◌<◌, ◌≤◌, ◌^◌, IfOk
 ghost use Rattle.std.specs.Fmt.{signed_decimal};
 ghost use Rattle.std.specs.List.{AllByRecursion};
 ghost use Rattle.db_image.specs.Ends.{IsDecided, end_of};
-ghost use Rattle.prdb_layout.specs.RecordEnds.{HasCause, OnlyLooks};
-ghost use Rattle.prdb_layout.specs.Records.{Holds};
+ghost use Rattle.db_blocks.specs.Ends.{OnlyLooks};
+ghost use Rattle.prdb_finds.specs.Ends.{HasItsCause};
+ghost use Rattle.prdb_finds.specs.Keys.{id_chain};
+ghost use Rattle.prdb_finds.specs.Places.{id_links, name_links};
 ghost use Rattle.pt_calls.specs.Answers.{AnswerHasSpelling, answer_spelling};
 ghost use Rattle.pt_calls.specs.Meaning.{id_or_anonymous};
 ghost use Rattle.pt_calls.specs.declared.answers.PtAnswer.TheVariants as answer;
 ghost use Rattle.pt_calls.specs.declared.limits.TheConstants.{MAX_LIST};
+ghost use Rattle.pt_service.specs.Costs.{CostsOneChain, CostsTheirChains, lowered_chain};
 ghost use Rattle.pt_service.specs.Meaning.{Answers, name_of, reply_by};
 ghost use Rattle.pt_service.specs.Told.{IsMeant, Told};
 
@@ -16,7 +19,7 @@ use crate::finds::{entry_of_id, entry_of_name};
 use crate::names::lowered;
 use call_grammar::Items;
 use db_image::{CallEnd, Draft, ImageRead, RecordFault};
-use prdb_layout::maxima;
+use prdb_finds::maxima;
 use pt_calls::{Ids, Names, PtAnswer, spell_answer};
 use std::alloc::Global;
 use ubik_types::{Bytes, NoMemory};
@@ -40,10 +43,10 @@ pub fn list_max<I: ImageRead>(alloc: Global, d: &mut Draft<I>) -> Result<CallEnd
     requires { d.old.len < 2 ^ 31 }
     ensures meant { IfOk result (λ end. IsMeant d.old.bytes (λ r. Answers (answer.Maxima r.max_user r.max_group)) end d.new.bytes) }
     ensures short { IfOk result IsDecided }
-    ensures fault { IfErr result (HasCause d.old.bytes Holds) }
+    ensures fault { IfErr result (HasItsCause d.old.bytes) }
     ensures frame { OnlyLooks I.ImageRead d.old d.new (IsErrOf result RecordFault.DiskFault) }
 {
-    let (user, group) = maxima(alloc, d)?;
+    let (user, group) = maxima(d)?;
     let end = tell(alloc, &PtAnswer::Maxima { user, group })?;
     Ok(end)
 }
@@ -52,8 +55,9 @@ pub fn list_max<I: ImageRead>(alloc: Global, d: &mut Draft<I>) -> Result<CallEnd
 fn id_of<I: ImageRead>(alloc: Global, d: &mut Draft<I>, name: &[u8]) -> Result<i32, RecordFault>
     requires { d.old.len < 2 ^ 31 }
     ensures found { IfOk result (λ id. Told d.old.bytes (λ r. id ≡ id_or_anonymous r name.now)) }
-    ensures fault { IfErr result (HasCause d.old.bytes Holds) }
+    ensures fault { IfErr result (HasItsCause d.old.bytes) }
     ensures frame { OnlyLooks I.ImageRead d.old d.new (IsErrOf result RecordFault.DiskFault) }
+    ensures cost { CostsOneChain I.ImageRead name_links (lowered_chain name.now) d.old d.new }
 {
     let name = lowered(alloc, name)?;
     match entry_of_name(alloc, d, &name)? {
@@ -71,8 +75,9 @@ fn ids_of<I: ImageRead>(
     requires { d.old.len < 2 ^ 31 }
     ensures found { IfOk result (λ ids. Told d.old.bytes (λ r. ids ≡ map (id_or_anonymous r) names.now)) }
     ensures count { IfOk result (λ ids. length ids ≡ length names.now) }
-    ensures fault { IfErr result (HasCause d.old.bytes Holds) }
+    ensures fault { IfErr result (HasItsCause d.old.bytes) }
     ensures frame { OnlyLooks I.ImageRead d.old d.new (IsErrOf result RecordFault.DiskFault) }
+    ensures cost { CostsTheirChains I.ImageRead name_links lowered_chain names.now d.old d.new }
 {
     let mut ids = Vec::new(alloc);
     for name in names {
@@ -82,7 +87,8 @@ fn ids_of<I: ImageRead>(
     Ok(Items::new(ids))
 }
 
-/// Translates names to ids, 32766 for one that no entry has.
+/// Translates names to ids, 32766 for one that no entry has. Where the image has the one chain of each name, in lower case, it asks for a
+/// word and each block of that chain at most, for each name of the list.
 pub fn name_to_id<I: ImageRead>(
     alloc: Global,
     d: &mut Draft<I>,
@@ -92,8 +98,9 @@ pub fn name_to_id<I: ImageRead>(
     requires count { length names.now ≤ MAX_LIST }
     ensures meant { IfOk result (λ end. IsMeant d.old.bytes (λ r. Answers (answer.Ids (map (id_or_anonymous r) names.now))) end d.new.bytes) }
     ensures short { IfOk result IsDecided }
-    ensures fault { IfErr result (HasCause d.old.bytes Holds) }
+    ensures fault { IfErr result (HasItsCause d.old.bytes) }
     ensures frame { OnlyLooks I.ImageRead d.old d.new (IsErrOf result RecordFault.DiskFault) }
+    ensures cost { CostsTheirChains I.ImageRead name_links lowered_chain names.now d.old d.new }
 {
     let ids = ids_of(alloc, d, names)?;
     let end = tell(alloc, &PtAnswer::Ids(ids))?;
@@ -115,8 +122,9 @@ fn name_of<I: ImageRead>(alloc: Global, d: &mut Draft<I>, id: i32) -> Result<Byt
     requires { d.old.len < 2 ^ 31 }
     ensures found { IfOk result (λ name. Told d.old.bytes (λ r. name ≡ name_of r id)) }
     ensures len { IfOk result (λ name. length name ≤ 63) }
-    ensures fault { IfErr result (HasCause d.old.bytes Holds) }
+    ensures fault { IfErr result (HasItsCause d.old.bytes) }
     ensures frame { OnlyLooks I.ImageRead d.old d.new (IsErrOf result RecordFault.DiskFault) }
+    ensures cost { CostsOneChain I.ImageRead id_links (id_chain id) d.old d.new }
 {
     match entry_of_id(alloc, d, id)? {
         Some(entry) => Ok(entry.name),
@@ -134,8 +142,9 @@ fn names_of<I: ImageRead>(
     ensures found { IfOk result (λ names. Told d.old.bytes (λ r. names ≡ map (name_of r) ids.now)) }
     ensures lens { IfOk result (AllByRecursion (λ name. length name ≤ 63)) }
     ensures count { IfOk result (λ names. length names ≡ length ids.now) }
-    ensures fault { IfErr result (HasCause d.old.bytes Holds) }
+    ensures fault { IfErr result (HasItsCause d.old.bytes) }
     ensures frame { OnlyLooks I.ImageRead d.old d.new (IsErrOf result RecordFault.DiskFault) }
+    ensures cost { CostsTheirChains I.ImageRead id_links id_chain ids.now d.old d.new }
 {
     let mut names = Vec::new(alloc);
     for id in ids {
@@ -145,7 +154,8 @@ fn names_of<I: ImageRead>(
     Ok(Items::new(names))
 }
 
-/// Translates ids to names, the digits of one that no entry has.
+/// Translates ids to names, the digits of one that no entry has. Where the image has the one chain of each id, it asks for a word and each
+/// block of that chain at most, for each id of the list.
 pub fn id_to_name<I: ImageRead>(
     alloc: Global,
     d: &mut Draft<I>,
@@ -155,8 +165,9 @@ pub fn id_to_name<I: ImageRead>(
     requires count { length ids.now ≤ MAX_LIST }
     ensures meant { IfOk result (λ end. IsMeant d.old.bytes (λ r. Answers (answer.Names (map (name_of r) ids.now))) end d.new.bytes) }
     ensures short { IfOk result IsDecided }
-    ensures fault { IfErr result (HasCause d.old.bytes Holds) }
+    ensures fault { IfErr result (HasItsCause d.old.bytes) }
     ensures frame { OnlyLooks I.ImageRead d.old d.new (IsErrOf result RecordFault.DiskFault) }
+    ensures cost { CostsTheirChains I.ImageRead id_links id_chain ids.now d.old d.new }
 {
     let names = names_of(alloc, d, ids)?;
     let end = tell(alloc, &PtAnswer::Names(names))?;

@@ -1,8 +1,9 @@
 //! Who owns a new entry, or why there is to be none, over a draft.
 ghost use Rattle.std.specs.Prelude.{◌≡◌, ◌<◌, ◌^◌, IfOk, IfErr, IsErrOf, is_some, true};
 ghost use Rattle.std.specs.Option.{option_map};
-ghost use Rattle.prdb_layout.specs.RecordEnds.{HasCause, OnlyLooks, seen};
-ghost use Rattle.prdb_layout.specs.Records.{Holds};
+ghost use Rattle.db_blocks.specs.Ends.{OnlyLooks};
+ghost use Rattle.prdb_layout.specs.RecordEnds.{seen};
+ghost use Rattle.prdb_finds.specs.Ends.{HasItsCause};
 ghost use Rattle.pt_calls.specs.Meaning.{id_named};
 ghost use Rattle.pt_service.specs.Meaning.{given_owner, owner_by_front, owner_for, owner_of};
 ghost use Rattle.pt_service.specs.Names.{is_name_of};
@@ -26,7 +27,7 @@ fn owner_by_front<I: ImageRead>(
 ) -> Result<Result<i32, u32>, RecordFault>
     requires { d.old.len < 2 ^ 31 }
     ensures found { IfOk result (λ owner. Told d.old.bytes (λ r. owner ≡ owner_by_front r front.now)) }
-    ensures fault { IfErr result (HasCause d.old.bytes Holds) }
+    ensures fault { IfErr result (HasItsCause d.old.bytes) }
     ensures frame { OnlyLooks I.ImageRead d.old d.new (IsErrOf result RecordFault.DiskFault) }
 {
     if is_system(front) {
@@ -63,7 +64,7 @@ fn owner_of<I: ImageRead>(
 ) -> Result<Result<i32, u32>, RecordFault>
     requires { d.old.len < 2 ^ 31 }
     ensures found { IfOk result (λ owner. Told d.old.bytes (λ r. owner ≡ owner_of r name.now given)) }
-    ensures fault { IfErr result (HasCause d.old.bytes Holds) }
+    ensures fault { IfErr result (HasItsCause d.old.bytes) }
     ensures frame { OnlyLooks I.ImageRead d.old d.new (IsErrOf result RecordFault.DiskFault) }
 {
     if given != 0 {
@@ -80,7 +81,7 @@ fn owner_of<I: ImageRead>(
 fn is_taken<I: ImageRead>(alloc: Global, d: &mut Draft<I>, name: &[u8]) -> Result<bool, RecordFault>
     requires { d.old.len < 2 ^ 31 }
     ensures found { IfOk result (λ taken. Told d.old.bytes (λ r. taken ≡ is_some (id_named r name.now))) }
-    ensures fault { IfErr result (HasCause d.old.bytes Holds) }
+    ensures fault { IfErr result (HasItsCause d.old.bytes) }
     ensures frame { OnlyLooks I.ImageRead d.old d.new (IsErrOf result RecordFault.DiskFault) }
 {
     Ok(entry_of_name(alloc, d, name)?.is_some())
@@ -97,7 +98,7 @@ pub(crate) fn owner_for<I: ImageRead>(
     requires { d.old.len < 2 ^ 31 }
     ensures found { IfOk result (λ owner. Told d.old.bytes (λ r. owner ≡ owner_for r group name.now given)) }
     ensures form { IfOk result (λ owner. IfOk owner (λ o. is_name_of group name.now ≡ true)) }
-    ensures fault { IfErr result (HasCause d.old.bytes Holds) }
+    ensures fault { IfErr result (HasItsCause d.old.bytes) }
     ensures frame { OnlyLooks I.ImageRead d.old d.new (IsErrOf result RecordFault.DiskFault) }
 {
     if !is_name_of(group, name) {

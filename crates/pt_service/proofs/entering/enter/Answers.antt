@@ -3,9 +3,11 @@ use Rattle.std.specs.Prelude.{FitsSigned}
 use Rattle.std.specs.Int.{w32}
 use Rattle.std.proofs.lemmas.Int.{ints, to_z-of_z}
 use Rattle.prdb_layout.specs.RecordEnds.{seen}
-use Rattle.prdb_layout.specs.Records.{after_insert, after_set_maxima}
+use Rattle.prdb_layout.specs.Registry.{MayBeAdded, with_entry}
 use Rattle.prdb_layout.proofs.Becoming.{ok_then}
-use Rattle.pt_calls.proofs.NewUsers.{cause_then_err}
+use Rattle.prdb_finds.specs.Changes.{after_set_maxima}
+use Rattle.prdb_entries.specs.Changes.{after_insert}
+use Rattle.pt_service.proofs.Causes.{cause_then_err}
 use Rattle.pt_service.proofs.entering.enter.Goals as goal
 
 pub returns-clause-bytes : goal.returns-clause-bytes
@@ -19,5 +21,5 @@ returns-clause-bytes g c =
 
 pub returns-clause-fault : goal.returns-clause-fault
 returns-clause-fault g c =
-    cause_then_err c.set_maxima.result c.args.d.now.bytes c.insert.new.d.bytes
-    (seen c.args.e.now) c.in_ok-insert.ensures.holds c.set_maxima.ensures.fault
+    cause_then_err c.set_maxima.result (λ r m. MayBeAdded (seen c.args.e.now) r) (with_entry (seen c.args.e.now)) c.args.d.now.bytes
+    c.insert.new.d.bytes c.in_ok-insert.ensures.holds c.set_maxima.ensures.fault

@@ -7,9 +7,9 @@ use Rattle.prdb_layout.specs.Names.{lowered}
 use Rattle.prdb_layout.specs.RecordEnds.{seen}
 use Rattle.prdb_layout.specs.Registry.{AreMaxima}
 use Rattle.pt_service.specs.State.{is_id}
-use Rattle.pt_service.proofs.Comes.{given_cause, given_comes, given_there}
+use Rattle.pt_service.proofs.Comes.{given_barred, given_cause, given_comes, given_there}
 use Rattle.pt_service.proofs.Entered.{made_record, raised_are}
-use Rattle.pt_service.proofs.Frames.{drafted_thrice, looked_thrice, no_disk}
+use Rattle.pt_service.proofs.Frames.{drafted_thrice, looked_thrice, looked_twice, no_disk}
 use Rattle.pt_service.proofs.entering.new_entry_of_id.Goals as goal
 
 pub returns-then-not-branch-clause-meant : goal.returns-then-not-branch-clause-meant
@@ -35,13 +35,13 @@ returns-in_err-max_user-clause-frame g c =
     let p = err_from_is_err_and c.from_residual-in_err-max_user.result c.from_residual-in_err-max_user.ensures.1 in
     rw (p.1, p.2) (looked_thrice g.I.ImageRead c.args.d.now c.owner_for.new.d c.is_unused.new.d c.maxima.new.d _ _ _ _
     c.in_ok-owner.ensures.frame
-    c.in_ok-is_unused.ensures.frame c.in_err-max_user.ensures.frame (λ h. cc))
+    c.in_ok-is_unused.ensures.frame c.in_err-max_user.ensures.frame.looks (λ h. cc))
 
 pub returns-in_err-end-clause-frame : goal.returns-in_err-end-clause-frame
 returns-in_err-end-clause-frame g c =
     let p = err_from_is_err_and c.from_residual-in_err-end.result c.from_residual-in_err-end.ensures.1 in
     looked_thrice g.I.ImageRead c.args.d.now c.owner_for.new.d c.is_unused.new.d c.maxima.new.d _ _ _ _ c.in_ok-owner.ensures.frame
-    c.in_ok-is_unused.ensures.frame c.in_ok-max_user.ensures.frame (λ h. absurd (no_disk c.from_residual-in_err-end.result p.0 p.1 p.2 h))
+    c.in_ok-is_unused.ensures.frame c.in_ok-max_user.ensures.frame.looks (λ h. absurd (no_disk c.from_residual-in_err-end.result p.0 p.1 p.2 h))
 
 pub enter-requires-clause-entry : goal.enter-requires-clause-entry
 enter-requires-clause-entry g c =
@@ -91,7 +91,7 @@ returns-in_err-enter-clause-fault g c =
     c.in-Ok.owner c.is_group-group.result (seen c.made-e.result) _ (search rules)
     (simp to_z-of_z at good) c.owner_for.ensures.frame.same.bytes (simp to_z-of_z at free)
     (simp to_z-of_z at named)
-    (c.maxima.ensures.frame.same.bytes ∙ c.is_unused.ensures.frame.same.bytes
+    (c.maxima.ensures.frame.looks.same.bytes ∙ c.is_unused.ensures.frame.same.bytes
     ∙ c.owner_for.ensures.frame.same.bytes) c.in_err-enter.ensures.fault)
 
 pub returns-in_err-enter-clause-frame : goal.returns-in_err-enter-clause-frame
@@ -99,7 +99,7 @@ returns-in_err-enter-clause-frame g c =
     let p = err_from_is_err_and c.from_residual-in_err-enter.result c.from_residual-in_err-enter.ensures.1 in
     rw (p.1, p.2) (drafted_thrice g.I.ImageRead c.args.d.now c.owner_for.new.d c.is_unused.new.d c.maxima.new.d c.enter.new.d _ _ _ _ _
     c.in_ok-owner.ensures.frame
-    c.in_ok-is_unused.ensures.frame c.in_ok-max_user.ensures.frame c.in_err-enter.ensures.frame (λ h. cc))
+    c.in_ok-is_unused.ensures.frame c.in_ok-max_user.ensures.frame.looks c.in_err-enter.ensures.frame (λ h. cc))
 
 pub returns-clause-meant : goal.returns-clause-meant
 returns-clause-meant g c =
@@ -131,11 +131,31 @@ returns-clause-meant g c =
     c.owner_for.ensures.frame.same.bytes (simp to_z-of_z at free)
     (c.is_unused.ensures.frame.same.bytes ∙ c.owner_for.ensures.frame.same.bytes) c.in_ok-max_user.ensures.found
     (simp to_z-of_z at named) (simp to_z-of_z at raises) c.in_ok-end.ensures.told
-    (c.maxima.ensures.frame.same.bytes ∙ c.is_unused.ensures.frame.same.bytes
+    (c.maxima.ensures.frame.looks.same.bytes ∙ c.is_unused.ensures.frame.same.bytes
     ∙ c.owner_for.ensures.frame.same.bytes) c.in_ok-enter.ensures.bytes
 
 pub returns-clause-frame : goal.returns-clause-frame
 returns-clause-frame g c =
     drafted_thrice g.I.ImageRead c.args.d.now c.owner_for.new.d c.is_unused.new.d c.maxima.new.d c.enter.new.d _ _ _ _ _
     c.in_ok-owner.ensures.frame
-    c.in_ok-is_unused.ensures.frame c.in_ok-max_user.ensures.frame c.in_ok-enter.ensures.frame (λ h. absurd cc)
+    c.in_ok-is_unused.ensures.frame c.in_ok-max_user.ensures.frame.looks c.in_ok-enter.ensures.frame (λ h. absurd cc)
+
+pub returns-in-Err-clause-meant : goal.returns-in-Err-clause-meant
+returns-in-Err-clause-meant g c =
+    let id = c.ranges.id in
+    let given = c.ranges.owner in
+    let group = c.is_group-group.ensures in
+    let own = simp to_z-of_z at group in
+    let tested = sym c.is_id.ensures ∙ c.if-not-is_id.false in
+    let test = simp to_z-of_z at tested in
+    let found = c.in_ok-owner.ensures.found in
+    let barred = rw c.in-Err.is at found in
+    given_barred c.args.d.now.bytes c.owner_for.new.d.bytes c.as_slice.result.now (lowered c.args.name.now) c.args.id c.args.owner
+    c.is_group-group.result c.in-Err.rule _ (subst (λ (b : Bool). is_id b c.args.id ≡ true) own test) own (search rules)
+    (simp to_z-of_z at barred) refl c.owner_for.ensures.frame.same.bytes
+
+pub returns-in_err-is_unused-clause-frame : goal.returns-in_err-is_unused-clause-frame
+returns-in_err-is_unused-clause-frame g c =
+    let p = err_from_is_err_and c.from_residual-in_err-is_unused.result c.from_residual-in_err-is_unused.ensures.1 in
+    rw (p.1, p.2) (looked_twice g.I.ImageRead c.args.d.now c.owner_for.new.d c.is_unused.new.d _ _ _ c.in_ok-owner.ensures.frame
+    c.in_err-is_unused.ensures.frame (λ h. cc))

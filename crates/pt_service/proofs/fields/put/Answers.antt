@@ -20,3 +20,12 @@ returns-clause-fault g c =
     let fits : FitsSigned w32 c.args.e.id = search rules in
     let fault = c.replace.ensures.fault in
     refit_err c.replace.result c.args.d.now.bytes (seen c.args.e) (simp to_z-of_z at fault)
+
+pub returns-clause-frame : goal.returns-clause-frame
+returns-clause-frame g c = c.replace.ensures.frame.drafts
+
+pub returns-clause-bytes : goal.returns-clause-bytes
+returns-clause-bytes g c =
+    let fits : FitsSigned w32 c.args.e.id = search rules in
+    let made = c.replace.ensures.bytes in
+    simp to_z-of_z at made

@@ -8,7 +8,7 @@ use Rattle.pt_calls.specs.declared.answers.PtAnswer.TheVariants as answer
 use Rattle.pt_service.specs.Fitting.{entry_fits}
 use Rattle.pt_service.specs.Meaning.{Refit, fields_set, of_entry}
 use Rattle.pt_service.proofs.Done.{changed, refused}
-use Rattle.pt_service.proofs.Refitted.{cause_of_fields, fields_left, fields_made, fields_refused}
+use Rattle.pt_service.proofs.Refitted.{cause_of_fields, fields_left, fields_made, fields_refused, no_fields}
 use Rattle.pt_service.proofs.Frames.{drafted, looked}
 use Rattle.pt_service.proofs.fields.set_fields.Goals as goal
 
@@ -75,3 +75,13 @@ pub returns-clause-frame : goal.returns-clause-frame
 returns-clause-frame g c =
     drafted g.I.ImageRead c.args.d.now c.entry_of_id.new.d c.put.new.d _ _ _ c.in_ok-e.ensures.frame c.in_ok-put.ensures.frame
     (λ h. absurd cc)
+
+pub returns-in_default-clause-meant : goal.returns-in_default-clause-meant
+returns-in_default-clause-meant g c =
+    let fits = c.ranges.id in
+    let first = c.in_ok-e.ensures.found in
+    let none = rw c.in_default.is at first in
+    refused c.args.d.now.bytes c.entry_of_id.new.d.bytes
+    (λ (r : Registry). of_entry (r.entry c.args.id) (fields_set c.args.mask c.args.flags c.args.quota)) 267268 _
+    (no_fields c.args.d.now.bytes c.args.id (fields_set c.args.mask c.args.flags c.args.quota) (simp to_z-of_z at none)) refl
+    c.entry_of_id.ensures.frame.same.bytes

@@ -26,8 +26,8 @@ set_maxima-requires-clause-maxima g c =
 pub returns-in_err-set_maxima-clause-frame : goal.returns-in_err-set_maxima-clause-frame
 returns-in_err-set_maxima-clause-frame g c =
     let p = err_from_is_err_and c.from_residual-in_err-set_maxima.result c.from_residual-in_err-set_maxima.ensures.1 in
-    rw (p.1, p.2) (drafted g.I.ImageRead c.args.d.now c.maxima.new.d c.set_maxima.new.d _ _ _ c.in_ok-max_user.ensures.frame
-    c.in_err-set_maxima.ensures.frame (λ h. cc))
+    rw (p.1, p.2) (drafted g.I.ImageRead c.args.d.now c.maxima.new.d c.set_maxima.new.d _ _ _ c.in_ok-max_user.ensures.frame.looks
+    c.in_err-set_maxima.ensures.frame.drafts (λ h. cc))
 
 pub returns-clause-meant : goal.returns-clause-meant
 returns-clause-meant g c =
@@ -45,4 +45,4 @@ returns-clause-meant g c =
     (simp to_z-of_z at test)
     c.in_ok-max_user.ensures.found (simp to_z-of_z at same)) c.in_ok-end.ensures.told
     (maxima_left c.args.d.now.bytes c.maxima.new.d.bytes c.set_maxima.new.d.bytes c.with_maximum-next.result.0 c.with_maximum-next.result.1
-    c.in_ok-max_user.ensures.frame.same.bytes (simp to_z-of_z at set))
+    c.in_ok-max_user.ensures.frame.looks.same.bytes (simp to_z-of_z at set))

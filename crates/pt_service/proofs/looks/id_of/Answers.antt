@@ -3,7 +3,7 @@ use Rattle.std.specs.Prelude.{FitsSigned}
 use Rattle.std.specs.Int.{w32}
 use Rattle.std.proofs.lemmas.Int.{to_z-of_z}
 use Rattle.prdb_layout.specs.RecordEnds.{seen}
-use Rattle.pt_calls.specs.NameLaws.{id_found}
+use Rattle.pt_service.proofs.Found.{id_found}
 use Rattle.pt_service.proofs.looks.id_of.Goals as goal
 
 pub returns-in-Some-clause-found : goal.returns-in-Some-clause-found

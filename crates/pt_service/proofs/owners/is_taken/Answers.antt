@@ -1,4 +1,4 @@
-use Rattle.pt_calls.proofs.NewUsers.{taken_is}
+use Rattle.pt_service.proofs.Found.{taken_is}
 use Rattle.pt_service.proofs.owners.is_taken.Goals as goal
 
 pub returns-clause-found : goal.returns-clause-found
