@@ -10,7 +10,7 @@ use Rattle.prdb_layout.specs.declared.records.PrEntry.{PrEntry as CodeEntry}
 use Rattle.prdb_lists.specs.Members.{Members}
 use Rattle.pt_service.specs.Fitting.{entry_fits}
 use Rattle.pt_service.proofs.Entries.{record_fits}
-use Rattle.prdb_finds.specs.Ends.{HasCauseWhere, HasItsCause}
+use Rattle.prdb_finds.specs.Ends.{HasCauseWhere}
 use Rattle.prdb_finds.specs.Records.{Holds}
 use Rattle.prdb_turns.proofs.Owned.{clash}
 
@@ -49,10 +49,3 @@ cause_where P Q bytes DiskFault so cause = tt
 cause_where P Q bytes NoMemory so cause = tt
 cause_where P Q None (BadRecord at) so cause = tt
 cause_where P Q (Some image) (BadRecord at) so cause = λ q. cause (q.0, q.1, q.2, so q.0 q.1 q.3)
-
-pub find_cause : (Q : Registry → Members → Type 0) (bytes : Option (List ℕ)) (fault : RecordFault) → HasItsCause bytes fault
-    → HasCauseWhere Q bytes fault
-find_cause Q bytes DiskFault cause = tt
-find_cause Q bytes NoMemory cause = tt
-find_cause Q None (BadRecord at) cause = tt
-find_cause Q (Some image) (BadRecord at) cause = λ q. cause (q.0, q.1, q.2)

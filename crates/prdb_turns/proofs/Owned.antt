@@ -10,11 +10,10 @@ use Rattle.std.proofs.lemmas.Bool.Decides.{Decides-int_eq}
 use Rattle.std.proofs.lemmas.Int.{ints}
 use Rattle.std.proofs.lemmas.List.Elements.{Contains-append_cases, Contains-append_left, Contains-append_right}
 use Rattle.std.proofs.lemmas.Map.Views.{Contains-from_any, list_any-from_Contains}
-use Rattle.db_blocks.specs.Blocks.{block_in as any_block}
+use Rattle.db_blocks.specs.Blocks.{block_in as any_block, word_at, kind_of}
 use Rattle.db_chains.specs.Links.{block_of}
 use Rattle.db_chains.proofs.Counted.{chain_unique}
-use Rattle.prdb_layout.specs.Bytes.{word_at}
-use Rattle.prdb_layout.specs.Records.{block_in, entry_in, kind_of}
+use Rattle.prdb_layout.specs.Records.{block_in, entry_in}
 use Rattle.prdb_layout.specs.Registry.{IsRegistry, Registry}
 use Rattle.prdb_layout.specs.State.{IsId, PrEntry}
 use Rattle.prdb_lists.specs.Changes.{place_in}

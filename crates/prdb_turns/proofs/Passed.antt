@@ -8,10 +8,10 @@ use Rattle.db_image.specs.declared.faults.RecordFault.TheVariants.{BadRecord}
 use Rattle.db_image.specs.declared.images.ImageRead.{Ghosts}
 use Rattle.db_image.proofs.ReadSteps.{asks_none, asks_then}
 use Rattle.db_blocks.specs.Ascending.{AreGood}
-use Rattle.db_blocks.specs.Blocks.{block_in as any_block, block_place}
+use Rattle.db_blocks.specs.Blocks.{block_in as any_block, block_place, kind_of}
 use Rattle.db_blocks.specs.Ends.{HasCause, OnlyLooks}
 use Rattle.db_blocks.proofs.Scanned.{count_is, looks_none, looks_so, looks_then}
-use Rattle.prdb_layout.specs.Records.{entry_in, kind_of}
+use Rattle.prdb_layout.specs.Records.{entry_in}
 use Rattle.prdb_layout.specs.State.{PrEntry}
 use Rattle.entry_scans.specs.Pages.{is_kind}
 use Rattle.entry_scans.specs.Sought.{is_sought}

@@ -3,8 +3,9 @@ use Rattle.std.proofs.Common.{◌≡◌, ℕ, ℤ, ◌+◌, ◌<◌, ◌≤◌, 
 use Rattle.db_image.specs.Draft.{Drafted}
 use Rattle.db_image.specs.declared.images.ImageRead.{Ghosts}
 use Rattle.db_blocks.specs.Ends.{OnlyDrafts}
+use Rattle.db_blocks.proofs.Scanned.{drafts_then}
 use Rattle.prdb_layout.specs.State.{PrEntry}
-use Rattle.prdb_lists.proofs.Written.{drafts_none, drafts_so, drafts_then}
+use Rattle.prdb_lists.proofs.Written.{drafts_none, drafts_so}
 use Rattle.prdb_turns.proofs.Refits.{AreRefitted, LeavesOne, refitted_more, refitted_none}
 
 pub record Refitting {I : Type 0} (g : Ghosts I) (made : PrEntry → PrEntry) (first now : Drafted I) (ids : List ℤ) (done : ℕ) : Type 0 where

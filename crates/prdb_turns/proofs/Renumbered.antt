@@ -10,7 +10,7 @@ use mathlib.Core.Path.{fun_ext}
 use Rattle.prdb_layout.specs.Registry.{IsRegistry, Registry}
 use Rattle.prdb_layout.specs.State.{IsId, PrEntry}
 use Rattle.prdb_layout.proofs.Changed.{by_id, some_same}
-use Rattle.prdb_lists.specs.Lists.{IsListOf}
+use Rattle.entry_scans.specs.Lists.{IsListOf}
 use Rattle.prdb_lists.specs.Members.{Members, are_paired}
 use Rattle.prdb_lists.specs.Moves.{MayMove, before, moved_members, moved_registry, with_moved_id}
 use Rattle.pt_service.specs.Turning.{moved}

@@ -6,8 +6,8 @@ use Rattle.db_image.specs.declared.faults.RecordFault.{RecordFault}
 use Rattle.db_image.specs.declared.faults.RecordFault.TheVariants.{DiskFault, BadRecord, NoMemory}
 use Rattle.db_blocks.specs.Blocks.{IsWhole}
 use Rattle.prdb_layout.specs.Registry.{Registry}
+use Rattle.entry_scans.specs.Lists.{IsListOf}
 use Rattle.prdb_lists.specs.Layout.{HoldsPairs}
-use Rattle.prdb_lists.specs.Lists.{IsListOf}
 use Rattle.prdb_lists.specs.Members.{Members, are_paired}
 use Rattle.prdb_lists.specs.Moves.{MayMove, moved_members, moved_registry}
 use Rattle.prdb_finds.specs.Ends.{HasCauseWhere, HasItsCause, HoldsSome}

@@ -7,7 +7,7 @@ use Rattle.db_image.specs.declared.faults.RecordFault.TheVariants.{DiskFault, Ba
 use Rattle.db_blocks.specs.Ends.{HasCause}
 use Rattle.prdb_layout.specs.Registry.{Registry}
 use Rattle.prdb_layout.specs.State.{PrEntry, front_of}
-use Rattle.prdb_lists.specs.Lists.{IsListOf}
+use Rattle.entry_scans.specs.Lists.{IsListOf}
 use Rattle.prdb_lists.specs.Members.{Members, are_paired}
 use Rattle.prdb_lists.specs.Moves.{moved_members}
 use Rattle.pt_service.specs.Turning.{moved}

@@ -1,4 +1,4 @@
--- What becomes of an image with chains, and of a registry, when entries get other fields, one after the other.
+-- What becomes of an image, and of a registry, when entries get other fields, one after the other.
 use Rattle.std.specs.Prelude.{ℕ, ℤ, List, [], ◌∷◌, Option, Some, None, IsSomeAnd}
 use Rattle.prdb_layout.specs.Registry.{IsRecord, MayReplace, Registry, with_entry}
 use Rattle.prdb_layout.specs.State.{PrEntry}

@@ -1,9 +1,9 @@
--- What becomes of an image with chains when an entry gets another id, also where it owns something.
+-- What becomes of an image when an entry gets another id, also where it owns something.
 use Rattle.std.specs.Prelude.{ℕ, ℤ, pos, ◌≡◌, int_lt, true, List, map, reverse, Option, Some, None, IfSome, IsSome, IsSomeAnd, option_map, option_and_then}
 use Rattle.db_image.specs.Draft.{Drafted}
 use Rattle.prdb_layout.specs.Registry.{IsFixedId, Registry}
 use Rattle.prdb_layout.specs.State.{IsId, PrEntry}
-use Rattle.prdb_lists.specs.Lists.{IsListOf}
+use Rattle.entry_scans.specs.Lists.{IsListOf}
 use Rattle.prdb_lists.specs.Members.{Members, are_paired}
 use Rattle.prdb_lists.specs.Moves.{before, moved_members, moved_registry}
 use Rattle.pt_service.specs.Turning.{moved}

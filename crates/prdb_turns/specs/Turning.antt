@@ -1,11 +1,11 @@
--- What becomes of an image with chains when an entry gets another name, then another id, then another owner, and then the groups that are
+-- What becomes of an image when an entry gets another name, then another id, then another owner, and then the groups that are
 -- named after it follow its name, in the order of their blocks.
 use Rattle.std.specs.Prelude.{ℕ, ℤ, ◌≡◌, ◌⊎◌, ◌&&◌, Bool, true, List, [], ◌∷◌, Option, Some, if◌then◌else◌}
 use Rattle.std.specs.Ordering.{int_eq}
 use Rattle.std.specs.Str.{bytes_eq}
 use Rattle.prdb_layout.specs.Registry.{Registry}
 use Rattle.prdb_layout.specs.State.{PrEntry, front_of}
-use Rattle.prdb_lists.specs.Lists.{IsListOf}
+use Rattle.entry_scans.specs.Lists.{IsListOf}
 use Rattle.prdb_lists.specs.Members.{Members, are_paired}
 use Rattle.prdb_lists.specs.Moves.{moved_members}
 use Rattle.pt_service.specs.Names.{has_colon}

@@ -3,38 +3,18 @@ ghost use Rattle.std.specs.Prelude.{◌≡◌, ◌<◌, ◌^◌, IfErr, IfOk, If
 ghost use Rattle.db_image.specs.Asked.{AsksAtMost};
 ghost use Rattle.db_blocks.specs.Ascending.{AreGood};
 ghost use Rattle.db_blocks.specs.Ends.{HasCause, OnlyLooks};
-ghost use Rattle.prdb_layout.specs.Records.{kind_of};
+ghost use Rattle.db_blocks.specs.Blocks.{kind_of};
 ghost use Rattle.entry_scans.specs.Pages.{is_kind};
 ghost use Rattle.entry_scans.specs.Sought.{is_sought};
 ghost use Rattle.prdb_finds.specs.Ends.{HasItsCause};
 ghost use Rattle.prdb_finds.specs.declared.places.TheConstants.{HEAD_LEN};
 ghost use Rattle.prdb_turns.specs.Fronts.{ids_by_block};
 
-use prdb_finds::HEAD_LEN;
-use db_blocks::{Block, block_count, block_place, read_block, word_at};
+use db_blocks::{block_count, block_place, read_block};
 use db_image::{Draft, ImageRead, RecordFault};
-use entry_scans::{Sought, entry_in};
+use entry_scans::{MORE, Sought, entry_in, is_sought, kind_of};
+use prdb_finds::HEAD_LEN;
 use std::alloc::Global;
-
-/// The first word of an entry's block.
-const ENTRY: u32 = 1;
-
-/// The greatest first word of a block, which a continuation of an entry's pairs has.
-const MORE: u32 = 2;
-
-/// What a block is, by its first word.
-fn kind_of(block: &Block) -> u32
-    ensures { result ≡ kind_of block.now }
-{
-    word_at(block, 0)
-}
-
-/// Whether a block is that of an entry which is looked for.
-fn is_sought<S: Sought>(sought: &S, block: &Block) -> bool
-    ensures { result ≡ is_sought (S.test sought.now) block.now }
-{
-    kind_of(block) == ENTRY && sought.is_met(entry_in(block))
-}
 
 /// The ids of the entries that are looked for, in a draft that is not empty.
 fn pass<I: ImageRead, S: Sought>(

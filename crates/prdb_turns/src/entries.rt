@@ -8,8 +8,8 @@ ghost use Rattle.pt_service.specs.Fitting.{entry_fits};
 ghost use Rattle.prdb_finds.specs.Ends.{HasCauseWhere};
 ghost use Rattle.prdb_finds.specs.Records.{Holds};
 
-use prdb_finds::find_id;
 use db_image::{Draft, ImageRead, RecordFault};
+use prdb_finds::find_id;
 use prdb_layout::PrEntry;
 use pt_service::{is_group, is_id, is_name_of};
 use std::alloc::Global;

@@ -10,14 +10,14 @@ ghost use Rattle.prdb_turns.specs.Fronts.{MayFronts, after_fronts, fronted, with
 ghost use Rattle.prdb_turns.specs.Refits.{after_refit};
 
 use crate::entries::{entry_fits, entry_there};
-use prdb_entries::replace;
 use db_image::{Draft, ImageRead, RecordFault};
+use prdb_entries::replace;
 use pt_service::front_of;
 use std::alloc::Global;
 use ubik_types::{Bytes, NoMemory};
 
 /// What stands behind the first `:` of a name; nothing where it has none.
-fn behind_colon(name: &[u8]) -> &[u8]
+pub fn behind_colon(name: &[u8]) -> &[u8]
     ensures { result.now ≡ behind_colon name.now }
 {
     let front = front_of(name).len();

@@ -10,9 +10,9 @@ ghost use Rattle.prdb_finds.specs.declared.places.TheConstants.{FIRST_LEN};
 ghost use Rattle.prdb_turns.specs.Renumbering.{IsRenumbered, MakesRenumbered, MayRenumber, moved_back};
 
 use crate::owners::{give, its_own};
+use db_image::{Draft, ImageRead, RecordFault};
 use prdb_finds::make_whole;
 use prdb_members::move_id;
-use db_image::{Draft, ImageRead, RecordFault};
 use std::alloc::{AllocError, Global};
 
 /// These ids, where one id took the place of another.

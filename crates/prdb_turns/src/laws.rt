@@ -1,7 +1,7 @@
 //! Laws of the images that the changes make.
 ghost use Rattle.std.specs.Prelude.{◌≡◌, ◌≤◌, true, ℕ, ℤ, List, length};
 ghost use Rattle.prdb_layout.specs.Registry.{Registry};
-ghost use Rattle.prdb_lists.specs.Lists.{IsListOf};
+ghost use Rattle.entry_scans.specs.Lists.{IsListOf};
 ghost use Rattle.prdb_lists.specs.Members.{Members, are_paired};
 ghost use Rattle.prdb_lists.specs.Moves.{moved_members};
 ghost use Rattle.prdb_finds.specs.Records.{Holds, whole};

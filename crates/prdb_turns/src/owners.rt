@@ -1,5 +1,5 @@
 //! Entries that get another owner, one after the other, and what an entry owns.
-ghost use Rattle.std.specs.Prelude.{◌≡◌, ◌<◌, ◌≤◌, ◌^◌, ◌∷◌, ◌++◌, [], ℤ, List, IfErr, IfOk, IfSome, IsErrOf, IsSome, OnOk, length, max};
+ghost use Rattle.std.specs.Prelude.{◌<◌, ◌≤◌, ◌^◌, ◌∷◌, [], IfErr, IfOk, IfSome, IsErrOf, IsSome, OnOk, length, max};
 ghost use Rattle.db_blocks.specs.Ends.{OnlyDrafts, OnlyLooks};
 ghost use Rattle.prdb_layout.specs.Registry.{Registry};
 ghost use Rattle.prdb_lists.specs.Members.{Members};
@@ -11,11 +11,11 @@ ghost use Rattle.prdb_turns.specs.Owners.{AreItsOwn, MayGive, after_gives, with_
 ghost use Rattle.prdb_turns.specs.Refits.{MayRefits, after_refit};
 
 use crate::entries::entry_there;
+use db_image::{Draft, ImageRead, RecordFault};
+use entry_scans::{EntryView, Sought};
 use prdb_entries::replace;
 use prdb_members::owned_in_order;
 use prdb_scans::ids_where;
-use db_image::{Draft, ImageRead, RecordFault};
-use entry_scans::{EntryView, Sought};
 use std::alloc::Global;
 
 /// Gives the entry of an id another owner. A bad record where it is not there.

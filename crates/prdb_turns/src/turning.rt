@@ -1,5 +1,5 @@
 //! An entry that gets another name, id and owner.
-ghost use Rattle.std.specs.Prelude.{◌≡◌, ◌<◌, ◌≤◌, ◌^◌, ◌∷◌, [], IfErr, IfOk, IfSome, IsErrOf, IsSomeAnd, OnOk, max};
+ghost use Rattle.std.specs.Prelude.{◌≡◌, ◌<◌, ◌≤◌, ◌^◌, ◌∷◌, [], IfErr, IfSome, IsErrOf, IsSomeAnd, OnOk, max};
 ghost use Rattle.db_blocks.specs.Ends.{HasCause, OnlyDrafts};
 ghost use Rattle.prdb_layout.specs.RecordEnds.{seen};
 ghost use Rattle.prdb_layout.specs.Registry.{Registry};
@@ -18,9 +18,9 @@ use crate::entries::{entry_fits, entry_there};
 use crate::fronts::give_fronts;
 use crate::ids::renumber;
 use crate::owners::give;
-use prdb_entries::replace;
 use db_image::{Draft, ImageRead, RecordFault};
 use entry_scans::{EntryView, Sought};
+use prdb_entries::replace;
 use prdb_layout::PrEntry;
 use pt_service::{front_of, has_colon};
 use std::alloc::Global;

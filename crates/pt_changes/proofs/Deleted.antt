@@ -1,28 +1,33 @@
 -- An entry is removed: how the call ends, and what it leaves.
-use Rattle.std.proofs.Common.{◌≡◌, ℕ, ℤ, pos, Bool, true, false, cond, List, Option, Some, None, IsSome, IsSomeAnd, refl, sym, ap, subst, ◌∙◌, inl}
+use Rattle.std.proofs.Common.{◌≡◌, ℕ, ℤ, pos, Bool, true, false, cond, List, Option, Some, None, IsSomeAnd, sym, ap, subst, ◌∙◌}
 use Rattle.std.specs.Prelude.{is_none, option_map}
-use Rattle.std.specs.List.{AllByRecursion}
 use Rattle.db_image.specs.Ends.{end_of}
 use Rattle.db_image.specs.declared.draft_services.CallEnd.{CallEnd}
 use Rattle.db_image.specs.declared.faults.RecordFault.{RecordFault}
 use Rattle.db_image.specs.declared.faults.RecordFault.TheVariants.{DiskFault, BadRecord, NoMemory}
-use Rattle.prdb_layout.specs.RecordEnds.{HasCause}
-use Rattle.prdb_layout.specs.Records.{Holds, after_remove}
-use Rattle.prdb_layout.specs.Registry.{Registry, IsRegistry, MayBeRemoved}
+use Rattle.prdb_layout.specs.Registry.{Registry, IsRegistry}
 use Rattle.prdb_layout.specs.State.{PrEntry}
-use Rattle.prdb_lists.specs.Ends.{HasItsCause}
+use Rattle.prdb_lists.specs.Members.{Members}
+use Rattle.prdb_finds.specs.Ends.{HasCauseWhere, HasItsCause}
+use Rattle.prdb_finds.specs.Records.{Holds}
+use Rattle.prdb_entries.specs.Changes.{after_remove}
+use Rattle.prdb_entries.specs.Ends.{MayGo}
 use Rattle.pt_calls.specs.declared.answers.PtAnswer.TheVariants as answer
 use Rattle.pt_service.specs.Meaning.{Answers, Leave, Makes as Changes, Refuses, leaves, of_entry, reply_by}
 use Rattle.pt_service.specs.State.{State, elements}
 use Rattle.pt_service.specs.Turning.{is_fixed}
+use Rattle.prdb_turns.specs.Ends.{Leaves as LeavesAll}
+use Rattle.prdb_turns.specs.Owners.{MayGive, after_gives}
+use Rattle.prdb_turns.proofs.Given.{all_given}
 use Rattle.pt_database.specs.States.{HoldsState, OfStates, members_of}
 use Rattle.pt_database.proofs.Pairs.{is_there}
 use Rattle.pt_database.proofs.States.{known_some, of_map, unknown_is}
-use Rattle.pt_changes.specs.Ends.{Always, HasChangeCause, Leaves, Makes, over_registry}
-use Rattle.pt_changes.specs.Leaving.{MayGive, after_gives, after_leave, after_parts, property, with_owners, without_pairs}
+use Rattle.pt_changes.specs.Ends.{Always, Leaves, Makes, over_registry}
+use Rattle.pt_changes.specs.Leaving.{after_leave, after_parts, property, without_pairs}
 use Rattle.pt_changes.specs.Standing.{IsMeantOf}
 use Rattle.pt_changes.proofs.Decided.{OfImages, made_so, refused_so}
-use Rattle.pt_changes.proofs.Left.{given_holds, may_remove, property_there}
+use Rattle.pt_changes.proofs.Left.{given_holds, may_give, may_remove}
+use Rattle.pt_changes.proofs.Parted.{none_paired}
 use Rattle.pt_changes.proofs.Parting.{and_at, some_at}
 
 -- ---- what is decided
@@ -50,7 +55,7 @@ pub delete_fixed : (bytes after : Option (List ℕ)) (id : ℤ) (ended : CallEnd
 delete_fixed bytes after id ended known fixed told same =
     refused_so bytes after (λ s. of_entry (s.registry.entry id) leaves) 267269 ended told same
     (of_map bytes (λ s. false ≡ is_none (s.registry.entry id)) (λ s. of_entry (s.registry.entry id) leaves ≡ Refuses 267269)
-    (λ image s holds is. fixed_by s.registry id true holds.holds.valid is fixed) known)
+    (λ image s holds is. fixed_by s.registry id true holds.pairs.holds.valid is fixed) known)
 
 -- ---- what is left
 
@@ -96,11 +101,8 @@ pub its_same : (bytes : Option (List ℕ)) (id : ℤ) (items its : List ℤ) →
     → OfStates bytes (λ s. its ≡ property s.registry id)
 its_same bytes id items its same found = subst (λ (xs : List ℤ). OfStates bytes (λ s. xs ≡ property s.registry id)) (sym same) found
 
-may_give_its : (id : ℤ) (s : State) (its : List ℤ) → its ≡ property s.registry id → MayGive its (pos 0) (without_pairs id s)
-may_give_its id s its are = record {
-  there = subst (λ (xs : List ℤ). AllByRecursion (λ x. IsSome (s.registry.entry x)) xs) (sym are) (property_there s.registry id);
-  owner_there = inl refl;
-}
+may_give_its : (id : ℤ) (s : State) (its : List ℤ) → its ≡ property s.registry id → MayGive its (pos 0) s.registry
+may_give_its id s its are = subst (λ (xs : List ℤ). MayGive xs (pos 0) s.registry) (sym are) (may_give s.registry id)
 
 after_all : (image : List ℕ) (id : ℤ) (s : State) (its : List ℤ) → its ≡ property s.registry id
     → after_remove id (after_gives (pos 0) its s.registry (after_parts id (elements s id) image)) ≡ after_leave id s image
@@ -110,15 +112,15 @@ after_all image id s its are = ap (λ (xs : List ℤ). after_remove id
 
 -- the bytes once what it owned has no owner
 abbrev pub Gives : (mid look after : Option (List ℕ)) → (its : List ℤ) → Type 0
-Gives mid look after its = (look ≡ mid) × Leaves look (MayGive its (pos 0)) (λ s. after_gives (pos 0) its s.registry) after
+Gives mid look after its = (look ≡ mid) × LeavesAll look (λ r m. MayGive its (pos 0) r) (after_gives (pos 0) its) after
 
 given : (image : List ℕ) (mid look after : Option (List ℕ)) (id : ℤ) (s : State) (its : List ℤ) → IsStripped id image s mid
     → its ≡ property s.registry id
     → Gives mid look after its → after ≡ Some (after_gives (pos 0) its s.registry (after_parts id (elements s id) image))
 given image mid look after id s its so are gives =
     some_at look (after_parts id (elements s id) image)
-    (λ i. (t : State) → HoldsState i t → MayGive its (pos 0) t → after ≡ Some (after_gives (pos 0) its t.registry i)) (gives.0 ∙ so.bytes)
-    gives.1 (without_pairs id s) so.holds
+    (λ i. (r : Registry) (m : Members) → Holds i r m → MayGive its (pos 0) r → after ≡ Some (after_gives (pos 0) its r i))
+    (gives.0 ∙ so.bytes) gives.1 s.registry (members_of (without_pairs id s)) so.holds
     (may_give_its id s its are)
 
 left_by : (bytes first mid look given_to after : Option (List ℕ)) (id : ℤ) (its : List ℤ) → Strips bytes first mid id
@@ -140,7 +142,7 @@ pub delete_made : (bytes first mid look given_to after : Option (List ℕ)) (id 
 delete_made bytes first mid look given_to after id its ended known free strips found gives removed told =
     made_so bytes after (λ s. of_entry (s.registry.entry id) leaves) (Leave id) ended told
     (of_map bytes (λ s. false ≡ is_none (s.registry.entry id)) (λ s. of_entry (s.registry.entry id) leaves ≡ Changes answer.Done (Leave id))
-    (λ image s holds is. fixed_by s.registry id false holds.holds.valid is free) known)
+    (λ image s holds is. fixed_by s.registry id false holds.pairs.holds.valid is free) known)
     (left_by bytes first mid look given_to after id its strips found gives removed)
 
 -- ---- faults
@@ -160,22 +162,22 @@ property_fault (Some image) first mid id (BadRecord at) strips cause = λ some.
 property_fault bytes first mid id NoMemory strips cause = tt
 
 pub give_fault : (bytes first mid look : Option (List ℕ)) (id : ℤ) (its : List ℤ) (fault : RecordFault) → Strips bytes first mid id
-    → OfStates mid (λ s. its ≡ property s.registry id) → look ≡ mid → HasChangeCause look (MayGive its (pos 0)) fault
+    → OfStates mid (λ s. its ≡ property s.registry id) → look ≡ mid → HasCauseWhere (λ r m. MayGive its (pos 0) r) look fault
     → HasItsCause bytes fault
 give_fault bytes first mid look id its DiskFault strips found same cause = tt
 give_fault None first mid look id its (BadRecord at) strips found same cause = tt
 give_fault (Some image) first mid look id its (BadRecord at) strips found same cause = λ some.
     let s : State = record { registry = some.0; is_in = some.1.has } in
     let so = stripped image first mid id s some.2 strips in
-    some_at look (after_parts id (elements s id) image) (λ i. HasChangeCause (Some i) (MayGive its (pos 0)) (BadRecord at))
+    some_at look (after_parts id (elements s id) image) (λ i. HasCauseWhere (λ r m. MayGive its (pos 0) r) (Some i) (BadRecord at))
     (same ∙ so.bytes) cause
-    (without_pairs id s, so.holds, may_give_its id s its (its_are image mid id s its so found))
+    (s.registry, members_of (without_pairs id s), so.holds, may_give_its id s its (its_are image mid id s its so found))
 give_fault bytes first mid look id its NoMemory strips found same cause = tt
 
 pub remove_fault : (bytes first mid look given_to : Option (List ℕ)) (id : ℤ) (its : List ℤ) (fault : RecordFault) → Known bytes id
     → is_fixed id ≡ false
     → Strips bytes first mid id → OfStates mid (λ s. its ≡ property s.registry id) → Gives mid look given_to its
-    → HasCause given_to (λ image r. Holds image r × MayBeRemoved id r) fault → HasItsCause bytes fault
+    → HasCauseWhere (MayGo id) given_to fault → HasItsCause bytes fault
 remove_fault bytes first mid look given_to id its DiskFault known free strips found gives cause = tt
 remove_fault None first mid look given_to id its (BadRecord at) known free strips found gives cause = tt
 remove_fault (Some image) first mid look given_to id its (BadRecord at) known free strips found gives cause = λ some.
@@ -188,9 +190,13 @@ remove_fault (Some image) first mid look given_to id its (BadRecord at) known fr
     given image mid look given_to id s its so are gives
     ∙ ap (λ (xs : List ℤ). Some (after_gives (pos 0) xs r (after_parts id (elements s id) image))) are in
     let held : HoldsState (after_gives (pos 0) (property r id) r (after_parts id (elements s id) image))
-    (over_registry (with_owners (pos 0) (property r id)) (without_pairs id s)) =
+    (over_registry (all_given (pos 0) (property r id)) (without_pairs id s)) =
     given_holds (after_parts id (elements s id) image) s id so.holds in
     some_at given_to (after_gives (pos 0) (property r id) r (after_parts id (elements s id) image))
-    (λ i. (q : Registry) → (Holds i q × MayBeRemoved id q) → ⊥) at_given cause
-    (with_owners (pos 0) (property r id) r) (held.holds, may_remove r id some.2.holds.valid (is_there (r.entry id) e.0 e.1) free)
+    (λ i. ((q : Registry) × (m : Members) × Holds i q m × MayGo id q m) → ⊥) at_given cause (
+      all_given (pos 0) (property r id) r,
+      members_of (without_pairs id s),
+      held,
+      (may_remove r id some.2.pairs.holds.valid (is_there (r.entry id) e.0 e.1) free, none_paired s id),
+    )
 remove_fault bytes first mid look given_to id its NoMemory known free strips found gives cause = tt

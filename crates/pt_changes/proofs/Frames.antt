@@ -1,9 +1,8 @@
 -- What a call leaves of a draft that it looks at twice before it changes it.
 use Rattle.db_image.specs.Draft.{Drafted}
 use Rattle.db_image.specs.declared.images.ImageRead.{Ghosts}
-use Rattle.db_blocks.specs.Ends.{OnlyDrafts as BlockDrafts}
-use Rattle.prdb_layout.specs.RecordEnds.{OnlyDrafts, OnlyLooks}
-use Rattle.prdb_layout.proofs.Scanned.{drafts_after, drafts_then, looks_then}
+use Rattle.db_blocks.specs.Ends.{OnlyDrafts, OnlyLooks}
+use Rattle.db_blocks.proofs.Scanned.{drafts_after, looks_then, drafts_then}
 use Rattle.pt_service.proofs.Frames.{drafted, drafts_so, looked}
 
 pub looked_two : {I : Type 0} (g : Ghosts I) (a b c : Drafted I) (first second failed : Type 0) → OnlyLooks g a b first
@@ -13,10 +12,9 @@ looked_two g a b c first second failed r s so = looked g a c second failed (look
 
 pub drafted_two : {I : Type 0} (g : Ghosts I) (a b c d : Drafted I) (first second third failed : Type 0) → OnlyLooks g a b first
     → OnlyLooks g b c second
-    → BlockDrafts g c d third → (failed → third) → OnlyDrafts g a d failed
+    → OnlyDrafts g c d third → (failed → third) → OnlyDrafts g a d failed
 drafted_two g a b c d first second third failed r s t so =
-    let changes : OnlyDrafts g c d third = record { layout = t.layout; reads = t.reads } in
-    drafted g a c d second third failed (looks_then g a b c first second r s) changes so
+    drafted g a c d second third failed (looks_then g a b c first second r s) t so
 
 -- a look, a change, a look, and two changes more
 pub looked_then_changed : {I : Type 0} (g : Ghosts I) (a b c d : Drafted I) (first second third failed : Type 0) → OnlyLooks g a b first
@@ -39,6 +37,3 @@ pub changed_thrice : {I : Type 0} (g : Ghosts I) (a b c d e f : Drafted I) (firs
 changed_thrice g a b c d e f first second third fourth fifth failed r s t u v so =
     drafts_so g a f fifth failed (drafts_then g a e f fourth fifth
     (changed_twice g a b c d e first second third fourth fourth r s t u (λ h. h)) v) so
-
-pub as_drafts : {I : Type 0} (g : Ghosts I) (a b : Drafted I) (failed : Type 0) → BlockDrafts g a b failed → OnlyDrafts g a b failed
-as_drafts g a b failed drafts = record { layout = drafts.layout; reads = drafts.reads }

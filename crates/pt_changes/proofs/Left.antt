@@ -8,21 +8,24 @@ use Rattle.std.proofs.lemmas.Bool.Decides.{Decides-int_eq}
 use Rattle.std.proofs.lemmas.Int.{ints}
 use Rattle.std.proofs.lemmas.List.Elements.{All-weaker, filter_passes, recursion_from_All}
 use mathlib.Core.Path.{fun_ext}
-use Rattle.prdb_layout.specs.Records.{after_remove}
 use Rattle.prdb_layout.specs.Registry.{Registry, IsRegistry, MayBeRemoved, without_entry}
 use Rattle.prdb_layout.specs.State.{PrEntry, IsId}
 use Rattle.prdb_layout.proofs.Changed.{some_same}
-use Rattle.prdb_lists.proofs.Both.{part_holds}
-use Rattle.prdb_lists.proofs.RecordsKeep.{remove_keep}
+use Rattle.prdb_finds.specs.Records.{Holds}
+use Rattle.prdb_entries.specs.Changes.{after_remove}
+use Rattle.prdb_entries.proofs.Removed.{holds_removed}
+use Rattle.prdb_members.proofs.Ends.{part_holds}
 use Rattle.pt_service.specs.Meaning.{disowned, without}
 use Rattle.pt_service.specs.State.{State, elements, ids}
 use Rattle.pt_service.specs.Turning.{is_fixed}
+use Rattle.prdb_turns.specs.Owners.{MayGive, after_gives, with_owner}
+use Rattle.prdb_turns.proofs.Given.{IsGiving, all_given, gives_may, owners_are}
+use Rattle.prdb_turns.proofs.Refits.{refits_hold}
 use Rattle.pt_database.specs.States.{HoldsState, members_of}
 use Rattle.pt_database.proofs.Pairs.{entry_range, some_is}
 use Rattle.pt_changes.specs.Ends.{over_registry}
-use Rattle.pt_changes.specs.Leaving.{MayPart, after_gives, after_leave, after_parted, after_parts, is_property, property, with_owner, with_owners, without_paired, without_pairs}
+use Rattle.pt_changes.specs.Leaving.{MayPart, after_leave, after_parted, after_parts, is_property, property, without_paired, without_pairs}
 use Rattle.pt_changes.proofs.Listed.{any_id, filter_has, filter_meets, id_any, ids_have, no_fixed}
-use Rattle.pt_changes.proofs.Owners.{gives_hold}
 use Rattle.pt_changes.proofs.Parted.{CanPart, elements_can, left_is, none_paired, without_each}
 
 -- ---- what it owned
@@ -40,7 +43,7 @@ unfolding property
 property_has r id x valid is = filter_has (λ x. is_property id (r.entry x)) ids x is
     (ids_have x (entry_range r x valid (there_by id (r.entry x) is)))
 
-pub property_there : (r : Registry) (id : ℤ) → AllByRecursion (λ x. IsSome (r.entry x)) (property r id)
+property_there : (r : Registry) (id : ℤ) → AllByRecursion (λ x. IsSome (r.entry x)) (property r id)
 unfolding property
 property_there r id =
     recursion_from_All (λ x. IsSome (r.entry x)) (filter (λ x. is_property id (r.entry x)) ids)
@@ -80,7 +83,7 @@ some_cond true (Some e) there = refl
 some_cond false o there = there
 
 pub may_remove : (r : Registry) (id : ℤ) → IsRegistry r → IsSome (r.entry id) → is_fixed id ≡ false
-    → MayBeRemoved id (with_owners (pos 0) (property r id) r)
+    → MayBeRemoved id (all_given (pos 0) (property r id) r)
 may_remove r id valid there free = record {
   there = some_cond (list_any (int_eq id) (property r id)) (r.entry id) there;
   not_fixed = no_fixed id free;
@@ -100,7 +103,7 @@ disowned_by false (Some e) id to from =
     (sym (false_from_ne_true (int_eq e.owner id) (λ (is : int_eq e.owner id ≡ true). let yes : false ≡ true = to is in cc)))
 
 left_registry : (r : Registry) (id : ℤ) → IsRegistry r
-    → without_entry id (with_owners (pos 0) (property r id) r) ≡ record r
+    → without_entry id (all_given (pos 0) (property r id) r) ≡ record r
     { entry = λ x. cond (int_eq x id) None (option_map (disowned id) (r.entry x)) }
 left_registry r id valid =
     ap (λ (f : ℤ → Option PrEntry). record r { entry = f })
@@ -109,22 +112,28 @@ left_registry r id valid =
 
 -- ---- the image
 
+pub may_give : (r : Registry) (id : ℤ) → MayGive (property r id) (pos 0) r
+may_give r id = record { there = property_there r id; owner_there = inl refl }
+
 pub given_holds : (image : List ℕ) (s : State) (id : ℤ) → HoldsState image (without_pairs id s)
     → HoldsState (after_gives (pos 0) (property s.registry id) s.registry image)
-    (over_registry (with_owners (pos 0) (property s.registry id)) (without_pairs id s))
+    (over_registry (all_given (pos 0) (property s.registry id)) (without_pairs id s))
 given_holds image s id holds =
-    gives_hold (pos 0) (property s.registry id) s.registry (without_pairs id s) image holds (λ x. refl) (inl refl)
-    (property_there s.registry id)
+    let r = s.registry in
+    let its = property r id in
+    let m = members_of (without_pairs id s) in
+    let t : IsGiving (pos 0) its r = record { valid = holds.pairs.holds.valid; may = may_give r id } in
+    subst (λ (q : Registry). Holds (after_gives (pos 0) its r image) q m) (owners_are (pos 0) its r t)
+    (refits_hold (with_owner (pos 0)) its image r m holds (gives_may (pos 0) its r t))
 
 pub removed_holds : (image : List ℕ) (s : State) (id : ℤ) → IsRegistry s.registry → IsSome (s.registry.entry id) → is_fixed id ≡ false
-    → HoldsState image (over_registry (with_owners (pos 0) (property s.registry id)) (without_pairs id s))
+    → HoldsState image (over_registry (all_given (pos 0) (property s.registry id)) (without_pairs id s))
     → HoldsState (after_remove id image) (without id s)
 removed_holds image s id valid there free holds =
-    let kept : HoldsState (after_remove id image) (over_registry (λ r. without_entry id (with_owners (pos 0) (property r id) r))
+    let kept : HoldsState (after_remove id image) (over_registry (λ r. without_entry id (all_given (pos 0) (property r id) r))
     (without_pairs id s)) =
-    remove_keep image (with_owners (pos 0) (property s.registry id) s.registry) (members_of (without_pairs id s)) id holds
-    (may_remove s.registry id valid there free)
-    (none_paired s id) in
+    holds_removed image (all_given (pos 0) (property s.registry id) s.registry) (members_of (without_pairs id s)) id holds
+    (may_remove s.registry id valid there free, none_paired s id) in
     subst (λ (r : Registry). HoldsState (after_remove id image) (record (without_pairs id s) { registry = r }))
     (left_registry s.registry id valid) kept
 
@@ -147,5 +156,5 @@ left_holds image s id holds there free =
     subst (λ (t : State). HoldsState (after_parts id (elements s id) image) t) (left_is s id image holds)
     (parts_hold id (elements s id) image s holds (elements_can s id)) in
     removed_holds (after_gives (pos 0) (property s.registry id) s.registry (after_parts id (elements s id) image)) s id
-    holds.holds.valid there free
+    holds.pairs.holds.valid there free
     (given_holds (after_parts id (elements s id) image) s id stripped)

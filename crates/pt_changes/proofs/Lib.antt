@@ -1,11 +1,9 @@
 pub mod Decided
 pub mod Deleted
 pub mod Frames
-pub mod Giving
 pub mod Left
 pub mod Listed
 pub mod Owned
-pub mod Owners
 pub mod Paired
 pub mod Parted
 pub mod Parting

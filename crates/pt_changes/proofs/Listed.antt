@@ -9,7 +9,8 @@ use Rattle.std.proofs.lemmas.List.Elements.{All-contains, filter_passes}
 use Rattle.prdb_layout.specs.Registry.{IsFixedId}
 use Rattle.prdb_layout.specs.State.{PrEntry, fixed_entries}
 use Rattle.prdb_layout.proofs.Changed.{by_id}
-use Rattle.pt_service.specs.State.{ids, least_id, numbers_from}
+use Rattle.entry_scans.specs.Pages.{least_id}
+use Rattle.pt_service.specs.State.{ids, numbers_from}
 use Rattle.pt_service.specs.Turning.{is_fixed}
 use Rattle.pt_database.proofs.Ordered.{InRange, Rises}
 

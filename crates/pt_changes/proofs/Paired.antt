@@ -9,10 +9,10 @@ use Rattle.db_image.specs.declared.faults.RecordFault.{RecordFault}
 use Rattle.db_image.specs.declared.faults.RecordFault.TheVariants.{DiskFault, BadRecord, NoMemory}
 use Rattle.prdb_layout.specs.Registry.{Registry, IsRegistry}
 use Rattle.prdb_layout.specs.State.{IsId, PrEntry}
-use Rattle.prdb_lists.specs.Changes.{after_join, after_part}
-use Rattle.prdb_lists.specs.Ends.{HasItsCause, HasPairCause}
-use Rattle.prdb_lists.specs.Layout.{HoldsPairs}
 use Rattle.prdb_lists.specs.Members.{MayJoin, MayLeave, Members}
+use Rattle.prdb_finds.specs.Ends.{HasCauseWhere, HasItsCause}
+use Rattle.prdb_finds.specs.Records.{Holds}
+use Rattle.prdb_members.specs.Changes.{after_join, after_part}
 use Rattle.pt_calls.specs.declared.answers.PtAnswer.TheVariants as answer
 use Rattle.pt_service.specs.Meaning.{Answers, Join, Makes, NoCall, Part, Refuses, Verdict, joins, of_pair, parts, reply_by}
 use Rattle.pt_service.specs.State.{State, is_group}
@@ -134,11 +134,11 @@ part_not_there bytes mid after user group ended good same there told left =
 -- ---- changes
 
 abbrev Joined : Option (List ℕ) → Option (List ℕ) → (user group : ℤ) → Type 0
-Joined bytes after user group = IfSome bytes (λ image. (r : Registry) (m : Members) → HoldsPairs image r m → MayJoin user group r m →
+Joined bytes after user group = IfSome bytes (λ image. (r : Registry) (m : Members) → Holds image r m → MayJoin user group r m →
     after ≡ Some (after_join user group image))
 
 abbrev Parted : Option (List ℕ) → Option (List ℕ) → (user group : ℤ) → Type 0
-Parted bytes after user group = IfSome bytes (λ image. (r : Registry) (m : Members) → HoldsPairs image r m → MayLeave user group m →
+Parted bytes after user group = IfSome bytes (λ image. (r : Registry) (m : Members) → Holds image r m → MayLeave user group m →
     after ≡ Some (after_part user group image))
 
 join_leaves : (bytes after : Option (List ℕ)) (user group : ℤ) → PairFault bytes user group None
@@ -146,7 +146,7 @@ join_leaves : (bytes after : Option (List ℕ)) (user group : ℤ) → PairFault
     → OfImages bytes (λ image s. after ≡ Some (after_join user group image))
 join_leaves None after user group good new joined = tt
 join_leaves (Some image) after user group good new joined = λ s holds.
-    joined s.registry (members_of s) holds (may_join s user group holds.holds.valid (good_pair s.registry user group (good s holds))
+    joined s.registry (members_of s) holds (may_join s user group holds.pairs.holds.valid (good_pair s.registry user group (good s holds))
     (sym (new s holds)))
 
 part_leaves : (bytes after : Option (List ℕ)) (user group : ℤ) → OfStates bytes (λ s. true ≡ s.is_in user group)
@@ -184,7 +184,7 @@ part_made bytes first mid after user group ended good same there still parted to
 
 join_cause : (bytes : Option (List ℕ)) (user group : ℤ) (fault : RecordFault) → PairFault bytes user group None
     → OfStates bytes (λ s. false ≡ s.is_in user group)
-    → HasPairCause bytes (MayJoin user group) fault → HasItsCause bytes fault
+    → HasCauseWhere (MayJoin user group) bytes fault → HasItsCause bytes fault
 join_cause bytes user group DiskFault good new cause = tt
 join_cause None user group (BadRecord at) good new cause = tt
 join_cause (Some image) user group (BadRecord at) good new cause = λ some.
@@ -193,12 +193,12 @@ join_cause (Some image) user group (BadRecord at) good new cause = λ some.
       some.0,
       some.1,
       some.2,
-      may_join s user group some.2.holds.valid (good_pair some.0 user group (good s some.2)) (sym (new s some.2)),
+      may_join s user group some.2.pairs.holds.valid (good_pair some.0 user group (good s some.2)) (sym (new s some.2)),
     )
 join_cause bytes user group NoMemory good new cause = tt
 
 part_cause : (bytes : Option (List ℕ)) (user group : ℤ) (fault : RecordFault) → OfStates bytes (λ s. true ≡ s.is_in user group)
-    → HasPairCause bytes (λ r. MayLeave user group) fault → HasItsCause bytes fault
+    → HasCauseWhere (λ r. MayLeave user group) bytes fault → HasItsCause bytes fault
 part_cause bytes user group DiskFault there cause = tt
 part_cause None user group (BadRecord at) there cause = tt
 part_cause (Some image) user group (BadRecord at) there cause = λ some.
@@ -208,14 +208,14 @@ part_cause bytes user group NoMemory there cause = tt
 
 pub join_fault : (bytes first mid : Option (List ℕ)) (user group : ℤ) (fault : RecordFault) → PairFault bytes user group None
     → first ≡ bytes
-    → OfStates first (λ s. false ≡ s.is_in user group) → mid ≡ bytes → HasPairCause mid (MayJoin user group) fault → HasItsCause bytes fault
+    → OfStates first (λ s. false ≡ s.is_in user group) → mid ≡ bytes → HasCauseWhere (MayJoin user group) mid fault → HasItsCause bytes fault
 join_fault bytes first mid user group fault good same new still cause =
     join_cause bytes user group fault good (of_same bytes first (λ s. false ≡ s.is_in user group) same new)
-    (subst (λ (b : Option (List ℕ)). HasPairCause b (MayJoin user group) fault) still cause)
+    (subst (λ (b : Option (List ℕ)). HasCauseWhere (MayJoin user group) b fault) still cause)
 
 pub part_fault : (bytes first mid : Option (List ℕ)) (user group : ℤ) (fault : RecordFault) → first ≡ bytes
-    → OfStates first (λ s. true ≡ s.is_in user group) → mid ≡ bytes → HasPairCause mid (λ r. MayLeave user group) fault
+    → OfStates first (λ s. true ≡ s.is_in user group) → mid ≡ bytes → HasCauseWhere (λ r. MayLeave user group) mid fault
     → HasItsCause bytes fault
 part_fault bytes first mid user group fault same there still cause =
     part_cause bytes user group fault (of_same bytes first (λ s. true ≡ s.is_in user group) same there)
-    (subst (λ (b : Option (List ℕ)). HasPairCause b (λ r. MayLeave user group) fault) still cause)
+    (subst (λ (b : Option (List ℕ)). HasCauseWhere (λ r. MayLeave user group) b fault) still cause)

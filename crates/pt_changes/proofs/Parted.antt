@@ -9,10 +9,11 @@ use Rattle.std.proofs.lemmas.Int.{ints}
 use mathlib.Core.Path.{fun_ext}
 use Rattle.prdb_layout.specs.Registry.{Registry}
 use Rattle.prdb_layout.proofs.Changed.{by_id}
+use Rattle.entry_scans.specs.Pages.{least_id}
 use Rattle.prdb_lists.specs.Members.{are_paired}
 use Rattle.prdb_lists.proofs.Both.{has_without, without_still}
 use Rattle.prdb_lists.proofs.RecordsKeep.{int_other}
-use Rattle.pt_service.specs.State.{State, elements, is_paired, ids, least_id}
+use Rattle.pt_service.specs.State.{State, elements, is_paired, ids}
 use Rattle.pt_database.specs.States.{HoldsState, members_of}
 use Rattle.pt_database.proofs.Ordered.{InRange, Rises}
 use Rattle.pt_database.proofs.Pairs.{entry_range, paired_is, paired_there}
@@ -92,8 +93,8 @@ each_gone entry (x ∷ xs) s y (suc k, below, same) is = each_gone entry xs (wit
 -- ---- all of them
 
 paired_range : (s : State) (entry y : ℤ) (image : List ℕ) → HoldsState image s → is_paired s entry y ≡ true → InRange y
-paired_range s entry y image holds is = entry_range s.registry y holds.holds.valid
-    (paired_there s entry y holds.valid (paired_is s entry y holds.valid ∙ is))
+paired_range s entry y image holds is = entry_range s.registry y holds.pairs.holds.valid
+    (paired_there s entry y holds.pairs.valid (paired_is s entry y holds.pairs.valid ∙ is))
 
 element_has : (s : State) (entry y : ℤ) (image : List ℕ) → HoldsState image s → is_paired s entry y ≡ true → Contains (elements s entry) y
 unfolding elements
@@ -151,13 +152,13 @@ left_at s entry image u g holds =
     (λ (same : u ≡ entry).
     false_from_ne_true (f.is_in u g) (λ (is : f.is_in u g ≡ true).
     none_left s entry g image holds
-    (as_user f entry g (subst (λ (z : ℤ). pos 0 <ℤ z) same (holds.valid u g (was is)).0) (subst (λ (z : ℤ). f.is_in z g ≡ true) same is)))
+    (as_user f entry g (subst (λ (z : ℤ). pos 0 <ℤ z) same (holds.pairs.valid u g (was is)).0) (subst (λ (z : ℤ). f.is_in z g ≡ true) same is)))
     ∙ sym (first_gone (int_eq u entry) (int_eq g entry) (s.is_in u g) ((Decides-int_eq u entry).1 same)))
     (λ (user : u ≢ entry). by_id g entry
     (λ (same : g ≡ entry).
     false_from_ne_true (f.is_in u g) (λ (is : f.is_in u g ≡ true).
     none_left s entry u image holds
-    (as_group f entry u (subst (λ (z : ℤ). z <ℤ pos 0) same (holds.valid u g (was is)).1) (subst (λ (z : ℤ). f.is_in u z ≡ true) same is)))
+    (as_group f entry u (subst (λ (z : ℤ). z <ℤ pos 0) same (holds.pairs.valid u g (was is)).1) (subst (λ (z : ℤ). f.is_in u z ≡ true) same is)))
     ∙ sym (second_gone (int_eq u entry) (int_eq g entry) (s.is_in u g) ((Decides-int_eq g entry).1 same)))
     (λ (group : g ≢ entry).
     same_bool (f.is_in u g) (s.is_in u g) was (each_other entry (elements s entry) s u g user group)

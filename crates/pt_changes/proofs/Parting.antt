@@ -7,18 +7,16 @@ use Rattle.db_image.specs.Draft.{Drafted}
 use Rattle.db_image.specs.declared.faults.RecordFault.{RecordFault}
 use Rattle.db_image.specs.declared.faults.RecordFault.TheVariants.{DiskFault, BadRecord, NoMemory}
 use Rattle.db_image.specs.declared.images.ImageRead.{Ghosts}
-use Rattle.db_blocks.specs.Ends.{OnlyLooks as BlockLooks}
-use Rattle.prdb_layout.specs.RecordEnds.{OnlyDrafts}
+use Rattle.db_blocks.specs.Ends.{OnlyDrafts, OnlyLooks}
+use Rattle.db_blocks.proofs.Scanned.{drafts_then}
 use Rattle.prdb_layout.specs.Registry.{Registry}
-use Rattle.prdb_layout.proofs.Scanned.{drafts_then}
-use Rattle.prdb_lists.specs.Changes.{after_part}
-use Rattle.prdb_lists.specs.Ends.{HasItsCause, HasPairCause}
-use Rattle.prdb_lists.specs.Layout.{HoldsPairs}
 use Rattle.prdb_lists.specs.Members.{MayLeave, Members, without_pair}
+use Rattle.prdb_finds.specs.Ends.{HasCauseWhere, HasItsCause}
+use Rattle.prdb_finds.specs.Records.{Holds}
+use Rattle.prdb_members.specs.Changes.{after_part}
 use Rattle.pt_service.specs.State.{State, elements, is_group}
 use Rattle.pt_service.proofs.Frames.{looked}
 use Rattle.pt_database.specs.States.{HoldsState, OfStates, members_of}
-use Rattle.pt_database.proofs.States.{as_looks}
 use Rattle.pt_changes.specs.Ends.{Always, HasChangeCause, Leaves, Makes}
 use Rattle.pt_changes.specs.Leaving.{MayPart, after_parted, after_parts, without_paired, without_pairs}
 use Rattle.pt_changes.proofs.Decided.{OfImages}
@@ -28,13 +26,13 @@ use Rattle.pt_changes.proofs.Parted.{CanPart, elements_can, left_is, without_eac
 -- ---- one pair, by which of the two is the group
 
 abbrev pub Parts : Option (List ℕ) → Option (List ℕ) → (user group : ℤ) → Type 0
-Parts bytes after user group = IfSome bytes (λ image. (r : Registry) (m : Members) → HoldsPairs image r m → MayLeave user group m →
+Parts bytes after user group = IfSome bytes (λ image. (r : Registry) (m : Members) → Holds image r m → MayLeave user group m →
     after ≡ Some (after_part user group image))
 
 abbrev pub PartsHeld : Option (List ℕ) → Option (List ℕ) → (user group : ℤ) → Type 0
 PartsHeld bytes after user group =
-    IfSome bytes (λ image. (r : Registry) (m : Members) → HoldsPairs image r m → MayLeave user group m → IsSomeAnd after
-    (λ new. HoldsPairs new r (without_pair user group m)))
+    IfSome bytes (λ image. (r : Registry) (m : Members) → Holds image r m → MayLeave user group m → IsSomeAnd after
+    (λ new. Holds new r (without_pair user group m)))
 
 pub group_bytes : (bytes after : Option (List ℕ)) (entry other : ℤ) → is_group entry ≡ true → Parts bytes after other entry
     → Leaves bytes (MayPart entry other) (λ s. after_parted entry other) after
@@ -61,7 +59,7 @@ user_holds (Some image) after (pos n) other is told = λ s holds may. told s.reg
 user_holds (Some image) after (negsuc n) other is told = absurd cc
 
 pub group_cause : (bytes : Option (List ℕ)) (entry other : ℤ) (fault : RecordFault) → is_group entry ≡ true
-    → HasPairCause bytes (λ r. MayLeave other entry) fault
+    → HasCauseWhere (λ r. MayLeave other entry) bytes fault
     → HasChangeCause bytes (MayPart entry other) fault
 group_cause bytes entry other DiskFault is cause = tt
 group_cause None entry other (BadRecord at) is cause = tt
@@ -70,7 +68,7 @@ group_cause (Some image) (negsuc n) other (BadRecord at) is cause = λ some. cau
 group_cause bytes entry other NoMemory is cause = tt
 
 pub user_cause : (bytes : Option (List ℕ)) (entry other : ℤ) (fault : RecordFault) → is_group entry ≡ false
-    → HasPairCause bytes (λ r. MayLeave entry other) fault
+    → HasCauseWhere (λ r. MayLeave entry other) bytes fault
     → HasChangeCause bytes (MayPart entry other) fault
 user_cause bytes entry other DiskFault is cause = tt
 user_cause None entry other (BadRecord at) is cause = tt
@@ -158,10 +156,10 @@ pub record Parting {I : Type 0} (g : Ghosts I) (first now : Drafted I) (entry : 
   pub each : ArePartedTo first.bytes now.bytes entry others done
 
 pub parting_none : {I : Type 0} (g : Ghosts I) (first now : Drafted I) (one : Type 0) (entry : ℤ) (others : List ℤ)
-    → BlockLooks g first now one
+    → OnlyLooks g first now one
     → OfStates first.bytes (λ s. others ≡ elements s entry) → Parting g first now entry others 0
 parting_none g first now one entry others looks told = record {
-  frame = looked g first now one ⊥ (as_looks g first now one looks) (λ h. absurd h);
+  frame = looked g first now one ⊥ looks (λ h. absurd h);
   len = looks.same.len;
   each = parted_none first.bytes now.bytes entry others looks.same.bytes told;
 }
@@ -254,11 +252,11 @@ user_holds_ok (Err fault) bytes after entry other is told = tt
 user_holds_ok (Ok x) bytes after entry other is told = user_holds bytes after entry other is told
 
 pub group_err : {T : Type 0} (res : Result T RecordFault) (bytes : Option (List ℕ)) (entry other : ℤ) → is_group entry ≡ true
-    → IfErr res (HasPairCause bytes (λ r. MayLeave other entry)) → IfErr res (HasChangeCause bytes (MayPart entry other))
+    → IfErr res (HasCauseWhere (λ r. MayLeave other entry) bytes) → IfErr res (HasChangeCause bytes (MayPart entry other))
 group_err (Err fault) bytes entry other is cause = group_cause bytes entry other fault is cause
 group_err (Ok x) bytes entry other is cause = tt
 
 pub user_err : {T : Type 0} (res : Result T RecordFault) (bytes : Option (List ℕ)) (entry other : ℤ) → is_group entry ≡ false
-    → IfErr res (HasPairCause bytes (λ r. MayLeave entry other)) → IfErr res (HasChangeCause bytes (MayPart entry other))
+    → IfErr res (HasCauseWhere (λ r. MayLeave entry other) bytes) → IfErr res (HasChangeCause bytes (MayPart entry other))
 user_err (Err fault) bytes entry other is cause = user_cause bytes entry other fault is cause
 user_err (Ok x) bytes entry other is cause = tt

@@ -1,11 +1,11 @@
 -- What becomes of an image when an entry leaves: its pairs go, what it owned has no owner, and its block is free.
-use Rattle.std.specs.Prelude.{ℕ, ℤ, pos, ◌≡◌, ◌&&◌, Bool, true, false, not, List, [], ◌∷◌, filter, Option, Some, None, IsSome, option_map, if◌then◌else◌}
-use Rattle.std.specs.List.{AllByRecursion, list_any}
+use Rattle.std.specs.Prelude.{ℕ, ℤ, pos, ◌≡◌, ◌&&◌, Bool, true, false, not, List, [], ◌∷◌, filter, Option, Some, None, if◌then◌else◌}
 use Rattle.std.specs.Ordering.{int_eq}
-use Rattle.prdb_layout.specs.Records.{after_remove, after_replace}
-use Rattle.prdb_layout.specs.Registry.{Registry, IsOwner}
+use Rattle.prdb_layout.specs.Registry.{Registry}
 use Rattle.prdb_layout.specs.State.{PrEntry}
-use Rattle.prdb_lists.specs.Changes.{after_part}
+use Rattle.prdb_entries.specs.Changes.{after_remove}
+use Rattle.prdb_members.specs.Changes.{after_part}
+use Rattle.prdb_turns.specs.Owners.{after_gives}
 use Rattle.pt_service.specs.Meaning.{with_pair}
 use Rattle.pt_service.specs.State.{State, elements, ids, is_group, is_paired}
 
@@ -30,38 +30,15 @@ without_paired entry other s = if is_group entry then with_pair other entry fals
 abbrev pub without_pairs : ℤ → State → State
 without_pairs entry s = record s { is_in = λ user group. not (int_eq user entry) && not (int_eq group entry) && s.is_in user group }
 
--- ---- owners
-
-abbrev pub with_owner : ℤ → PrEntry → PrEntry
-with_owner owner e = record e { owner = owner }
+-- ---- what an entry owns
 
 abbrev pub is_property : (owner : ℤ) → Option PrEntry → Bool
 is_property owner None = false
 is_property owner (Some e) = int_eq e.owner owner
 
--- the ids of what an entry owns, ascending
+-- the ids of it, ascending
 unfoldable pub property : Registry → ℤ → List ℤ
 property r owner = filter (λ id. is_property owner (r.entry id)) ids
-
--- an entry has another owner, if there is one
-abbrev pub after_given : (owner : ℤ) → Option PrEntry → List ℕ → List ℕ
-after_given owner None image = image
-after_given owner (Some e) image = after_replace e.id (with_owner owner e) image
-
--- the entries of these ids have another owner
-abbrev pub after_gives : (owner : ℤ) → List ℤ → Registry → List ℕ → List ℕ
-after_gives owner [] r image = image
-after_gives owner (id ∷ those) r image = after_gives owner those r (after_given owner (r.entry id) image)
-
--- they are there, and their owner is none or an entry
-pub record MayGive (those : List ℤ) (owner : ℤ) (s : State) : Type 0 where
-  pub there : AllByRecursion (λ id. IsSome (s.registry.entry id)) those
-  pub owner_there : IsOwner s.registry.entry owner
-
-abbrev pub with_owners : (owner : ℤ) → List ℤ → Registry → Registry
-with_owners owner those r = record r {
-  entry = λ id. if list_any (int_eq id) those then option_map (with_owner owner) (r.entry id) else r.entry id;
-}
 
 -- ---- an entry that leaves
 

@@ -2,4 +2,3 @@ pub mod Ends
 pub mod Leaving
 pub mod Standing
 pub mod Turning
-pub mod Under

@@ -2,8 +2,9 @@
 use Rattle.std.specs.Prelude.{ℕ, ◌≡◌, List, Option, Some, IfSome}
 use Rattle.db_image.specs.Ends.{end_of}
 use Rattle.db_image.specs.declared.draft_services.CallEnd.{CallEnd}
-use Rattle.prdb_layout.specs.Records.{after_insert, after_replace, after_set_maxima}
-use Rattle.prdb_lists.specs.Changes.{after_join, after_part}
+use Rattle.prdb_finds.specs.Changes.{after_set_maxima}
+use Rattle.prdb_entries.specs.Changes.{after_insert, after_replace}
+use Rattle.prdb_members.specs.Changes.{after_join, after_part}
 use Rattle.pt_service.specs.Meaning.{Change, Maxima, Enter, Refit, Leave, Turn, Join, Part, Verdict, Makes, reply_by}
 use Rattle.pt_service.specs.State.{State}
 use Rattle.pt_database.specs.States.{HoldsState}

@@ -1,83 +1,41 @@
--- What becomes of an image when an entry gets another name, owner or id.
-use Rattle.std.specs.Prelude.{ℕ, ℤ, pos, ◌≡◌, ◌⊎◌, false, IsTrue, List, [], ◌∷◌, map, Option, Some, None, IsSome, IsSomeAnd, option_map, if◌then◌else◌}
-use Rattle.std.specs.Ordering.{int_eq}
-use Rattle.prdb_layout.specs.Records.{after_replace}
-use Rattle.prdb_layout.specs.Registry.{Registry, MayReplace, IsOwner, is_name_for, with_entry}
-use Rattle.prdb_layout.specs.State.{PrEntry, IsId, front_of}
-use Rattle.prdb_lists.specs.Moves.{after_move, moved_registry}
-use Rattle.pt_service.specs.Names.{with_front}
-use Rattle.pt_service.specs.State.{State, elements, is_group}
-use Rattle.pt_service.specs.Turning.{has_equal_names, has_long_name, is_fixed, moved, turned}
-use Rattle.pt_changes.specs.Leaving.{after_gives, property, with_owners}
-use Rattle.pt_changes.specs.Under.{under}
+-- What becomes of an image when an entry gets another name, owner or id, and when it may.
+use Rattle.std.specs.Prelude.{ℕ, ℤ, pos, ◌≡◌, ◌⊎◌, ◌&&◌, ◌++◌, int_lt, false, IsTrue, List, filter, Some, None, IsSome}
+use Rattle.db_chains.specs.Along.{to_end}
+use Rattle.db_chains.specs.Walks.{most_words, passed}
+use Rattle.prdb_layout.specs.Registry.{Registry, IsOwner, is_name_for}
+use Rattle.prdb_layout.specs.State.{PrEntry, IsId}
+use Rattle.prdb_lists.specs.Changes.{place_in}
+use Rattle.prdb_finds.specs.Places.{owned_links, owned_place}
+use Rattle.prdb_finds.specs.Records.{whole}
+use Rattle.prdb_members.specs.Owned.{ids_along}
+use Rattle.prdb_turns.specs.Refits.{after_refit}
+use Rattle.prdb_turns.specs.Turning.{after_turn as after_steps, first, named}
+use Rattle.pt_service.specs.State.{State, elements, ids, is_group}
+use Rattle.pt_service.specs.Turning.{has_equal_names, has_long_name, is_fixed}
+use Rattle.pt_changes.specs.Leaving.{is_property}
 
--- ---- names
+-- ---- what an entry owns
 
--- an entry with another name and another owner
-abbrev pub named : (name : List ℕ) → (owner : ℤ) → PrEntry → PrEntry
-named name owner e = record e { name = name; owner = owner }
+-- the groups, in the order of the owned chain of its block
+unfoldable pub groups_in : List ℕ → (owner : ℤ) → List ℤ
+groups_in image owner =
+    ids_along image (passed owned_links to_end image (most_words owned_links image) (owned_place (place_in image owner)))
 
--- an entry with other text before the `:` of its name
-abbrev pub fronted : (front : List ℕ) → PrEntry → PrEntry
-fronted front e = record e { name = with_front front e.name }
+-- the users, ascending
+unfoldable pub users_of : Registry → (owner : ℤ) → List ℤ
+users_of r owner = filter (λ id. int_lt (pos 0) id && is_property owner (r.entry id)) ids
 
--- the entry that was found has it, if there is one
-abbrev pub after_fronted : (front : List ℕ) → Option PrEntry → List ℕ → List ℕ
-after_fronted front None image = image
-after_fronted front (Some e) image = after_replace e.id (fronted front e) image
+-- the groups and then the users, as an image and the registry in it tell them
+abbrev pub its_in : List ℕ → Registry → (owner : ℤ) → List ℤ
+its_in image r owner = groups_in image owner ++ users_of r owner
 
-abbrev pub with_fronted : (front : List ℕ) → Option PrEntry → Registry → Registry
-with_fronted front None r = r
-with_fronted front (Some e) r = with_entry (fronted front e) r
+-- ---- the image
 
--- the entries of these ids have it, one after the other
-abbrev pub after_fronts : (front : List ℕ) → List ℤ → Registry → List ℕ → List ℕ
-after_fronts front [] r image = image
-after_fronts front (id ∷ those) r image =
-    after_fronts front those (with_fronted front (r.entry id) r) (after_fronted front (r.entry id) image)
-
-abbrev pub with_fronts : (front : List ℕ) → List ℤ → Registry → Registry
-with_fronts front [] r = r
-with_fronts front (id ∷ those) r = with_fronts front those (with_fronted front (r.entry id) r)
-
--- an entry may stand under its id, and has a name
-abbrev pub MayStand : Registry → PrEntry → Type 0
-MayStand r e = MayReplace e.id e r × IsTrue (is_name_for e.id e.name)
-
--- an entry that was found may have other text before the `:` of its name
-abbrev pub MayFront : (front : List ℕ) → Registry → PrEntry → Type 0
-MayFront front r e = MayStand r (fronted front e)
-
--- the entries of these ids may, one after the other
-abbrev pub MayFronts : (front : List ℕ) → List ℤ → Registry → Type 0
-MayFronts front [] r = Unit {0}
-MayFronts front (id ∷ those) r = IsSomeAnd (r.entry id) (MayFront front r) × MayFronts front those (with_fronted front (r.entry id) r)
-
--- the registry in which an entry has another name and another owner, and its own id
-abbrev pub renamed : PrEntry → (name : List ℕ) → (owner : ℤ) → Registry → Registry
-renamed e name owner r = record r { entry = λ z. option_map (turned e name owner e.id) (r.entry z) }
-
--- the entries that are named after it turn first
-unfoldable pub after_rename : PrEntry → (name : List ℕ) → (owner : ℤ) → Registry → List ℕ → List ℕ
-after_rename e name owner r image =
-    after_replace e.id (named name owner e) (after_fronts (front_of name) (under r e.name) r image)
-
--- ---- ids
-
--- an entry has another id: what it owns has no owner while it moves
-unfoldable pub after_renumber : (old new : ℤ) → State → List ℕ → List ℕ
-after_renumber old new s image =
-    let its = property s.registry old in
-    let left = with_owners (pos 0) its s.registry in
-    after_gives new (map (moved old new) its) (moved_registry old new left)
-    (after_move old new (elements s old) (after_gives (pos 0) its s.registry image))
-
--- ---- all of it
-
+-- The steps that `prdb_turns` makes: the entry, and then the groups that are named after it. What it owns is read once it has its name.
 unfoldable pub after_turn : PrEntry → (name : List ℕ) → (owner id : ℤ) → State → List ℕ → List ℕ
 after_turn e name owner id s image =
-    let here = after_rename e name owner s.registry image in
-    if int_eq id e.id then here else after_renumber e.id id (record s { registry = renamed e name owner s.registry }) here
+    let its = its_in (whole (after_refit (named name) (s.registry.entry e.id) image)) (first e name s.registry) e.id in
+    after_steps e name owner id its (elements s e.id) s.registry image
 
 -- ---- when a change may be made
 

@@ -1,8 +1,8 @@
 //! The call that removes an entry, over a draft.
 ghost use Rattle.std.specs.Prelude.{◌≡◌, ◌≤◌, ◌<◌, ◌^◌, IfOk, OnOk, IfErr, IsErrOf};
 ghost use Rattle.db_image.specs.Ends.{IsDecided};
-ghost use Rattle.prdb_layout.specs.RecordEnds.{OnlyDrafts};
-ghost use Rattle.prdb_lists.specs.Ends.{HasItsCause};
+ghost use Rattle.db_blocks.specs.Ends.{OnlyDrafts};
+ghost use Rattle.prdb_finds.specs.Ends.{HasItsCause};
 ghost use Rattle.pt_service.specs.Meaning.{leaves, of_entry};
 ghost use Rattle.pt_service.specs.State.{elements};
 ghost use Rattle.pt_changes.specs.Ends.{Always, HasChangeCause, Leaves, Makes};
@@ -10,10 +10,11 @@ ghost use Rattle.pt_changes.specs.Leaving.{MayPart, after_parted, after_parts, w
 ghost use Rattle.pt_changes.specs.Standing.{IsMeantOf};
 
 use crate::fixed::is_fixed;
-use crate::putting::{give, property};
+use crate::owning::property;
 use db_image::{CallEnd, Draft, ImageRead, RecordFault};
-use prdb_layout::remove;
-use prdb_lists::{elements, remove_pair};
+use prdb_entries::remove;
+use prdb_members::{elements, remove_pair};
+use prdb_turns::give;
 use pt_calls::PtAnswer;
 use pt_database::is_unknown;
 use pt_service::{NO_ENTRY, NOT_PERMITTED, is_group, tell};

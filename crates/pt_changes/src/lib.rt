@@ -4,11 +4,10 @@
 mod fixed;
 mod laws;
 mod leaving;
+mod owning;
 mod pairs;
-mod putting;
 
 pub use fixed::is_fixed;
 pub use laws::law_leave_leaves_no_trace;
 pub use leaving::delete;
 pub use pairs::{add_to_group, remove_from_group};
-pub use putting::{give, property};

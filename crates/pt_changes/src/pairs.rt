@@ -1,14 +1,14 @@
 //! The calls that put a user into a group and take one out of it, over a draft.
 ghost use Rattle.std.specs.Prelude.{◌≤◌, IfOk, IfErr, IsErrOf};
 ghost use Rattle.db_image.specs.Ends.{IsDecided};
-ghost use Rattle.prdb_layout.specs.RecordEnds.{OnlyDrafts};
-ghost use Rattle.prdb_lists.specs.Ends.{HasItsCause};
+ghost use Rattle.db_blocks.specs.Ends.{OnlyDrafts};
+ghost use Rattle.prdb_finds.specs.Ends.{HasItsCause};
 ghost use Rattle.pt_service.specs.Meaning.{joins, of_pair, parts};
 ghost use Rattle.pt_changes.specs.Standing.{IsMeantOf};
 
 use crate::fixed::has_users_without_pairs;
 use db_image::{CallEnd, Draft, ImageRead, RecordFault};
-use prdb_lists::{add_pair, remove_pair};
+use prdb_members::{add_pair, remove_pair};
 use pt_calls::PtAnswer;
 use pt_database::{is_in, pair_fault};
 use pt_service::{ID_EXISTS, NO_ENTRY, NOT_PERMITTED, tell};

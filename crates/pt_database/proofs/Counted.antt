@@ -3,19 +3,19 @@ use Rattle.std.proofs.Common.{◌≡◌, ℕ, ℤ, pos, negsuc, zero, suc, ◌<�
 use Rattle.std.specs.Prelude.{codes, filter, is_none}
 use Rattle.db_image.specs.declared.faults.RecordFault.TheVariants.{BadRecord}
 use Rattle.prdb_layout.specs.Registry.{Registry, IsRegistry}
-use Rattle.prdb_layout.specs.Records.{Holds}
 use Rattle.prdb_layout.specs.State.{PrEntry, fixed, fixed_entries, group_flags}
-use Rattle.prdb_lists.specs.Ends.{HasItsCause}
-use Rattle.prdb_lists.specs.Layout.{HoldsPairs}
-use Rattle.prdb_lists.specs.Lists.{IsListOf}
-use Rattle.prdb_lists.specs.Members.{Members, ArePairs, IsInList, IsOwned, are_paired}
-use Rattle.pt_service.specs.Meaning.{counts_for, owned_by, told, told_of}
-use Rattle.pt_service.specs.State.{State, elements, ids, is_paired, least_id, numbers_from, pair_count}
-use Rattle.pt_calls.specs.declared.answers.PtEntry.{PtEntry}
+use Rattle.entry_scans.specs.Lists.{IsListOf}
+use Rattle.entry_scans.specs.Pages.{least_id}
+use Rattle.prdb_lists.specs.Members.{Members, ArePairs, IsInList, are_paired}
+use Rattle.prdb_finds.specs.Ends.{HasItsCause}
+use Rattle.prdb_finds.specs.Records.{Holds}
+use Rattle.pt_service.specs.Meaning.{counts_for, told}
+use Rattle.pt_service.specs.State.{State, elements, ids, is_paired, numbers_from, pair_count}
+use Rattle.pt_database.specs.Owned.{AreOwned}
 use Rattle.pt_database.specs.States.{OfStates, members_of}
 use Rattle.pt_database.proofs.Many.{few_ids}
 use Rattle.pt_database.proofs.Ordered.{list_is}
-use Rattle.pt_database.proofs.Pairs.{counts_from, counts_to, elements_are, entry_range, owned_are, is_there, owned_there, paired_there}
+use Rattle.pt_database.proofs.Pairs.{counts_from, counts_to, elements_are, entry_range, is_there, owned_there, paired_there}
 use Rattle.pt_database.proofs.States.{known_some, of_map}
 
 -- ---- how many pairs
@@ -44,9 +44,9 @@ count_fits s id = omega (arith, filter_len (is_paired s id) ids, ids_len)
 pub count_cause : (bytes : Option (List ℕ)) (xs : List ℤ) (id : ℤ) (n at : ℕ) → n ≡ length xs → 4294967295 < n
     → OfStates bytes (λ s. xs ≡ elements s id) → HasItsCause bytes (BadRecord at)
 count_cause None xs id n at is many told = tt
-count_cause (Some image) xs id n at is many told = λ some.
-    let s : State = record { registry = some.0; is_in = some.1.has } in
-    let same = told s some.2 in
+count_cause (Some image) xs id n at is many told = λ h.
+    let s : State = record { registry = h.0; is_in = h.1.has } in
+    let same = told s h.2 in
     omega (arith, is, many, ap length same, count_fits s id)
 
 pub count_told : (bytes : Option (List ℕ)) (xs : List ℤ) (id : ℤ) (n : ℕ) → n ≡ length xs → OfStates bytes (λ s. xs ≡ elements s id)
@@ -54,38 +54,27 @@ pub count_told : (bytes : Option (List ℕ)) (xs : List ℤ) (id : ℤ) (n : ℕ
 count_told bytes xs id n is told =
     of_map bytes (λ s. xs ≡ elements s id) (λ s. n ≡ pair_count s id) (λ image s holds same. is ∙ ap length same) told
 
-pub entry_told : (bytes : Option (List ℕ)) (e : PrEntry) (t : PtEntry) (n : ℕ) → t ≡ told n e
-    → OfStates bytes (λ s. n ≡ pair_count s e.id) → OfStates bytes (λ s. t ≡ told_of s e)
-entry_told bytes e t n is count =
-    of_map bytes (λ s. n ≡ pair_count s e.id) (λ s. t ≡ told_of s e) (λ image s holds same. is ∙ ap (λ (k : ℕ). told k e) same) count
-
 -- ---- the lists of ids that calls tell
 
 pub elements_told : (bytes : Option (List ℕ)) (id : ℤ) (xs : List ℤ)
-    → IfSome bytes (λ image. (r : Registry) (m : Members) → HoldsPairs image r m → IsListOf (λ other. are_paired m id other ≡ true) xs)
+    → IfSome bytes (λ image. (r : Registry) (m : Members) → Holds image r m → IsListOf (λ other. are_paired m id other ≡ true) xs)
     → OfStates bytes (λ s. xs ≡ elements s id)
 elements_told None id xs list = tt
 elements_told (Some image) id xs list = λ s holds. elements_are image s id xs holds (list s.registry (members_of s) holds)
 
 pub elements_few : (bytes : Option (List ℕ)) (len : ℕ) (id : ℤ) (xs : List ℤ) → IfSome bytes (λ image. length image ≡ len) → len ≤ 16777216
-    → IfSome bytes (λ image. (r : Registry) (m : Members) → HoldsPairs image r m → IsListOf (λ other. are_paired m id other ≡ true) xs)
+    → IfSome bytes (λ image. (r : Registry) (m : Members) → Holds image r m → IsListOf (λ other. are_paired m id other ≡ true) xs)
     → OfStates bytes (λ s. length xs ≤ 262143)
 elements_few None len id xs long most list = tt
 elements_few (Some image) len id xs long most list = λ s holds.
     let l = list s.registry (members_of s) holds in
-    few_ids image s xs holds (omega (arith, long, most)) l.ascending (λ x has. paired_there s id x holds.valid (l.each x has))
-
-pub owned_told : (bytes : Option (List ℕ)) (id : ℤ) (xs : List ℤ)
-    → IfSome bytes (λ image. (r : Registry) → Holds image r → IsListOf (IsOwned r id) xs)
-    → OfStates bytes (λ s. xs ≡ owned_by s.registry id)
-owned_told None id xs list = tt
-owned_told (Some image) id xs list = λ s holds. owned_are s.registry id xs holds.holds.valid (list s.registry holds.holds)
+    few_ids image s xs holds (omega (arith, long, most)) l.ascending (λ x has. paired_there s id x holds.pairs.valid (l.each x has))
 
 pub owned_few : (bytes : Option (List ℕ)) (len : ℕ) (id : ℤ) (xs : List ℤ) → IfSome bytes (λ image. length image ≡ len) → len ≤ 16777216
-    → IfSome bytes (λ image. (r : Registry) → Holds image r → IsListOf (IsOwned r id) xs) → OfStates bytes (λ s. length xs ≤ 262143)
+    → OfStates bytes (λ s. AreOwned s.registry id (Some xs)) → OfStates bytes (λ s. length xs ≤ 262143)
 owned_few None len id xs long most list = tt
 owned_few (Some image) len id xs long most list = λ s holds.
-    let l = list s.registry holds.holds in
+    let l = (list s holds).1 in
     few_ids image s xs holds (omega (arith, long, most)) l.ascending (λ x has. owned_there s.registry id x (l.each x has))
 
 -- the groups in which each user is are there
@@ -126,18 +115,19 @@ in_list_there s (pos n) x pairs valid there is = elim is [
 ]
 
 pub counts_told : (bytes : Option (List ℕ)) (id : ℤ) (xs : List ℤ)
-    → IfSome bytes (λ image. (r : Registry) (m : Members) → HoldsPairs image r m → IsListOf (IsInList m id) xs)
+    → IfSome bytes (λ image. (r : Registry) (m : Members) → Holds image r m → IsListOf (IsInList m id) xs)
     → OfStates bytes (λ s. false ≡ is_none (s.registry.entry id)) → OfStates bytes (λ s. xs ≡ filter (counts_for s id) ids)
 counts_told None id xs list there = tt
 counts_told (Some image) id xs list there = λ s holds.
     let known = known_some (s.registry.entry id) (there s holds) in
     let here = is_there (s.registry.entry id) known.0 known.1 in
     list_is (counts_for s id) (IsInList (members_of s) id) xs (list s.registry (members_of s) holds)
-    (λ x is. counts_to s id x holds.valid is) (λ x is. counts_from s id x holds.valid is)
-    (λ x is. entry_range s.registry x holds.holds.valid (in_list_there s id x holds.valid holds.holds.valid here is))
+    (λ x is. counts_to s id x holds.pairs.valid is) (λ x is. counts_from s id x holds.pairs.valid is)
+    (λ x is. entry_range s.registry x holds.pairs.holds.valid
+    (in_list_there s id x holds.pairs.valid holds.pairs.holds.valid here is))
 
 pub counts_few : (bytes : Option (List ℕ)) (len : ℕ) (id : ℤ) (xs : List ℤ) → IfSome bytes (λ image. length image ≡ len) → len ≤ 16777216
-    → IfSome bytes (λ image. (r : Registry) (m : Members) → HoldsPairs image r m → IsListOf (IsInList m id) xs)
+    → IfSome bytes (λ image. (r : Registry) (m : Members) → Holds image r m → IsListOf (IsInList m id) xs)
     → OfStates bytes (λ s. false ≡ is_none (s.registry.entry id)) → OfStates bytes (λ s. length xs ≤ 262143)
 counts_few None len id xs long most list there = tt
 counts_few (Some image) len id xs long most list there = λ s holds.
@@ -145,7 +135,7 @@ counts_few (Some image) len id xs long most list there = λ s holds.
     let here = is_there (s.registry.entry id) known.0 known.1 in
     let l = list s.registry (members_of s) holds in
     few_ids image s xs holds (omega (arith, long, most)) l.ascending
-    (λ x has. in_list_there s id x holds.valid holds.holds.valid here (l.each x has))
+    (λ x has. in_list_there s id x holds.pairs.valid holds.pairs.holds.valid here (l.each x has))
 
 -- what is known of a draft of the same bytes
 pub known_same : (bytes mid : Option (List ℕ)) (id : ℤ) → mid ≡ bytes → OfStates bytes (λ s. false ≡ is_none (s.registry.entry id))

@@ -11,19 +11,23 @@ use Rattle.std.proofs.lemmas.Map.Steps.{length-le_from_distinct_below}
 use Rattle.db_blocks.proofs.Maps.{test_other}
 use Rattle.db_image.specs.declared.faults.RecordFault.{RecordFault}
 use Rattle.db_image.specs.declared.faults.RecordFault.TheVariants.{DiskFault, BadRecord, NoMemory}
+use Rattle.db_blocks.specs.Blocks.{kind_of}
+use Rattle.db_blocks.proofs.FirstBlocks.{first_met, first_not, first_within}
 use Rattle.prdb_layout.specs.Blocks.{block_count}
-use Rattle.prdb_layout.specs.Records.{IsLaidOut, block_in, entry_in, first_block, has_id, kind_of, whole}
+use Rattle.prdb_layout.specs.Records.{IsLaidOut, block_in, entry_in, first_block, has_id}
 use Rattle.prdb_layout.specs.Registry.{Registry, IsRegistry}
 use Rattle.prdb_layout.specs.State.{PrEntry}
-use Rattle.prdb_layout.proofs.FirstBlocks.{first_met, first_not, first_within}
-use Rattle.prdb_layout.proofs.Initial.{length-initial}
-use Rattle.prdb_layout.proofs.LaidOut.{whole_empty, whole_same}
 use Rattle.prdb_layout.proofs.Lookups.{id_parts}
-use Rattle.prdb_lists.specs.Ends.{HasItsCause}
-use Rattle.prdb_lists.specs.Lists.{IsAscending}
+use Rattle.entry_scans.specs.Lists.{IsAscending}
+use Rattle.prdb_finds.specs.Ends.{HasItsCause}
+use Rattle.prdb_finds.specs.Records.{whole}
+use Rattle.prdb_finds.specs.Unchained.{unchained}
+use Rattle.prdb_finds.proofs.FirstChains.{first_len}
+use Rattle.prdb_finds.proofs.Told.{empty_is, laid_without, whole_same}
+use Rattle.prdb_finds.proofs.Without.{unchained_count}
 use Rattle.pt_service.specs.State.{State}
 use Rattle.pt_database.specs.Ends.{IsTooMany}
-use Rattle.pt_database.specs.States.{HoldsState, OfStates}
+use Rattle.pt_database.specs.States.{HoldsState, OfStates, members_of}
 use Rattle.pt_database.proofs.Ordered.{Rises, rises_all}
 use Rattle.pt_database.proofs.Pairs.{some_is}
 
@@ -131,15 +135,16 @@ whole_len : (image : List ℕ) → length image ≤ 16777216 → length (whole i
 whole_len image most =
     ⊎_elim
     (λ (some : 0 < length image). omega (arith, most, ap length (whole_same image some)))
-    (λ (none : length image ≤ 0). omega (arith, ap length (whole_empty image (omega (arith, none))), length-initial))
+    (λ (none : length image ≤ 0). omega (arith, ap (λ (i : List ℕ). length (whole i)) (empty_is image (omega (arith, none))), first_len))
     (cases_lt 0 (length image))
 
 pub few_ids : (image : List ℕ) (s : State) (xs : List ℤ) → HoldsState image s → length image ≤ 16777216 → IsAscending xs
     → ((x : ℤ) → Contains xs x → IsSome (s.registry.entry x)) → length xs ≤ 262143
 few_ids image s xs holds most ascending there =
-    let laid = holds.holds.laid in
-    let few = few_in (whole image) s.registry xs laid holds.holds.valid ascending there in
-    omega (arith, few, laid.size, whole_len image most)
+    let old = whole image in
+    let few = few_in (unchained old) s.registry xs (laid_without image s.registry (members_of s) holds) holds.pairs.holds.valid ascending
+    there in
+    omega (arith, few, unchained_count old holds.size, holds.size, whole_len image most)
 
 -- ---- so more of them are of no image
 
@@ -147,9 +152,9 @@ cause_many : (bytes : Option (List ℕ)) (fault : RecordFault) (n : ℕ) → IsT
     → HasItsCause bytes fault
 cause_many bytes DiskFault n is few = tt
 cause_many None (BadRecord at) n is few = tt
-cause_many (Some image) (BadRecord at) n is few = λ some.
-    let s : State = record { registry = some.0; is_in = some.1.has } in
-    let most = few s some.2 in omega (arith, is, most)
+cause_many (Some image) (BadRecord at) n is few = λ h.
+    let s : State = record { registry = h.0; is_in = h.1.has } in
+    let most = few s h.2 in omega (arith, is, most)
 cause_many bytes NoMemory n is few = tt
 
 pub err_many : {X : Type 0} (r : Result X RecordFault) (bytes : Option (List ℕ)) (n : ℕ) → IfErr r (IsTooMany n)

@@ -4,8 +4,9 @@ use Rattle.std.specs.Prelude.{◌<ℤ◌, ◌≤ℤ◌, ◌⊎◌, filter}
 use Rattle.std.specs.List.{AllByRecursion, Contains}
 use Rattle.std.proofs.lemmas.Int.{ints}
 use Rattle.std.proofs.lemmas.List.{get_or_default}
-use Rattle.prdb_lists.specs.Lists.{IsAscending, IsListOf}
-use Rattle.pt_service.specs.State.{ids, least_id, numbers_from}
+use Rattle.entry_scans.specs.Lists.{IsAscending, IsListOf}
+use Rattle.entry_scans.specs.Pages.{least_id}
+use Rattle.pt_service.specs.State.{ids, numbers_from}
 
 -- ---- ascending lists, one id after the other
 

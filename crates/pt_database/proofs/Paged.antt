@@ -7,18 +7,21 @@ use Rattle.std.proofs.lemmas.Int.{ints}
 use Rattle.std.proofs.lemmas.List.Elements.{filter-append}
 use Rattle.db_image.specs.declared.faults.RecordFault.{RecordFault}
 use Rattle.db_image.specs.declared.faults.RecordFault.TheVariants.{DiskFault, BadRecord, NoMemory}
+use Rattle.db_blocks.specs.Blocks.{kind_of}
 use Rattle.prdb_layout.specs.Blocks.{block_count}
-use Rattle.prdb_layout.specs.Records.{Holds, block_in, entry_in, kind_of, whole}
+use Rattle.prdb_layout.specs.Records.{block_in, entry_in}
 use Rattle.prdb_layout.specs.Registry.{Registry, IsRegistry}
 use Rattle.prdb_layout.specs.State.{PrEntry}
-use Rattle.entry_scans.specs.Pages.{AreFirst, IsOfEntry, pair_count_in}
-use Rattle.prdb_lists.specs.Ends.{HasItsCause}
-use Rattle.prdb_lists.specs.Lists.{IsListOf}
-use Rattle.prdb_lists.specs.Members.{are_paired}
-use Rattle.prdb_lists.proofs.BlockIds.{count_of}
+use Rattle.entry_scans.specs.Pages.{AreFirst, IsOfEntry, pair_count_in, least_id}
+use Rattle.prdb_lists.specs.Members.{Members}
+use Rattle.prdb_finds.specs.Ends.{HasItsCause}
+use Rattle.prdb_finds.specs.Records.{Holds, whole}
+use Rattle.prdb_finds.proofs.Told.{told_there}
+use Rattle.prdb_scans.proofs.Told.{counted}
 use Rattle.pt_calls.specs.declared.answers.PtEntry.{PtEntry}
 use Rattle.pt_service.specs.Meaning.{is_listed, told, told_of}
-use Rattle.pt_service.specs.State.{State, entries_from, least_id, numbers_from, pair_count}
+use Rattle.pt_service.specs.State.{State, entries_from, numbers_from, pair_count}
+use Rattle.pt_service.specs.Told.{Told}
 use Rattle.pt_service.proofs.Entries.{record_fits}
 use Rattle.pt_database.specs.Ends.{IsUnless}
 use Rattle.pt_database.specs.Pages.{HasShortName, above, fits_in, page_of, told_in}
@@ -161,13 +164,8 @@ count_at : (image : List ℕ) (s : State) (k : ℕ) → HoldsState image s → k
     → kind_of (block_in (whole image) k) ≡ 1
     → pair_count_in (block_in (whole image) k) ≡ pair_count s (entry_in (block_in (whole image) k)).id
 count_at image s k holds below kind =
-    let block = block_in (whole image) k in
-    let id = (entry_in block).id in
-    let l = holds.are.listed k below kind in
-    let there = is_there (s.registry.entry id) (entry_in block) (holds.holds.laid.there k below kind) in
-    let list : IsListOf (λ other. are_paired (members_of s) id other ≡ true) (holds.lists id).ids =
-    record { ascending = l.ascending; each = holds.each id there; all = holds.all id there } in
-    count_of block (holds.lists id) l.front l.few ∙ ap length (elements_are image s id (holds.lists id).ids holds list)
+    let c = counted image s.registry (members_of s) k holds below kind in
+    c.2 ∙ ap length (elements_are image s (entry_in (block_in (whole image) k)).id c.0 holds c.1)
 
 told_same : (n m : ℕ) (e : PrEntry) → n ≡ m → told n e ≡ told m e
 told_same n m e same = ap (λ (k : ℕ). told k e) same
@@ -188,36 +186,37 @@ all_told image s (b ∷ blocks) holds of =
     ∙ ap (λ (es : List PtEntry). told_of s (entry_in b) ∷ es) (all_told image s blocks holds of.1)
 
 pub page_told : (bytes : Option (List ℕ)) (kinds : ℕ) (after : ℤ) (blocks : List (List ℕ)) (es : List PtEntry)
-    → IfSome bytes (λ image. (r : Registry) → Holds image r
-    → AreFirst (is_listed kinds after) r (negsuc 2147483646) 100 (map entry_in blocks))
-    → IfSome bytes (λ image. (r : Registry) → Holds image r → AllByRecursion (IsOfEntry (whole image)) blocks)
+    → Told bytes (λ r. AreFirst (is_listed kinds after) r (negsuc 2147483646) 100 (map entry_in blocks))
+    → IfSome bytes (λ image. (r : Registry) (m : Members) → Holds image r m → AllByRecursion (IsOfEntry (whole image)) blocks)
     → es ≡ map told_in blocks → OfStates bytes (λ s. es ≡ page_of s kinds after)
 page_told None kinds after blocks es first of is = tt
 page_told (Some image) kinds after blocks es first of is = λ s holds.
-    is ∙ all_told image s blocks holds (of s.registry holds.holds)
-    ∙ ap (map (told_of s)) (first_above s kinds after 100 (map entry_in blocks) holds.holds.valid (first s.registry holds.holds))
+    let m = members_of s in
+    is ∙ all_told image s blocks holds (of s.registry m holds)
+    ∙ ap (map (told_of s)) (first_above s kinds after 100 (map entry_in blocks) holds.pairs.holds.valid (first s.registry m holds))
 
 -- ---- what no database may hold is in none
 
-fits_at : (image : List ℕ) (r : Registry) (block : List ℕ) → Holds image r → IsOfEntry (whole image) block → fits_in block ≡ true
-fits_at image r block holds of =
+fits_at : (image : List ℕ) (r : Registry) (m : Members) (block : List ℕ) → Holds image r m → IsOfEntry (whole image) block
+    → fits_in block ≡ true
+fits_at image r m block holds of =
     let b = block_in (whole image) of.0 in
     let kind : kind_of b ≡ 1 = ap kind_of (sym of.3) ∙ of.2 in
+    let there = told_there image r m of.0 holds of.1 kind in
     subst (λ (x : List ℕ). fits_in x ≡ true) (sym of.3)
-    (record_fits (entry_in b) (holds.valid.records (entry_in b).id (entry_in b) (holds.laid.there of.0 of.1 kind)))
+    (record_fits (entry_in b) (holds.pairs.holds.valid.records (entry_in b).id (entry_in b) there))
 
-all_fit : (image : List ℕ) (r : Registry) (blocks : List (List ℕ)) → Holds image r → AllByRecursion (IsOfEntry (whole image)) blocks
-    → AllByRecursion (λ b. fits_in b ≡ true) blocks
-all_fit image r [] holds of = tt
-all_fit image r (b ∷ blocks) holds of = (fits_at image r b holds of.0, all_fit image r blocks holds of.1)
+all_fit : (image : List ℕ) (r : Registry) (m : Members) (blocks : List (List ℕ)) → Holds image r m
+    → AllByRecursion (IsOfEntry (whole image)) blocks → AllByRecursion (λ b. fits_in b ≡ true) blocks
+all_fit image r m [] holds of = tt
+all_fit image r m (b ∷ blocks) holds of = (fits_at image r m b holds of.0, all_fit image r m blocks holds of.1)
 
 pub page_cause : (bytes : Option (List ℕ)) (blocks : List (List ℕ)) (fault : RecordFault)
-    → IfSome bytes (λ image. (r : Registry) → Holds image r → AllByRecursion (IsOfEntry (whole image)) blocks)
+    → IfSome bytes (λ image. (r : Registry) (m : Members) → Holds image r m → AllByRecursion (IsOfEntry (whole image)) blocks)
     → IsUnless (AllByRecursion (λ b. fits_in b ≡ true) blocks) fault → HasItsCause bytes fault
 page_cause bytes blocks DiskFault of cause = tt
 page_cause None blocks (BadRecord at) of cause = tt
-page_cause (Some image) blocks (BadRecord at) of cause = λ some.
-    cause (all_fit image some.0 blocks some.2.holds (of some.0 some.2.holds))
+page_cause (Some image) blocks (BadRecord at) of cause = λ h. cause (all_fit image h.0 h.1 blocks h.2 (of h.0 h.1 h.2))
 page_cause bytes blocks NoMemory of cause = tt
 
 -- ---- one block after the other

@@ -9,10 +9,12 @@ use Rattle.std.proofs.lemmas.Int.{ints}
 use Rattle.std.proofs.lemmas.List.Elements.{filter-append}
 use Rattle.prdb_layout.specs.Registry.{Registry, IsRegistry}
 use Rattle.prdb_layout.specs.State.{PrEntry, IsId, anonymous}
-use Rattle.prdb_lists.specs.Lists.{IsListOf}
+use Rattle.entry_scans.specs.Found.{IsMetAt}
+use Rattle.entry_scans.specs.Lists.{IsListOf}
+use Rattle.entry_scans.specs.Pages.{least_id}
 use Rattle.prdb_lists.specs.Members.{ArePairs, IsInList, IsOwned, are_paired, not_signed_in, signed_in}
 use Rattle.pt_service.specs.Meaning.{counts_for, is_owned_by, owned_by}
-use Rattle.pt_service.specs.State.{State, elements, entries_from, ids, is_group, is_paired, least_id, numbers_from}
+use Rattle.pt_service.specs.State.{State, elements, entries_from, ids, is_group, is_paired, numbers_from}
 use Rattle.pt_database.specs.States.{HoldsState, members_of}
 use Rattle.pt_database.proofs.Ordered.{InRange, list_is}
 
@@ -81,9 +83,9 @@ pub elements_are : (image : List ℕ) (s : State) (id : ℤ) (xs : List ℤ) →
 unfolding elements
 elements_are image s id xs holds list =
     list_is (is_paired s id) (λ other. are_paired (members_of s) id other ≡ true) xs list
-    (λ x paired. sym (paired_is s id x holds.valid) ∙ paired)
-    (λ x is. paired_is s id x holds.valid ∙ is)
-    (λ x paired. entry_range s.registry x holds.holds.valid (paired_there s id x holds.valid paired))
+    (λ x paired. sym (paired_is s id x holds.pairs.valid) ∙ paired)
+    (λ x is. paired_is s id x holds.pairs.valid ∙ is)
+    (λ x paired. entry_range s.registry x holds.pairs.holds.valid (paired_there s id x holds.pairs.valid paired))
 
 -- ---- for which an entry counts
 
@@ -185,6 +187,13 @@ owns_from r owner x valid is =
       below_zero x (ap is_group (sym (valid.ids x e.0 e.1)) ∙ parts.0),
       subst (λ (o : Option PrEntry). IsSomeAnd o (λ y. y.owner ≡ owner)) (sym e.1) (equal_to e.0.owner owner parts.1),
     )
+
+-- so it is met in a pass over the entries, and what is met is one
+pub owned_met : (r : Registry) (owner x : ℤ) → IsRegistry r → IsMetAt (is_owned_by owner) r x → IsOwned r owner x
+owned_met r owner x valid met = owns_from r owner x valid (ap (owns owner) met.1 ∙ met.2)
+
+pub met_owned : (r : Registry) (owner x : ℤ) → IsRegistry r → IsOwned r owner x → IsMetAt (is_owned_by owner) r x
+met_owned r owner x valid is = owns_at owner (r.entry x) (owns_to r owner x valid is)
 
 -- one id after the other
 map-append : {X Y : Type 0} (f : X → Y) (xs ys : List X) → map f (xs ++ ys) ≡ map f xs ++ map f ys

@@ -1,50 +1,32 @@
 -- What is found of a registry is said of the states over it.
-use Rattle.std.proofs.Common.{◌≡◌, ℕ, true, false, List, Option, Some, None, Result, Ok, Err, IfSome, IfOk, IfErr, refl, sym, ap, subst, ◌∙◌}
+use Rattle.std.proofs.Common.{◌≡◌, ℕ, true, false, List, Option, Some, None, Result, Ok, Err, IfSome, IfOk, refl, sym, ap, subst, ◌∙◌}
 use Rattle.std.specs.Prelude.{is_none}
 use Rattle.db_image.specs.Draft.{Drafted}
 use Rattle.db_image.specs.Ends.{end_of}
 use Rattle.db_image.specs.declared.draft_services.CallEnd.{CallEnd}
 use Rattle.db_image.specs.declared.faults.RecordFault.{RecordFault}
-use Rattle.db_image.specs.declared.faults.RecordFault.TheVariants.{DiskFault, BadRecord, NoMemory}
 use Rattle.db_image.specs.declared.images.ImageRead.{Ghosts}
-use Rattle.db_blocks.specs.Ends.{OnlyLooks as BlockLooks}
-use Rattle.prdb_layout.specs.RecordEnds.{HasCause, OnlyLooks}
-use Rattle.prdb_layout.specs.Records.{Holds}
+use Rattle.db_blocks.specs.Ends.{OnlyLooks}
+use Rattle.db_blocks.proofs.Scanned.{looks_so, looks_then}
 use Rattle.prdb_layout.specs.Registry.{Registry}
 use Rattle.prdb_layout.specs.State.{PrEntry}
-use Rattle.prdb_layout.proofs.Scanned.{looks_so, looks_then}
-use Rattle.prdb_lists.specs.Ends.{HasItsCause}
-use Rattle.prdb_lists.specs.Layout.{HoldsPairs}
 use Rattle.prdb_lists.specs.Members.{Members}
+use Rattle.prdb_finds.specs.Records.{Holds}
 use Rattle.pt_service.specs.Meaning.{Refuses, Verdict, of_entry, reply_by}
 use Rattle.pt_service.specs.State.{State}
+use Rattle.pt_service.specs.Told.{Told}
 use Rattle.pt_database.specs.States.{HoldsState, IsToldOf, OfStates, members_of}
 
 -- ---- of the registry
 
-pub told_so : (bytes : Option (List ℕ)) (P : Registry → Type 0) → IfSome bytes (λ image. (r : Registry) → Holds image r → P r)
-    → OfStates bytes (λ s. P s.registry)
+pub told_so : (bytes : Option (List ℕ)) (P : Registry → Type 0) → Told bytes P → OfStates bytes (λ s. P s.registry)
 told_so None P told = tt
-told_so (Some image) P told = λ s holds. told s.registry holds.holds
+told_so (Some image) P told = λ s holds. told s.registry (members_of s) holds
 
-pub ok_so : {X : Type 0} (r : Result X RecordFault) (bytes : Option (List ℕ)) (P : X → Registry → Type 0)
-    → IfOk r (λ x. IfSome bytes (λ image. (r : Registry) → Holds image r → P x r)) → IfOk r (λ x. OfStates bytes (λ s. P x s.registry))
+pub ok_so : {X : Type 0} (r : Result X RecordFault) (bytes : Option (List ℕ)) (P : X → Registry → Type 0) → IfOk r (λ x. Told bytes (P x))
+    → IfOk r (λ x. OfStates bytes (λ s. P x s.registry))
 ok_so (Err fault) bytes P told = tt
 ok_so (Ok x) bytes P told = told_so bytes (P x) told
-
-pub cause_so : (bytes : Option (List ℕ)) (fault : RecordFault) → HasCause bytes Holds fault → HasItsCause bytes fault
-cause_so bytes DiskFault cause = tt
-cause_so None (BadRecord at) cause = tt
-cause_so (Some image) (BadRecord at) cause = λ some. cause some.0 some.2.holds
-cause_so bytes NoMemory cause = tt
-
-pub err_so : {X : Type 0} (r : Result X RecordFault) (bytes : Option (List ℕ)) → IfErr r (HasCause bytes Holds)
-    → IfErr r (HasItsCause bytes)
-err_so (Ok x) bytes cause = tt
-err_so (Err fault) bytes cause = cause_so bytes fault cause
-
-pub as_looks : {I : Type 0} (g : Ghosts I) (a b : Drafted I) (failed : Type 0) → BlockLooks g a b failed → OnlyLooks g a b failed
-as_looks g a b failed looks = record { same = looks.same; reads = looks.reads }
 
 -- ---- of states
 
@@ -103,17 +85,11 @@ known_some (Some e) is = (e, refl)
 -- ---- of the pairs
 
 pub pairs_ok : {X : Type 0} (r : Result X RecordFault) (bytes : Option (List ℕ)) (P : X → Registry → Members → Type 0)
-    → IfOk r (λ x. IfSome bytes (λ image. (r : Registry) (m : Members) → HoldsPairs image r m → P x r m))
+    → IfOk r (λ x. IfSome bytes (λ image. (r : Registry) (m : Members) → Holds image r m → P x r m))
     → IfOk r (λ x. OfStates bytes (λ s. P x s.registry (members_of s)))
 pairs_ok (Err fault) bytes P told = tt
 pairs_ok (Ok x) None P told = tt
 pairs_ok (Ok x) (Some image) P told = λ s holds. told s.registry (members_of s) holds
-
-pub map_ok : {X : Type 0} (r : Result X RecordFault) (bytes : Option (List ℕ)) (P Q : X → State → Type 0)
-    → ((x : X) (image : List ℕ) (s : State) → HoldsState image s → P x s → Q x s)
-    → IfOk r (λ x. OfStates bytes (P x)) → IfOk r (λ x. OfStates bytes (Q x))
-map_ok (Err fault) bytes P Q step told = tt
-map_ok (Ok x) bytes P Q step told = of_map bytes (P x) (Q x) (step x) told
 
 -- ---- what looks leave
 

@@ -2,8 +2,8 @@
 use Rattle.std.specs.Prelude.{ℕ, ◌≡◌, List, Option, IfSome}
 use Rattle.db_image.specs.Ends.{end_of}
 use Rattle.db_image.specs.declared.draft_services.CallEnd.{CallEnd}
-use Rattle.prdb_lists.specs.Layout.{HoldsPairs}
 use Rattle.prdb_lists.specs.Members.{Members}
+use Rattle.prdb_finds.specs.Records.{Holds}
 use Rattle.pt_service.specs.Meaning.{Verdict, reply_by}
 use Rattle.pt_service.specs.State.{State}
 
@@ -11,9 +11,9 @@ use Rattle.pt_service.specs.State.{State}
 abbrev pub members_of : State → Members
 members_of s = record { has = s.is_in }
 
--- an image holds a state: its registry and its pairs
+-- an image holds a state, with its chains: its registry and its pairs
 abbrev pub HoldsState : List ℕ → State → Type 0
-HoldsState image s = HoldsPairs image s.registry (members_of s)
+HoldsState image s = Holds image s.registry (members_of s)
 
 -- of each state that the bytes may hold
 abbrev pub OfStates : Option (List ℕ) → (State → Type 0) → Type 0

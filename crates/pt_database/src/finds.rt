@@ -1,8 +1,9 @@
 //! Entries and pairs as calls look for them, over a draft whose image may hold a state.
 ghost use Rattle.std.specs.Prelude.{◌≡◌, ◌≤◌, IfOk, IfErr, IsErrOf};
 ghost use Rattle.std.specs.Option.{option_map};
-ghost use Rattle.prdb_layout.specs.RecordEnds.{OnlyLooks, seen};
-ghost use Rattle.prdb_lists.specs.Ends.{HasItsCause};
+ghost use Rattle.db_blocks.specs.Ends.{OnlyLooks};
+ghost use Rattle.prdb_layout.specs.RecordEnds.{seen};
+ghost use Rattle.prdb_finds.specs.Ends.{HasItsCause};
 ghost use Rattle.pt_service.specs.Meaning.{told, told_of};
 ghost use Rattle.pt_service.specs.State.{pair_count};
 ghost use Rattle.pt_service.specs.Told.{IsGood};
@@ -11,7 +12,7 @@ ghost use Rattle.pt_database.specs.States.{OfStates};
 
 use db_image::{Draft, ImageRead, RecordFault};
 use prdb_layout::PrEntry;
-use prdb_lists::{elements, has_pair};
+use prdb_members::{elements, has_pair};
 use pt_calls::PtEntry;
 use std::alloc::Global;
 

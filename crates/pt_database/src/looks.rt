@@ -1,33 +1,37 @@
 //! The calls that look for an entry and its pairs, over a draft.
-ghost use Rattle.std.specs.Prelude.{◌≡◌, ◌&&◌, ◌≤◌, pos, filter, length, not, is_none, IfOk, IfErr, IsErrOf};
-ghost use Rattle.std.specs.Ordering.{int_eq};
+ghost use Rattle.std.specs.Prelude.{◌≡◌, ◌≤◌, filter, length, is_none, IfOk, IfErr, IsErrOf};
+ghost use Rattle.std.specs.Option.{option_map};
 ghost use Rattle.db_image.specs.Ends.{IsDecided, end_of};
-ghost use Rattle.prdb_layout.specs.RecordEnds.{OnlyLooks};
-ghost use Rattle.prdb_lists.specs.Ends.{HasItsCause};
+ghost use Rattle.db_blocks.specs.Ends.{OnlyLooks};
+ghost use Rattle.prdb_finds.specs.Ends.{HasItsCause};
 ghost use Rattle.pt_calls.specs.declared.answers.PtAnswer.TheVariants as answer;
 ghost use Rattle.pt_service.specs.Meaning.{Answers, Verdict, counts_for, of_entry, of_pair, owned, reply_by, told_of, unless};
 ghost use Rattle.pt_service.specs.State.{elements, ids};
 ghost use Rattle.pt_database.specs.Ends.{IsTooMany};
+ghost use Rattle.pt_database.specs.Owned.{AreOwned};
 ghost use Rattle.pt_database.specs.States.{IsToldOf, OfStates};
 
 use crate::finds::{entry_of, is_in, told_of};
 use call_grammar::Items;
 use db_image::{CallEnd, Draft, ImageRead, RecordFault};
-use prdb_lists::{IdList, cps, elements, owned};
+use entry_scans::{EntryView, Sought};
+use prdb_finds::owned_ids;
+use prdb_members::{cps, elements};
+use prdb_scans::ids_where;
 use pt_calls::{MAX_ANSWER_IDS, PtAnswer};
 use pt_service::{NO_ENTRY, NOT_GROUP, NOT_USER, is_group, tell};
 use std::alloc::Global;
 
 /// Tells ids. No image holds more of them than an answer may have: a longer list is a bad record, at this position.
-fn tell_ids(alloc: Global, ids: IdList, at: u32) -> Result<CallEnd, RecordFault>
-    ensures told { IfOk result (λ end. end ≡ end_of (reply_by (Answers (answer.Ids ids)))) }
+fn tell_ids(alloc: Global, ids: Vec<i32>, at: u32) -> Result<CallEnd, RecordFault>
+    ensures told { IfOk result (λ end. end ≡ end_of (reply_by (Answers (answer.Ids ids.items)))) }
     ensures short { IfOk result IsDecided }
-    ensures fault { IfErr result (IsTooMany (length ids)) }
+    ensures fault { IfErr result (IsTooMany (length ids.items)) }
 {
-    if ids.as_slice().len() > MAX_ANSWER_IDS as usize {
+    if ids.len() > MAX_ANSWER_IDS as usize {
         return Err(RecordFault::BadRecord { at });
     }
-    let answer = PtAnswer::Ids(Items::new(ids.into_vec()));
+    let answer = PtAnswer::Ids(Items::new(ids));
     let end = tell(alloc, &answer)?;
     Ok(end)
 }
@@ -82,7 +86,7 @@ pub fn list_elements<I: ImageRead>(
         return Ok(CallEnd::Rule(NO_ENTRY));
     }
     let ids = elements(alloc, d, id)?;
-    tell_ids(alloc, ids, d.len())
+    tell_ids(alloc, ids.into_vec(), d.len())
 }
 
 /// Tells the ids for which an entry counts, ascending: its own, and for a user its groups and those in which each user is.
@@ -102,21 +106,41 @@ pub fn get_cps<I: ImageRead>(
         return Ok(CallEnd::Rule(NO_ENTRY));
     }
     let ids = cps(alloc, d, id)?;
-    tell_ids(alloc, ids, d.len())
+    tell_ids(alloc, ids.into_vec(), d.len())
 }
 
-/// Whether an owner is neither 0 nor an entry.
-fn is_no_owner<I: ImageRead>(alloc: Global, d: &mut Draft<I>, id: i32) -> Result<bool, RecordFault>
+/// The groups that have no owner.
+#[derive(Clone, Copy)]
+struct Unowned;
+
+impl Sought for Unowned {
+    ghost use Rattle.std.specs.Prelude.{pos};
+    ghost use Rattle.pt_service.specs.Meaning.{is_owned_by};
+
+    ghost test = { λ s e. is_owned_by (pos 0) e };
+
+    fn is_met(&self, e: EntryView<'_>) -> bool {
+        is_group(e.id) && e.owner == 0
+    }
+}
+
+/// The groups that an entry owns, ascending, found by their own chain; for the id 0 those that have no owner, found in a pass over the
+/// blocks. None of an id that is neither 0 nor an entry's.
+fn owned<I: ImageRead>(
+    alloc: Global,
+    d: &mut Draft<I>,
+    id: i32,
+) -> Result<Option<Vec<i32>>, RecordFault>
     requires { d.old.len ≤ 16777216 }
-    ensures found { IfOk result (λ none. OfStates d.old.bytes
-        (λ s. none ≡ (not (int_eq id (pos 0)) && is_none (s.registry.entry id)))) }
+    ensures found { IfOk result (λ found. OfStates d.old.bytes (λ s. AreOwned s.registry id (option_map (λ ids. ids.items) found))) }
     ensures fault { IfErr result (HasItsCause d.old.bytes) }
     ensures frame { OnlyLooks I.ImageRead d.old d.new (IsErrOf result RecordFault.DiskFault) }
 {
-    if id == 0 {
-        return Ok(false);
+    if id != 0 {
+        return owned_ids(alloc, d, id);
     }
-    is_unknown(alloc, d, id)
+    let ids = ids_where(alloc, d, &Unowned)?;
+    Ok(Some(ids))
 }
 
 /// Tells the groups that an entry owns, ascending; for the id 0 those that have no owner.
@@ -131,10 +155,9 @@ pub fn list_owned<I: ImageRead>(
     ensures fault { IfErr result (HasItsCause d.old.bytes) }
     ensures frame { OnlyLooks I.ImageRead d.old d.new (IsErrOf result RecordFault.DiskFault) }
 {
-    if is_no_owner(alloc, d, id)? {
+    let Some(ids) = owned(alloc, d, id)? else {
         return Ok(CallEnd::Rule(NO_ENTRY));
-    }
-    let ids = owned(alloc, d, id)?;
+    };
     tell_ids(alloc, ids, d.len())
 }
 

@@ -8,7 +8,8 @@ use Rattle.std.proofs.lemmas.Int.{ints}
 use Rattle.std.proofs.lemmas.List.Folds.{list_any-append}
 use Rattle.prdb_layout.specs.Registry.{Registry, IsRegistry}
 use Rattle.prdb_layout.specs.State.{PrEntry}
-use Rattle.pt_service.specs.State.{entries, entries_from, ids, least_id, numbers_from}
+use Rattle.entry_scans.specs.Pages.{least_id}
+use Rattle.pt_service.specs.State.{entries, entries_from, ids, numbers_from}
 use Rattle.pt_database.proofs.Pairs.{entry_range, is_there}
 
 abbrev there : Registry → ℤ → List PrEntry

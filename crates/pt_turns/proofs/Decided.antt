@@ -1,5 +1,5 @@
 -- How a call ends that gives an entry another name, owner or id, once it was decided of it.
-use Rattle.std.proofs.Common.{◌≡◌, ℕ, ℤ, pos, negsuc, ◌≤◌, Bool, true, false, not, ◌&&◌, cond, List, length, Option, Some, None, Result, Ok, Err, IfSome, refl, sym, ap, subst, ◌∙◌, inl, inr, arith}
+use Rattle.std.proofs.Common.{◌≡◌, ℕ, ℤ, pos, negsuc, ◌≤◌, Bool, true, false, not, ◌&&◌, cond, List, length, Option, Some, None, IfSome, Result, Ok, Err, refl, sym, ap, subst, ◌∙◌, inl, inr, arith}
 use Rattle.std.specs.Prelude.{◌⊎◌, ◌<ℤ◌, ◌≤ℤ◌, ◌==◌, FitsSigned, int_lt, is_none, is_some, nat_lt, option_map}
 use Rattle.std.specs.Int.{w32}
 use Rattle.std.specs.Ordering.{int_eq}
@@ -9,20 +9,25 @@ use Rattle.db_image.specs.Ends.{end_of}
 use Rattle.db_image.specs.declared.draft_services.CallEnd.{CallEnd}
 use Rattle.db_image.specs.declared.faults.RecordFault.{RecordFault}
 use Rattle.db_image.specs.declared.faults.RecordFault.TheVariants.{DiskFault, BadRecord, NoMemory}
-use Rattle.prdb_layout.specs.RecordEnds.{HasCause}
-use Rattle.prdb_layout.specs.Records.{Holds, after_set_maxima}
+use Rattle.db_blocks.specs.Ends.{HasCause}
 use Rattle.prdb_layout.specs.Registry.{Registry, AreMaxima, IsOwner, IsRegistry, is_name_for}
 use Rattle.prdb_layout.specs.State.{PrEntry, IsId, front_of}
-use Rattle.prdb_lists.specs.Ends.{HasItsCause}
+use Rattle.prdb_lists.specs.Members.{Members}
+use Rattle.prdb_finds.specs.Changes.{after_set_maxima}
+use Rattle.prdb_finds.specs.Ends.{HasItsCause, HoldsSome}
+use Rattle.prdb_finds.specs.Records.{Holds}
 use Rattle.pt_calls.specs.declared.answers.PtAnswer.TheVariants as answer
 use Rattle.pt_service.specs.Meaning.{Answers, Makes, Refuses, Turn as Turns, Verdict, of_entry, raised, reply_by, turn_by, turns, unless}
 use Rattle.pt_service.specs.Names.{has_colon, with_front}
 use Rattle.pt_service.specs.State.{State, is_group, is_id}
 use Rattle.pt_service.specs.Turning.{front_of_entry, front_under, given_or, has_equal_names, has_long_name, is_fixed, is_misnamed, name_after, new_name, turn_fault, turns_its_groups, with_turned}
+use Rattle.pt_service.specs.Told.{Told}
 use Rattle.pt_service.proofs.Entered.{raised_are}
-use Rattle.pt_database.specs.States.{HoldsState, OfStates}
+use Rattle.prdb_turns.specs.Fronts.{ids_by_block}
+use Rattle.prdb_turns.specs.Turning.{HasTurn, IsTurned, MayTurn as MaySteps, is_under as is_named_under}
+use Rattle.prdb_turns.proofs.Refits.{some_at}
+use Rattle.pt_database.specs.States.{HoldsState, OfStates, members_of}
 use Rattle.pt_database.proofs.Pairs.{is_there}
-use Rattle.pt_changes.specs.Ends.{HasChangeCause, Leaves}
 use Rattle.pt_changes.proofs.Decided.{done_made, refused_so}
 use Rattle.pt_turns.specs.Deciding.{IsDecided}
 use Rattle.pt_changes.specs.Standing.{IsMeantOf}
@@ -30,10 +35,8 @@ use Rattle.pt_changes.specs.Turning.{MayRenumber, MayTurn, after_turn}
 use Rattle.pt_turns.specs.declared.deciding.Turn.{Turn}
 use Rattle.pt_turns.proofs.Anyone.{any_some}
 use Rattle.pt_turns.proofs.Equal.{after_own}
-use Rattle.pt_turns.proofs.Fronting.{at_some}
 use Rattle.pt_turns.proofs.Named.{clash, front_good, front_text, id_of}
-use Rattle.pt_turns.proofs.Renumbered.{GivesKeep, MoveKeeps}
-use Rattle.pt_turns.proofs.Whole.{turn_keeps}
+use Rattle.pt_turns.proofs.Whole.{steps_may, turned_at, turned_holds}
 
 -- ---- no reason against it
 
@@ -258,7 +261,7 @@ rule_by None low id owner new_id e rule found decides = tt
 rule_by (Some image) low id owner new_id e rule found decides = λ s holds.
     let r = s.registry in
     entry_by (r.entry id) e (turns r low owner new_id) (found s holds)
-    ∙ refuses_by r e low owner new_id (Some rule) (decides s holds (own_at r id e holds.holds.valid (found s holds)))
+    ∙ refuses_by r e low owner new_id (Some rule) (decides s holds (own_at r id e holds.pairs.holds.valid (found s holds)))
 
 pub turn_refused : (bytes look after : Option (List ℕ)) (low : List ℕ) (id owner new_id : ℤ) (e : PrEntry) (rule : ℕ) (ended : CallEnd)
     → Found bytes id e → look ≡ bytes
@@ -270,9 +273,23 @@ turn_refused bytes look after low id owner new_id e rule ended found seen decide
 
 -- ---- what it leaves
 
+-- of each state that the bytes hold, what the steps leave
 abbrev pub Turned : (bytes after : Option (List ℕ)) → PrEntry → Turn → Type 0
 Turned bytes after e t =
-    Leaves bytes (λ s. MayTurn e t.name.items t.owner t.id s.registry) (after_turn e t.name.items t.owner t.id) after
+    IfSome bytes
+    (λ image. (r : Registry) (m : Members) → Holds image r m
+    → MaySteps e t.name.items t.owner t.id (ids_by_block (is_named_under e.name) image) r
+    → IsTurned e t.name.items t.owner t.id r m image after)
+
+turned_so : (image : List ℕ) (look after : Option (List ℕ)) (s : State) (e : PrEntry) (t : Turn) → look ≡ Some image → HoldsState image s
+    → MayTurn e t.name.items t.owner t.id s.registry → Turned look after e t
+    → after ≡ Some (after_turn e t.name.items t.owner t.id s image)
+turned_so image look after s e t same holds may told =
+    turned_at image s e t.name.items t.owner t.id after holds may
+    (some_at look image (λ i. (r : Registry) (m : Members) → Holds i r m
+    → MaySteps e t.name.items t.owner t.id (ids_by_block (is_named_under e.name) i) r
+    → IsTurned e t.name.items t.owner t.id r m i after) same told s.registry (members_of s) holds
+    (steps_may image s e t.name.items t.owner t.id holds may))
 
 -- what was decided may be made, and is what is meant
 may_decided : (r : Registry) (e : PrEntry) (low : List ℕ) (owner new_id : ℤ) (t : Turn) → IsRegistry r → r.entry e.id ≡ Some e
@@ -301,7 +318,7 @@ makes_by r e low owner new_id u g p t decided max raises =
 pub turn_made : (bytes b1 bm b2 b3 after : Option (List ℕ)) (low : List ℕ) (id owner new_id : ℤ) (e : PrEntry) (t : Turn) (u g : ℤ)
     (p : ℤ × ℤ) (ended : CallEnd)
     → Found bytes id e → b1 ≡ bytes → Decides b1 e low owner new_id (Ok t) → FitsSigned w32 new_id → FitsSigned w32 e.id
-    → bm ≡ bytes → IfSome bm (λ image. (r : Registry) → Holds image r → ◌≡◌ {A = ℤ × ℤ} (u, g) (r.max_user, r.max_group))
+    → bm ≡ bytes → Told bm (λ r. ◌≡◌ {A = ℤ × ℤ} (u, g) (r.max_user, r.max_group))
     → ◌≡◌ {A = ℤ × ℤ} p (raised u g new_id)
     → b2 ≡ bytes → Turned b2 b3 e t → after ≡ option_map (after_set_maxima p.0 p.1) b3 → ended ≡ end_of (reply_by (Answers answer.Done))
     → IsMeantOf bytes (turn_verdict low id owner new_id) ended after
@@ -311,16 +328,15 @@ turn_made (Some image) b1 bm b2 b3 after low id owner new_id e t u g p ended fou
     made told =
     λ s holds.
     let r = s.registry in
-    let own = own_at r id e holds.holds.valid (found s holds) in
-    let decided = at_some b1 image
+    let own = own_at r id e holds.pairs.holds.valid (found s holds) in
+    let decided = some_at b1 image
     (λ i. (s : State) → HoldsState i s → s.registry.entry e.id ≡ Some e
     → IsDecided s.registry e low owner new_id (Ok t)) same1 decides s holds own in
-    let maxima = at_some bm image
-    (λ i. (r : Registry) → Holds i r → ◌≡◌ {A = ℤ × ℤ} (u, g) (r.max_user, r.max_group)) same_m max r holds.holds in
-    let at = at_some b2 image
-    (λ i. (s : State) → HoldsState i s → MayTurn e t.name.items t.owner t.id s.registry
-    → b3 ≡ Some (after_turn e t.name.items t.owner t.id s i)) same2 turned s holds
-    (may_decided r e low owner new_id t holds.holds.valid own decided new old) in
+    let maxima = some_at bm image
+    (λ i. (r : Registry) (m : Members) → Holds i r m → ◌≡◌ {A = ℤ × ℤ} (u, g) (r.max_user, r.max_group)) same_m max r
+    (members_of s) holds in
+    let may = may_decided r e low owner new_id t holds.pairs.holds.valid own decided new old in
+    let at = turned_so image b2 b3 s e t same2 holds may turned in
     done_made (turn_verdict low id owner new_id s) s image after (Turns e t.name.items t.owner t.id p.0 p.1) ended told
     (made ∙ ap (option_map (after_set_maxima p.0 p.1)) at)
     (entry_by (r.entry id) e (turns r low owner new_id) (found s holds) ∙ makes_by r e low owner new_id u g p t decided maxima raises)
@@ -330,41 +346,40 @@ turn_made (Some image) b1 bm b2 b3 after low id owner new_id e t u g p ended fou
 pub turn_fault_cause : (bytes b1 b2 : Option (List ℕ)) (low : List ℕ) (id owner new_id : ℤ) (e : PrEntry) (t : Turn)
     (fault : RecordFault) → Found bytes id e → b1 ≡ bytes
     → Decides b1 e low owner new_id (Ok t) → FitsSigned w32 new_id → FitsSigned w32 e.id → b2 ≡ bytes
-    → HasChangeCause b2 (λ s. MayTurn e t.name.items t.owner t.id s.registry) fault → HasItsCause bytes fault
+    → HasCause b2 (HasTurn e t.name.items t.owner t.id) fault → HasItsCause bytes fault
 turn_fault_cause bytes b1 b2 low id owner new_id e t DiskFault found same1 decides new old same2 cause = tt
 turn_fault_cause None b1 b2 low id owner new_id e t (BadRecord at) found same1 decides new old same2 cause = tt
 turn_fault_cause (Some image) b1 b2 low id owner new_id e t (BadRecord at) found same1 decides new old same2 cause = λ some.
     let s : State = record { registry = some.0; is_in = some.1.has } in
-    let own = own_at s.registry id e some.2.holds.valid (found s some.2) in
-    let decided = at_some b1 image
+    let own = own_at s.registry id e some.2.pairs.holds.valid (found s some.2) in
+    let decided = some_at b1 image
     (λ i. (s : State) → HoldsState i s → s.registry.entry e.id ≡ Some e
     → IsDecided s.registry e low owner new_id (Ok t)) same1 decides s some.2 own in
-    at_some b2 image (λ i. ((s : State) × HoldsState i s × MayTurn e t.name.items t.owner t.id s.registry) → ⊥) same2 cause
-    (s, some.2, may_decided s.registry e low owner new_id t some.2.holds.valid own decided new old)
+    let may = may_decided s.registry e low owner new_id t some.2.pairs.holds.valid own decided new old in
+    some_at b2 image (λ i. HasTurn e t.name.items t.owner t.id i → ⊥) same2 cause
+    (some.0, some.1, some.2, steps_may image s e t.name.items t.owner t.id some.2 may)
 turn_fault_cause bytes b1 b2 low id owner new_id e t NoMemory found same1 decides new old same2 cause = tt
 
-pub maxima_cause : GivesKeep → MoveKeeps
-    → (bytes b1 b2 b3 : Option (List ℕ)) (low : List ℕ) (id owner new_id : ℤ) (e : PrEntry) (t : Turn) (fault : RecordFault)
+pub maxima_cause : (bytes b1 b2 b3 : Option (List ℕ)) (low : List ℕ) (id owner new_id : ℤ) (e : PrEntry) (t : Turn) (fault : RecordFault)
     → Found bytes id e → b1 ≡ bytes → Decides b1 e low owner new_id (Ok t) → FitsSigned w32 new_id → FitsSigned w32 e.id → b2 ≡ bytes
     → Turned b2 b3 e t
-    → HasCause b3 Holds fault → HasItsCause bytes fault
-maxima_cause keep moves bytes b1 b2 b3 low id owner new_id e t DiskFault found same1 decides new old same2 turned cause = tt
-maxima_cause keep moves None b1 b2 b3 low id owner new_id e t (BadRecord at) found same1 decides new old same2 turned cause = tt
-maxima_cause keep moves (Some image) b1 b2 b3 low id owner new_id e t (BadRecord at) found same1 decides new old same2 turned cause =
+    → HasItsCause b3 fault → HasItsCause bytes fault
+maxima_cause bytes b1 b2 b3 low id owner new_id e t DiskFault found same1 decides new old same2 turned cause = tt
+maxima_cause None b1 b2 b3 low id owner new_id e t (BadRecord at) found same1 decides new old same2 turned cause = tt
+maxima_cause (Some image) b1 b2 b3 low id owner new_id e t (BadRecord at) found same1 decides new old same2 turned cause =
     λ some.
     let s : State = record { registry = some.0; is_in = some.1.has } in
-    let own = own_at s.registry id e some.2.holds.valid (found s some.2) in
-    let decided = at_some b1 image
+    let own = own_at s.registry id e some.2.pairs.holds.valid (found s some.2) in
+    let decided = some_at b1 image
     (λ i. (s : State) → HoldsState i s → s.registry.entry e.id ≡ Some e
     → IsDecided s.registry e low owner new_id (Ok t)) same1 decides s some.2 own in
-    let may = may_decided s.registry e low owner new_id t some.2.holds.valid own decided new old in
-    let left = at_some b2 image
-    (λ i. (s : State) → HoldsState i s → MayTurn e t.name.items t.owner t.id s.registry
-    → b3 ≡ Some (after_turn e t.name.items t.owner t.id s i)) same2 turned s some.2 may in
-    let held = turn_keeps keep moves image s e t.name.items t.owner t.id some.2 may in
-    at_some b3 (after_turn e t.name.items t.owner t.id s image) (λ i. (r : Registry) → Holds i r → ⊥) left cause
-    (with_turned e t.name.items t.owner t.id s).registry held.holds
-maxima_cause keep moves bytes b1 b2 b3 low id owner new_id e t NoMemory found same1 decides new old same2 turned cause = tt
+    let may = may_decided s.registry e low owner new_id t some.2.pairs.holds.valid own decided new old in
+    let left = turned_so image b2 b3 s e t same2 some.2 may turned in
+    let held = turned_holds image s e t.name.items t.owner t.id some.2 may in
+    let after : State = with_turned e t.name.items t.owner t.id s in
+    some_at b3 (after_turn e t.name.items t.owner t.id s image) (λ i. HoldsSome i → ⊥) left cause
+    (after.registry, members_of after, held)
+maxima_cause bytes b1 b2 b3 low id owner new_id e t NoMemory found same1 decides new old same2 turned cause = tt
 
 -- ---- the maxima
 

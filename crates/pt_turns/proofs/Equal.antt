@@ -13,7 +13,7 @@ use Rattle.pt_service.specs.State.{ids}
 use Rattle.pt_service.specs.Turning.{has_equal_names, name_after}
 use Rattle.pt_database.proofs.Pairs.{is_there}
 use Rattle.pt_turns.specs.Deciding.{changed_share, is_shared, shares_one}
-use Rattle.pt_changes.specs.Under.{is_one_under, under}
+use Rattle.pt_turns.specs.Under.{is_one_under, under}
 use Rattle.pt_turns.proofs.Anyone.{any_kept, any_some, any_which, which_kept}
 use Rattle.pt_turns.proofs.Fronts.{both_ways, front_all, front_free, parts_of}
 

@@ -2,16 +2,17 @@
 use Rattle.std.proofs.Common.{◌≡◌, ℕ, ℤ, Bool, true, false, List, Option, Some, None, Result, Ok, Err, IfSome, IfOk, refl, sym, ap, ◌∙◌}
 use Rattle.std.specs.List.{list_any}
 use Rattle.db_image.specs.declared.faults.RecordFault.{RecordFault}
-use Rattle.prdb_layout.specs.Records.{Holds}
 use Rattle.prdb_layout.specs.Registry.{Registry, IsRegistry}
 use Rattle.prdb_layout.specs.State.{PrEntry}
 use Rattle.entry_scans.specs.Found.{IsMetAt, TellsWhether}
-use Rattle.entry_scans.specs.Lists.{IsListOf as IsFoundList}
+use Rattle.entry_scans.specs.Lists.{IsListOf}
+use Rattle.prdb_lists.specs.Members.{Members}
+use Rattle.prdb_finds.specs.Records.{Holds}
 use Rattle.pt_service.specs.State.{entries}
-use Rattle.pt_database.specs.States.{OfStates}
+use Rattle.pt_database.specs.States.{OfStates, members_of}
 use Rattle.pt_database.proofs.Ordered.{list_is}
 use Rattle.pt_database.proofs.Pairs.{entry_range, is_there}
-use Rattle.pt_changes.specs.Under.{is_one_under, is_under, under}
+use Rattle.pt_turns.specs.Under.{is_one_under, is_under, under}
 use Rattle.pt_turns.proofs.Anyone.{any_none, any_some}
 
 tells : (r : Registry) (test : PrEntry → Bool) (b : Bool) → IsRegistry r → TellsWhether test r b → b ≡ list_any test (entries r)
@@ -21,13 +22,13 @@ tells r test true valid told =
 tells r test false valid told = sym (any_none r test told)
 
 any_told : (bytes : Option (List ℕ)) (test : PrEntry → Bool) (b : Bool)
-    → IfSome bytes (λ image. (r : Registry) → Holds image r → TellsWhether test r b)
+    → IfSome bytes (λ image. (r : Registry) (m : Members) → Holds image r m → TellsWhether test r b)
     → OfStates bytes (λ s. b ≡ list_any test (entries s.registry))
 any_told None test b told = tt
-any_told (Some image) test b told = λ s holds. tells s.registry test b holds.holds.valid (told s.registry holds.holds)
+any_told (Some image) test b told = λ s holds. tells s.registry test b holds.pairs.holds.valid (told s.registry (members_of s) holds)
 
 pub any_so : (res : Result Bool RecordFault) (bytes : Option (List ℕ)) (test : PrEntry → Bool)
-    → IfOk res (λ there. IfSome bytes (λ image. (r : Registry) → Holds image r → TellsWhether test r there))
+    → IfOk res (λ there. IfSome bytes (λ image. (r : Registry) (m : Members) → Holds image r m → TellsWhether test r there))
     → IfOk res (λ any. OfStates bytes (λ s. any ≡ list_any test (entries s.registry)))
 any_so (Err fault) bytes test told = tt
 any_so (Ok b) bytes test told = any_told bytes test b told
@@ -45,7 +46,7 @@ met_by : (r : Registry) (whole : List ℕ) (x : ℤ) (o : Option PrEntry) → r.
 met_by r whole x None at is = absurd cc
 met_by r whole x (Some e) at is = (e, at, is)
 
-list_under : (r : Registry) (whole : List ℕ) (xs : List ℤ) → IsRegistry r → IsFoundList (IsMetAt (named_under whole) r) xs
+list_under : (r : Registry) (whole : List ℕ) (xs : List ℤ) → IsRegistry r → IsListOf (IsMetAt (named_under whole) r) xs
     → xs ≡ under r whole
 unfolding under
 list_under r whole xs valid list =
@@ -55,13 +56,14 @@ list_under r whole xs valid list =
     (λ x met. entry_range r x valid (is_there (r.entry x) met.0 met.1))
 
 under_told : (bytes : Option (List ℕ)) (whole : List ℕ) (xs : List ℤ)
-    → IfSome bytes (λ image. (r : Registry) → Holds image r → IsFoundList (IsMetAt (named_under whole) r) xs)
+    → IfSome bytes (λ image. (r : Registry) (m : Members) → Holds image r m → IsListOf (IsMetAt (named_under whole) r) xs)
     → OfStates bytes (λ s. xs ≡ under s.registry whole)
 under_told None whole xs told = tt
-under_told (Some image) whole xs told = λ s holds. list_under s.registry whole xs holds.holds.valid (told s.registry holds.holds)
+under_told (Some image) whole xs told = λ s holds. list_under s.registry whole xs holds.pairs.holds.valid
+    (told s.registry (members_of s) holds)
 
 pub under_so : {X : Type 0} (res : Result X RecordFault) (items : X → List ℤ) (bytes : Option (List ℕ)) (whole : List ℕ)
-    → IfOk res (λ ids. IfSome bytes (λ image. (r : Registry) → Holds image r → IsFoundList (IsMetAt (named_under whole) r) (items ids)))
+    → IfOk res (λ ids. IfSome bytes (λ image. (r : Registry) (m : Members) → Holds image r m → IsListOf (IsMetAt (named_under whole) r) (items ids)))
     → IfOk res (λ ids. OfStates bytes (λ s. items ids ≡ under s.registry whole))
 under_so (Err fault) items bytes whole told = tt
 under_so (Ok ids) items bytes whole told = under_told bytes whole (items ids) told

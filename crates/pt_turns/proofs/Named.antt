@@ -1,25 +1,22 @@
 -- An entry with another name, and the names that follow it: what each name is, and that each may be set.
-use Rattle.std.proofs.Common.{◌≡◌, ℕ, ℤ, pos, negsuc, ◌≤◌, Bool, true, false, not, ◌&&◌, ◌||◌, cond, List, [], ◌∷◌, ◌++◌, length, codes, Option, Some, refl, sym, ap, subst, ◌∙◌, inl, inr, arith}
-use Rattle.std.specs.Prelude.{FitsSigned, nat_eq, nat_le, nat_lt}
-use Rattle.std.specs.Int.{w32}
+use Rattle.std.proofs.Common.{◌≡◌, ℕ, ℤ, pos, negsuc, ◌≤◌, Bool, true, false, not, ◌&&◌, ◌||◌, cond, List, [], ◌∷◌, ◌++◌, length, codes, Option, Some, refl, sym, ap, subst, ◌∙◌, inl, inr}
+use Rattle.std.specs.Prelude.{nat_eq, nat_le, nat_lt}
 use Rattle.std.specs.List.{list_all, list_any}
 use Rattle.std.specs.Ordering.{int_eq}
 use Rattle.std.specs.Str.{bytes_eq}
 use Rattle.std.proofs.lemmas.Bool.{and_from, and_parts, cases_Bool, false_from_ne_true, le-leb, ltb-false, not-true}
 use Rattle.std.proofs.lemmas.Bool.Decides.{Decides-int_eq}
-use Rattle.std.proofs.lemmas.Int.{ints}
 use Rattle.std.proofs.lemmas.Slice.Eq.{bytes_eq-Decides}
 use Rattle.prdb_layout.specs.Names.{is_name_byte, is_user_name}
-use Rattle.prdb_layout.specs.Registry.{Registry, IsOwner, IsRecord, IsRegistry, behind_colon, is_group_name, is_name_for, is_text}
-use Rattle.prdb_layout.specs.State.{PrEntry, IsId, front_of}
+use Rattle.prdb_layout.specs.Registry.{Registry, IsRecord, IsRegistry, behind_colon, is_group_name, is_name_for, is_text}
+use Rattle.prdb_layout.specs.State.{PrEntry, front_of}
 use Rattle.prdb_layout.proofs.UserNames.{HasForm, form}
 use Rattle.pt_service.specs.Names.{has_colon, with_front}
 use Rattle.pt_service.specs.State.{entries}
 use Rattle.pt_service.specs.Turning.{has_equal_names, has_long_name, name_after}
 use Rattle.pt_service.proofs.GroupNames.{group_form}
-use Rattle.pt_database.proofs.Pairs.{some_is}
 use Rattle.pt_changes.specs.Turning.{MayRename}
-use Rattle.pt_changes.specs.Under.{is_under}
+use Rattle.pt_turns.specs.Under.{is_under}
 use Rattle.pt_turns.proofs.Anyone.{any_some}
 use Rattle.pt_turns.proofs.Equal.{after_by}
 use Rattle.pt_turns.proofs.Fronts.{behind_again, colon_there, front_all, front_again, front_free, is_colon}
@@ -213,27 +210,14 @@ under_good r e name owner f t at is =
     (t.valid.records f.id f at).name
     (subst (λ (n : List ℕ). length n ≤ 63) (after_under r e name owner f t at is) (name_short r e name owner f t at))
 
--- ---- what an entry is by itself, with another name and owner
+-- ---- what an entry is by itself, with another name
 
 name_form : (id : ℤ) (name : List ℕ) → is_name_for id name ≡ true → HasForm name
 name_form (pos n) name is = form name is
 name_form (negsuc n) name is = group_form name is
 
-id_fits : (id : ℤ) → IsId id → FitsSigned w32 id
-id_fits (pos n) is = record { sfits = omega (arith, ints, is.1) }
-id_fits (negsuc n) is = record { sfits = omega (arith, ints, is) }
-
-pub owner_fits : (r : Registry) (owner : ℤ) → IsRegistry r → IsOwner r.entry owner → FitsSigned w32 owner
-owner_fits r owner valid is = elim is [
-  | inl none ↦ subst (λ (z : ℤ). FitsSigned w32 z) (sym none) (record { sfits = omega (arith, ints) })
-  | inr some ↦
-      let e = some_is (r.entry owner) some in
-      subst (λ (z : ℤ). FitsSigned w32 z) (valid.ids owner e.0 e.1) (id_fits e.0.id (valid.records owner e.0 e.1).fields.id)
-]
-
-pub record_with : (e : PrEntry) (name : List ℕ) (owner : ℤ) → IsRecord e → is_name_for e.id name ≡ true → FitsSigned w32 owner
-    → IsRecord (record e { name = name; owner = owner })
-record_with e name owner is good fits =
+pub record_with : (e : PrEntry) (name : List ℕ) → IsRecord e → is_name_for e.id name ≡ true → IsRecord (record e { name = name })
+record_with e name is good =
     let f = name_form e.id name good in
     record {
       fields = record {
@@ -242,7 +226,7 @@ record_with e name owner is good fits =
         name_text = f.text;
         flags = is.fields.flags;
         id = is.fields.id;
-        owner = fits;
+        owner = is.fields.owner;
         creator = is.fields.creator;
         quota = is.fields.quota;
       };

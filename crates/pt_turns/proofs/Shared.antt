@@ -10,17 +10,18 @@ use Rattle.std.proofs.lemmas.Slice.Eq.{bytes_eq-Decides}
 use Rattle.db_image.specs.Draft.{Drafted}
 use Rattle.db_image.specs.declared.faults.RecordFault.{RecordFault}
 use Rattle.db_image.specs.declared.images.ImageRead.{Ghosts}
-use Rattle.prdb_layout.specs.RecordEnds.{OnlyLooks, seen}
+use Rattle.db_blocks.specs.Ends.{OnlyLooks}
+use Rattle.db_blocks.proofs.Scanned.{looks_none, looks_so, looks_then}
+use Rattle.prdb_layout.specs.RecordEnds.{seen}
 use Rattle.prdb_layout.specs.Registry.{Registry}
 use Rattle.prdb_layout.specs.State.{PrEntry, front_of}
 use Rattle.prdb_layout.specs.declared.records.PrEntry.{PrEntry as CodeEntry}
-use Rattle.prdb_layout.proofs.Scanned.{looks_none, looks_so, looks_then}
 use Rattle.pt_service.specs.Names.{has_colon}
 use Rattle.pt_service.specs.State.{State}
 use Rattle.pt_service.specs.Turning.{has_equal_names, has_long_name, owns_another, turns_its_groups}
 use Rattle.pt_database.specs.States.{HoldsState, OfStates}
 use Rattle.pt_turns.specs.Deciding.{is_shared, name_fault, name_then, shares_one}
-use Rattle.pt_changes.specs.Under.{under}
+use Rattle.pt_turns.specs.Under.{under}
 use Rattle.pt_turns.proofs.Equal.{changed_tell, none_equal}
 
 -- ---- of states
@@ -155,7 +156,7 @@ EqualTold bytes e new b = OfStates bytes (λ s. Own e s → b ≡ has_equal_name
 pub kept_told : (bytes : Option (List ℕ)) (e : PrEntry) (new : List ℕ) → bytes_eq new e.name ≡ true → EqualTold bytes e new false
 kept_told bytes e new same =
     all_so bytes (λ s. Own e s → false ≡ has_equal_names s.registry e new)
-    (λ image s holds at. sym (none_equal s.registry e new holds.holds.valid at ((bytes_eq-Decides new e.name).0 same)))
+    (λ image s holds at. sym (none_equal s.registry e new holds.pairs.holds.valid at ((bytes_eq-Decides new e.name).0 same)))
 
 pub own_told : (bytes : Option (List ℕ)) (e : PrEntry) (new : List ℕ) → OfStates bytes (λ s. true ≡ is_shared s.registry e new e.id new)
     → EqualTold bytes e new true
@@ -163,7 +164,7 @@ own_told bytes e new told =
     map_so bytes bytes (λ s. true ≡ is_shared s.registry e new e.id new) (λ s. Own e s → true ≡ has_equal_names s.registry e new) refl
     (λ image s holds own at.
     ap (λ (b : Bool). b || list_any (shares_in s e new) (under s.registry e.name)) own
-    ∙ changed_tell s.registry e new holds.holds.valid at) told
+    ∙ changed_tell s.registry e new holds.pairs.holds.valid at) told
 
 abbrev OwnAnd : PrEntry → (new : List ℕ) → List ℤ → State → Type 0
 OwnAnd e new ids s = (false ≡ is_shared s.registry e new e.id new) × (ids ≡ under s.registry e.name)
@@ -178,7 +179,7 @@ any_told bytes one two e new ids b own same1 are same2 told =
     (λ image s holds known any at.
     any ∙ ap (list_any (shares_in s e new)) known.1
     ∙ ap (λ (t : Bool). t || list_any (shares_in s e new) (under s.registry e.name)) known.0
-    ∙ changed_tell s.registry e new holds.holds.valid at)
+    ∙ changed_tell s.registry e new holds.pairs.holds.valid at)
     (two_so bytes bytes one (λ s. false ≡ is_shared s.registry e new e.id new) (λ s. ids ≡ under s.registry e.name)
     (OwnAnd e new ids) refl same1
     (λ image s holds a b. (a, b)) own are) told

@@ -9,7 +9,7 @@ use Rattle.pt_service.specs.Names.{has_colon, is_name_of, with_front}
 use Rattle.pt_service.specs.Refusals as rule
 use Rattle.pt_service.specs.State.{entries, is_group, is_id}
 use Rattle.pt_service.specs.Turning.{front_of_entry, given_or, has_equal_names, has_long_name, is_fixed, name_after, new_name, turn_fault, turns_its_groups}
-use Rattle.pt_changes.specs.Under.{is_under, under}
+use Rattle.pt_turns.specs.Under.{is_under, under}
 use Rattle.pt_turns.specs.declared.deciding.Turn.{Turn}
 
 -- the name that an entry gets

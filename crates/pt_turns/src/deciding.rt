@@ -4,19 +4,21 @@ ghost use Rattle.std.specs.List.{list_any};
 ghost use Rattle.std.specs.Option.{option_map};
 ghost use Rattle.std.specs.Ordering.{int_eq};
 ghost use Rattle.std.specs.Str.{bytes_eq};
-ghost use Rattle.prdb_layout.specs.RecordEnds.{OnlyLooks, seen};
+ghost use Rattle.db_blocks.specs.Ends.{OnlyLooks};
+ghost use Rattle.prdb_layout.specs.RecordEnds.{seen};
 ghost use Rattle.prdb_layout.specs.State.{front_of};
-ghost use Rattle.prdb_lists.specs.Ends.{HasItsCause};
+ghost use Rattle.prdb_finds.specs.Ends.{HasItsCause};
 ghost use Rattle.pt_service.specs.Names.{has_colon, is_name_of};
 ghost use Rattle.pt_service.specs.Turning.{front_of_entry, given_or, has_equal_names, has_long_name, owns_another, turns_its_groups};
 ghost use Rattle.pt_database.specs.States.{OfStates};
 ghost use Rattle.pt_service.specs.State.{is_group, is_id};
 ghost use Rattle.pt_turns.specs.Deciding.{IsDecided, given_fault, is_shared, misnamed_by, name_by, name_fault, shares_one};
 
-use crate::names::{Renaming, name_after, with_front};
+use crate::names::{Renaming, name_after};
 use crate::sought::{AnotherOwned, LongAfter, SharesAfter, is_any, under};
 use db_image::{Draft, ImageRead, RecordFault};
 use prdb_layout::PrEntry;
+use prdb_turns::with_front;
 use pt_changes::is_fixed;
 use pt_database::entry_of;
 use pt_service::{

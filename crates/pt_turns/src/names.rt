@@ -4,36 +4,15 @@ ghost use Rattle.std.specs.Str.{bytes_eq};
 ghost use Rattle.prdb_layout.specs.RecordEnds.{seen};
 ghost use Rattle.prdb_layout.specs.Registry.{behind_colon};
 ghost use Rattle.prdb_layout.specs.State.{front_of};
-ghost use Rattle.pt_service.specs.Names.{has_colon, with_front};
+ghost use Rattle.pt_service.specs.Names.{has_colon};
 ghost use Rattle.pt_turns.specs.Deciding.{name_then};
-ghost use Rattle.pt_changes.specs.Under.{is_under};
+ghost use Rattle.pt_turns.specs.Under.{is_under};
 
 use prdb_layout::PrEntry;
+use prdb_turns::{behind_colon, with_front};
 use pt_service::{front_of, has_colon};
 use std::alloc::Global;
 use ubik_types::NoMemory;
-
-/// What stands behind the first `:` of a name; nothing where it has none.
-fn behind_colon(name: &[u8]) -> &[u8]
-    ensures { result.now ≡ behind_colon name.now }
-{
-    let front = front_of(name).len();
-    if front < name.len() {
-        &name[front + 1..]
-    } else {
-        &[]
-    }
-}
-
-/// A name with other text before its `:`.
-pub(crate) fn with_front(alloc: Global, front: &[u8], name: &[u8]) -> Result<Vec<u8>, NoMemory>
-    ensures { IfOk result (λ after. after.items ≡ with_front front.now name.now) }
-{
-    let mut after = front.to_vec(alloc)?;
-    after.push(b':')?;
-    after.extend_from_slice(behind_colon(name))?;
-    Ok(after)
-}
 
 /// Whether a name begins with the whole of another one and a `:`.
 pub(crate) fn is_under(name: &[u8], whole: &[u8]) -> bool

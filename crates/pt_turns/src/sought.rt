@@ -1,15 +1,16 @@
 //! What is looked for among the entries, in one pass over the image each.
 ghost use Rattle.std.specs.Prelude.{◌≡◌, ◌≤◌, IfOk, IfErr, IsErrOf};
 ghost use Rattle.std.specs.List.{list_any};
-ghost use Rattle.prdb_layout.specs.RecordEnds.{OnlyLooks};
-ghost use Rattle.prdb_lists.specs.Ends.{HasItsCause};
+ghost use Rattle.db_blocks.specs.Ends.{OnlyLooks};
+ghost use Rattle.prdb_finds.specs.Ends.{HasItsCause};
 ghost use Rattle.pt_service.specs.State.{entries};
 ghost use Rattle.pt_database.specs.States.{OfStates};
-ghost use Rattle.pt_changes.specs.Under.{under};
+ghost use Rattle.pt_turns.specs.Under.{under};
 
 use crate::names::{Renaming, is_after, is_under, len_after};
 use db_image::{Draft, ImageRead, RecordFault};
-use entry_scans::{EntryView, Sought, has_entry, ids_where};
+use entry_scans::{EntryView, Sought};
+use prdb_scans::{has_entry, ids_where};
 use pt_service::{MAX_NAME, is_group};
 use std::alloc::Global;
 
@@ -78,7 +79,7 @@ pub(crate) struct NamedUnder<'a> {
 }
 
 impl<'a> Sought for NamedUnder<'a> {
-    ghost use Rattle.pt_changes.specs.Under.{is_under};
+    ghost use Rattle.pt_turns.specs.Under.{is_under};
 
     ghost test = { λ s e. is_under s.whole.now e.name };
 

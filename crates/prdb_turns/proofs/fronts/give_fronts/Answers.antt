@@ -1,7 +1,8 @@
 use Rattle.std.proofs.Common.{arith, rules}
 use Rattle.std.proofs.lemmas.Int.{to_z-of_z}
 use Rattle.std.proofs.lemmas.Result.{err_from_is_err_and}
-use Rattle.prdb_lists.proofs.Written.{drafts_so, drafts_then}
+use Rattle.db_blocks.proofs.Scanned.{drafts_then}
+use Rattle.prdb_lists.proofs.Written.{drafts_so}
 use Rattle.pt_service.proofs.Named.{passed_id}
 use Rattle.prdb_turns.specs.Fronts.{fronted}
 use Rattle.prdb_turns.proofs.Refits.{leaves_hold, refitted_all, refitted_cause}

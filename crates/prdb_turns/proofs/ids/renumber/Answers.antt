@@ -1,6 +1,7 @@
 use Rattle.std.proofs.lemmas.Int.{to_z-of_z}
 use Rattle.std.proofs.lemmas.Result.{err_from_is_err_and}
-use Rattle.prdb_lists.proofs.Written.{drafts_looks, drafts_so, drafts_then}
+use Rattle.db_blocks.proofs.Scanned.{drafts_then}
+use Rattle.prdb_lists.proofs.Written.{drafts_looks, drafts_so}
 use Rattle.pt_service.proofs.Frames.{no_disk}
 use Rattle.prdb_turns.proofs.Steps.{IsLeft, come_err, its_cause, leave_cause, move_cause, renumber_holds, renumber_ok}
 use Rattle.prdb_turns.proofs.ids.renumber.Goals as goal

@@ -3,8 +3,9 @@ use Rattle.std.specs.Prelude.{FitsSigned}
 use Rattle.std.specs.Int.{w32}
 use Rattle.std.proofs.lemmas.Int.{to_z-of_z}
 use Rattle.std.proofs.lemmas.Result.{err_from_is_err_and}
+use Rattle.db_blocks.proofs.Scanned.{drafts_then}
 use Rattle.prdb_layout.specs.RecordEnds.{seen}
-use Rattle.prdb_lists.proofs.Written.{drafts_looks, drafts_none, drafts_then}
+use Rattle.prdb_lists.proofs.Written.{drafts_looks, drafts_none}
 use Rattle.prdb_turns.proofs.Turned.{HasBoth, Steps, fronts_err, id_turn_cause, look_cause, name_cause, owner_cause, turn_holds, turn_ok}
 use Rattle.prdb_turns.proofs.turning.turn.Goals as goal
 

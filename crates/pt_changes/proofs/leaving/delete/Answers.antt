@@ -120,7 +120,7 @@ returns-in_err-remove-clause-frame g c =
     rw (p.1, p.2) (changed_thrice g.I.ImageRead c.args.d.now c.is_unknown.new.d c.part_from_all.new.d c.property.new.d c.give.new.d
     c.remove.new.d _ _ _ _ _ _
     c.in_ok-is_unknown.ensures.frame c.in_ok-part_from_all.ensures.frame c.in_ok-its.ensures.frame c.in_ok-give.ensures.frame
-    c.in_err-remove.ensures.frame (λ h. cc))
+    c.in_err-remove.ensures.frame.drafts (λ h. cc))
 
 pub returns-clause-meant : goal.returns-clause-meant
 returns-clause-meant g c =
@@ -148,4 +148,4 @@ returns-clause-frame g c =
     changed_thrice g.I.ImageRead c.args.d.now c.is_unknown.new.d c.part_from_all.new.d c.property.new.d c.give.new.d c.remove.new.d
     _ _ _ _ _ _
     c.in_ok-is_unknown.ensures.frame c.in_ok-part_from_all.ensures.frame c.in_ok-its.ensures.frame c.in_ok-give.ensures.frame
-    c.in_ok-remove.ensures.frame (λ h. absurd cc)
+    c.in_ok-remove.ensures.frame.drafts (λ h. absurd cc)

@@ -1,6 +1,5 @@
 use Rattle.std.proofs.Common.{sym, ◌∙◌}
 use Rattle.std.proofs.lemmas.Int.{to_z-of_z}
-use Rattle.pt_changes.proofs.Frames.{as_drafts}
 use Rattle.pt_changes.proofs.Parting.{group_bytes_ok, group_err, group_holds_ok, user_bytes_ok, user_err, user_holds_ok}
 use Rattle.pt_changes.proofs.leaving.part.Goals as goal
 
@@ -55,9 +54,3 @@ returns-clause-fault g c =
     let is = sym c.is_group.ensures ∙ c.if-is_group.false in
     let raw = c.remove_pair-2.ensures.fault in
     user_err c.remove_pair-2.result c.args.d.now.bytes c.args.entry c.args.other (simp to_z-of_z at is) (simp to_z-of_z at raw)
-
-pub returns-then-is_group-clause-frame : goal.returns-then-is_group-clause-frame
-returns-then-is_group-clause-frame g c = as_drafts g.I.ImageRead c.args.d.now c.remove_pair.new.d _ c.remove_pair.ensures.frame
-
-pub returns-clause-frame : goal.returns-clause-frame
-returns-clause-frame g c = as_drafts g.I.ImageRead c.args.d.now c.remove_pair-2.new.d _ c.remove_pair-2.ensures.frame

@@ -1,11 +1,10 @@
 use Rattle.std.proofs.Common.{arith, rules}
 use Rattle.std.proofs.lemmas.Int.{to_z-of_z}
 use Rattle.std.proofs.lemmas.Result.{err_from_is_err_and}
-use Rattle.prdb_layout.proofs.Scanned.{drafts_then}
+use Rattle.db_blocks.proofs.Scanned.{drafts_then}
 use Rattle.pt_service.proofs.Frames.{looked}
 use Rattle.pt_service.proofs.Named.{passed_id}
 use Rattle.pt_database.proofs.Counted.{elements_told}
-use Rattle.pt_database.proofs.States.{as_looks}
 use Rattle.pt_service.proofs.Frames.{drafts_so}
 use Rattle.pt_changes.proofs.Parting.{elements_same, parting_bytes, parting_fault, parting_holds, parting_more, parting_none}
 use Rattle.pt_changes.proofs.leaving.part_from_all.Goals as goal
@@ -14,7 +13,7 @@ pub returns-in_err-others-clause-frame : goal.returns-in_err-others-clause-frame
 returns-in_err-others-clause-frame g c =
     let p = err_from_is_err_and c.from_residual.result c.from_residual.ensures.1 in
     rw (p.1, p.2) (looked g.I.ImageRead c.args.d.now c.elements.new.d _ _
-    (as_looks g.I.ImageRead c.args.d.now c.elements.new.d _ c.in_err-others.ensures.frame) (λ h. cc))
+    c.in_err-others.ensures.frame (λ h. cc))
 
 pub loop-other-init : goal.loop-other-init
 loop-other-init g c =

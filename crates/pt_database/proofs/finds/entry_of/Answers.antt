@@ -4,7 +4,7 @@ use Rattle.std.proofs.lemmas.Int.{to_z-of_z}
 use Rattle.prdb_layout.specs.RecordEnds.{seen}
 use Rattle.prdb_layout.specs.Registry.{Registry}
 use Rattle.prdb_layout.specs.declared.records.PrEntry.{PrEntry}
-use Rattle.pt_database.proofs.States.{err_so, ok_so}
+use Rattle.pt_database.proofs.States.{ok_so}
 use Rattle.pt_database.proofs.finds.entry_of.Goals as goal
 
 pub returns-clause-found : goal.returns-clause-found
@@ -13,6 +13,3 @@ returns-clause-found g c =
     let found = c.entry_of_id.ensures.found in
     ok_so c.entry_of_id.result c.args.d.now.bytes (λ (found : Option PrEntry) (r : Registry). option_map seen found ≡ r.entry c.args.id)
     (simp to_z-of_z at found)
-
-pub returns-clause-fault : goal.returns-clause-fault
-returns-clause-fault g c = err_so c.entry_of_id.result c.args.d.now.bytes c.entry_of_id.ensures.fault

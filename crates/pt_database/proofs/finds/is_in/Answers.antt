@@ -2,7 +2,7 @@ use Rattle.std.proofs.Common.{◌≡◌, Bool}
 use Rattle.std.proofs.lemmas.Int.{to_z-of_z}
 use Rattle.prdb_layout.specs.Registry.{Registry}
 use Rattle.prdb_lists.specs.Members.{Members}
-use Rattle.pt_database.proofs.States.{as_looks, pairs_ok}
+use Rattle.pt_database.proofs.States.{pairs_ok}
 use Rattle.pt_database.proofs.finds.is_in.Goals as goal
 
 pub returns-clause-found : goal.returns-clause-found
@@ -12,6 +12,3 @@ returns-clause-found g c =
     let found = c.has_pair.ensures.found in
     pairs_ok c.has_pair.result c.args.d.now.bytes
     (λ (there : Bool) (r : Registry) (m : Members). there ≡ m.has c.args.member c.args.group) (simp to_z-of_z at found)
-
-pub returns-clause-frame : goal.returns-clause-frame
-returns-clause-frame g c = as_looks g.I.ImageRead c.args.d.now c.has_pair.new.d _ c.has_pair.ensures.frame

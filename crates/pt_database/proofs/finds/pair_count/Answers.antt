@@ -1,16 +1,14 @@
 use Rattle.std.proofs.Common.{length, ap}
 use Rattle.std.proofs.lemmas.Int.{to_z-of_z}
 use Rattle.std.proofs.lemmas.Result.{err_from_is_err_and}
-use Rattle.prdb_layout.proofs.Scanned.{looks_so}
+use Rattle.db_blocks.proofs.Scanned.{looks_so}
 use Rattle.pt_database.proofs.Counted.{count_cause, count_told, elements_told}
-use Rattle.pt_database.proofs.States.{as_looks}
 use Rattle.pt_database.proofs.finds.pair_count.Goals as goal
 
 pub returns-in_err-ids-clause-frame : goal.returns-in_err-ids-clause-frame
 returns-in_err-ids-clause-frame g c =
     let p = err_from_is_err_and c.from_residual.result c.from_residual.ensures.1 in
-    rw (p.1, p.2) (looks_so g.I.ImageRead c.args.d.now c.elements.new.d _ _
-    (as_looks g.I.ImageRead c.args.d.now c.elements.new.d _ c.in_err-ids.ensures.frame) (λ h. cc))
+    rw (p.1, p.2) (looks_so g.I.ImageRead c.args.d.now c.elements.new.d _ _ c.in_err-ids.ensures.frame (λ h. cc))
 
 pub returns-then-count-clause-fault : goal.returns-then-count-clause-fault
 returns-then-count-clause-fault g c =

@@ -9,7 +9,7 @@ use Rattle.pt_service.specs.State.{State, ids}
 use Rattle.pt_database.proofs.Counted.{counts_few, counts_told, known_same}
 use Rattle.pt_database.proofs.Ended.{known_ends, unknown_ends}
 use Rattle.pt_database.proofs.Many.{err_many, long_same, no_disk_fault}
-use Rattle.pt_database.proofs.States.{as_looks, looked_then, of_same}
+use Rattle.pt_database.proofs.States.{looked_then, of_same}
 use Rattle.pt_database.proofs.looks.get_cps.Goals as goal
 
 pub returns-then-branch-clause-meant : goal.returns-then-branch-clause-meant
@@ -32,7 +32,7 @@ returns-clause-meant g c =
     (λ (s : State). filter (counts_for s c.args.id) ids) c.in_ok-ids.ids known first.bytes
     (counts_told c.is_unknown.new.d.bytes c.args.id c.in_ok-ids.ids (simp to_z-of_z at list)
     (known_same c.args.d.now.bytes c.is_unknown.new.d.bytes c.args.id first.bytes known))
-    c.tell_ids.ensures.told
+    (rw c.into_vec.ensures.value at c.tell_ids.ensures.told)
 
 pub returns-clause-fault : goal.returns-clause-fault
 returns-clause-fault g c =
@@ -43,7 +43,8 @@ returns-clause-fault g c =
     let list = c.in_ok-ids.ensures.found in
     let same = c.cps.ensures.frame.same in
     let first = c.is_unknown.ensures.frame.same in
-    err_many c.tell_ids.result c.args.d.now.bytes (length c.in_ok-ids.ids) c.tell_ids.ensures.fault
+    err_many c.tell_ids.result c.args.d.now.bytes (length c.in_ok-ids.ids)
+    (rw c.into_vec.ensures.value at c.tell_ids.ensures.fault)
     (of_same c.args.d.now.bytes c.is_unknown.new.d.bytes (λ (s : State). length c.in_ok-ids.ids ≤ 262143) first.bytes
     (counts_few c.is_unknown.new.d.bytes c.cps.new.d.len c.args.id c.in_ok-ids.ids
     (long_same c.is_unknown.new.d.bytes c.cps.new.d.bytes c.cps.new.d.len same.bytes c.len.ensures.told)
@@ -53,11 +54,10 @@ returns-clause-fault g c =
 pub returns-clause-frame : goal.returns-clause-frame
 returns-clause-frame g c =
     looked_then g.I.ImageRead c.args.d.now c.is_unknown.new.d c.cps.new.d _ _ _ c.is_unknown.ensures.frame
-    (as_looks g.I.ImageRead c.is_unknown.new.d c.cps.new.d _ c.cps.ensures.frame)
-    (λ h. absurd (no_disk_fault c.tell_ids.result _ c.tell_ids.ensures.fault h))
+    c.cps.ensures.frame (λ h. absurd (no_disk_fault c.tell_ids.result _ c.tell_ids.ensures.fault h))
 
 pub returns-in_err-ids-clause-frame : goal.returns-in_err-ids-clause-frame
 returns-in_err-ids-clause-frame g c =
     let p = err_from_is_err_and c.from_residual-in_err-ids.result c.from_residual-in_err-ids.ensures.1 in
     rw (p.1, p.2) (looked_then g.I.ImageRead c.args.d.now c.is_unknown.new.d c.cps.new.d _ _ _ c.is_unknown.ensures.frame
-    (as_looks g.I.ImageRead c.is_unknown.new.d c.cps.new.d _ c.in_err-ids.ensures.frame) (λ h. cc))
+    c.in_err-ids.ensures.frame (λ h. cc))

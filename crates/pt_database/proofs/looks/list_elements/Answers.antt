@@ -8,7 +8,7 @@ use Rattle.pt_service.specs.State.{State, elements}
 use Rattle.pt_database.proofs.Counted.{elements_few, elements_told}
 use Rattle.pt_database.proofs.Ended.{known_ends, unknown_ends}
 use Rattle.pt_database.proofs.Many.{err_many, long_same, no_disk_fault}
-use Rattle.pt_database.proofs.States.{as_looks, looked_then, of_same}
+use Rattle.pt_database.proofs.States.{looked_then, of_same}
 use Rattle.pt_database.proofs.looks.list_elements.Goals as goal
 
 pub returns-then-branch-clause-meant : goal.returns-then-branch-clause-meant
@@ -28,7 +28,7 @@ returns-clause-meant g c =
     known_ends c.tell_ids.result c.args.d.now.bytes c.is_unknown.new.d.bytes c.args.id
     (λ (s : State). elements s c.args.id) c.in_ok-ids.ids (simp to_z-of_z at known)
     c.is_unknown.ensures.frame.same.bytes
-    (elements_told c.is_unknown.new.d.bytes c.args.id c.in_ok-ids.ids (simp to_z-of_z at list)) c.tell_ids.ensures.told
+    (elements_told c.is_unknown.new.d.bytes c.args.id c.in_ok-ids.ids (simp to_z-of_z at list)) (rw c.into_vec.ensures.value at c.tell_ids.ensures.told)
 
 pub returns-clause-fault : goal.returns-clause-fault
 returns-clause-fault g c =
@@ -36,7 +36,8 @@ returns-clause-fault g c =
     let list = c.in_ok-ids.ensures.found in
     let same = c.elements.ensures.frame.same in
     let first = c.is_unknown.ensures.frame.same in
-    err_many c.tell_ids.result c.args.d.now.bytes (length c.in_ok-ids.ids) c.tell_ids.ensures.fault
+    err_many c.tell_ids.result c.args.d.now.bytes (length c.in_ok-ids.ids)
+    (rw c.into_vec.ensures.value at c.tell_ids.ensures.fault)
     (of_same c.args.d.now.bytes c.is_unknown.new.d.bytes (λ (s : State). length c.in_ok-ids.ids ≤ 262143) first.bytes
     (elements_few c.is_unknown.new.d.bytes c.elements.new.d.len c.args.id c.in_ok-ids.ids
     (long_same c.is_unknown.new.d.bytes c.elements.new.d.bytes c.elements.new.d.len same.bytes c.len.ensures.told)
@@ -45,11 +46,10 @@ returns-clause-fault g c =
 pub returns-clause-frame : goal.returns-clause-frame
 returns-clause-frame g c =
     looked_then g.I.ImageRead c.args.d.now c.is_unknown.new.d c.elements.new.d _ _ _ c.is_unknown.ensures.frame
-    (as_looks g.I.ImageRead c.is_unknown.new.d c.elements.new.d _ c.elements.ensures.frame)
-    (λ h. absurd (no_disk_fault c.tell_ids.result _ c.tell_ids.ensures.fault h))
+    c.elements.ensures.frame (λ h. absurd (no_disk_fault c.tell_ids.result _ c.tell_ids.ensures.fault h))
 
 pub returns-in_err-ids-clause-frame : goal.returns-in_err-ids-clause-frame
 returns-in_err-ids-clause-frame g c =
     let p = err_from_is_err_and c.from_residual-in_err-ids.result c.from_residual-in_err-ids.ensures.1 in
     rw (p.1, p.2) (looked_then g.I.ImageRead c.args.d.now c.is_unknown.new.d c.elements.new.d _ _ _ c.is_unknown.ensures.frame
-    (as_looks g.I.ImageRead c.is_unknown.new.d c.elements.new.d _ c.in_err-ids.ensures.frame) (λ h. cc))
+    c.in_err-ids.ensures.frame (λ h. cc))

@@ -1,4 +1,4 @@
-use Rattle.std.proofs.Common.{ℤ, List, length, ap, ◌∙◌, arith}
+use Rattle.std.proofs.Common.{ℤ, List, ap, ◌∙◌, arith}
 use Rattle.db_image.specs.Ends.{end_of}
 use Rattle.pt_calls.specs.declared.answers.PtAnswer.TheVariants as answer
 use Rattle.pt_service.specs.Meaning.{Answers, reply_by}
@@ -7,10 +7,9 @@ use Rattle.pt_database.proofs.looks.tell_ids.Goals as goal
 
 pub tell-requires : goal.tell-requires
 tell-requires c =
-    let p = ids_short c.new.result c.args.ids (c.new.ensures ∙ c.into_vec.ensures.value)
-    (omega (arith, ap length c.as_slice.ensures.value)) in
+    let p = ids_short c.new.result c.args.ids.items c.new.ensures (omega arith) in
     record { spelled = p.0; short = p.1 }
 
 pub returns-clause-told : goal.returns-clause-told
 returns-clause-told c =
-    c.in_ok-end.ensures.told ∙ ap (λ (xs : List ℤ). end_of (reply_by (Answers (answer.Ids xs)))) (c.new.ensures ∙ c.into_vec.ensures.value)
+    c.in_ok-end.ensures.told ∙ ap (λ (xs : List ℤ). end_of (reply_by (Answers (answer.Ids xs)))) c.new.ensures

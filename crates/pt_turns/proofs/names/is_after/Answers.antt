@@ -10,7 +10,7 @@ use Rattle.prdb_layout.specs.RecordEnds.{seen}
 use Rattle.prdb_layout.specs.State.{PrEntry, front_of}
 use Rattle.pt_service.specs.Names.{with_front}
 use Rattle.pt_turns.specs.Deciding.{name_then}
-use Rattle.pt_changes.specs.Under.{is_under}
+use Rattle.pt_turns.specs.Under.{is_under}
 use Rattle.pt_turns.proofs.Fronts.{front_free, parts_tell}
 use Rattle.pt_turns.proofs.names.is_after.Goals as goal
 
