@@ -81,4 +81,4 @@ stays_by image s (Makes a change) holds can same = made_stays image s change hol
 
 pub image_stays : (image : List ℕ) (s : State) (bytes : List ℕ) → HoldsState image s → state_by (verdict s (asked bytes)) s ≡ s
     → image_by (verdict s (asked bytes)) s image ≡ image
-image_stays image s bytes holds same = stays_by image s (verdict s (asked bytes)) holds (sound s bytes holds.holds.valid) same
+image_stays image s bytes holds same = stays_by image s (verdict s (asked bytes)) holds (sound s bytes holds.pairs.holds.valid) same

@@ -1,6 +1,6 @@
 //! Laws of what calls make of images: each is the clause of a call that does nothing.
 ghost use Rattle.std.specs.Prelude.{◌≡◌, ◌≤◌, ℕ, List, [], length};
-ghost use Rattle.prdb_layout.specs.Records.{whole};
+ghost use Rattle.prdb_finds.specs.Records.{whole};
 ghost use Rattle.pt_service.specs.Meaning.{Verdict, asked, state_by, verdict};
 ghost use Rattle.pt_service.specs.State.{State, first_state};
 ghost use Rattle.pt_database.specs.States.{HoldsState};

@@ -4,7 +4,7 @@ use Rattle.std.specs.Prelude.{is_some, nat_lt}
 use Rattle.std.specs.List.{list_all}
 use Rattle.std.specs.Option.{option_map}
 use Rattle.db_image.specs.declared.services.CallReply.TheVariants as reply
-use Rattle.prdb_layout.specs.Records.{whole}
+use Rattle.prdb_finds.specs.Records.{whole}
 use Rattle.pt_calls.specs.declared.calls.PtCall.{PtCall}
 use Rattle.pt_calls.specs.Calls.{call_kind, spelling}
 use Rattle.pt_calls.specs.Reading.{call_of}

@@ -1,2 +1,4 @@
+pub mod Costs
+pub mod Keyed
 pub mod Lawful
 pub mod Served

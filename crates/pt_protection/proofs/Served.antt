@@ -17,7 +17,7 @@ use Rattle.pt_service.specs.Meaning.{Answers, Enter, Join, Leave, Makes, Maxima,
 use Rattle.pt_service.specs.Standing as registry
 use Rattle.pt_service.specs.State.{State}
 use Rattle.pt_service.specs.Told.{IsMeant}
-use Rattle.pt_database.specs.States.{HoldsState, IsToldOf}
+use Rattle.pt_database.specs.States.{HoldsState, IsToldOf, members_of}
 use Rattle.pt_changes.specs.Standing.{IsDone, IsMeantOf, image_by}
 use Rattle.pt_protection.specs.Service.{protection_database}
 use Rattle.pt_laws.proofs.Changing.{IsLook, IsPlain, image_same}
@@ -64,7 +64,7 @@ plain : (bytes after : Option (List ℕ)) (v : Registry → Verdict) (w : State 
     → ((s : State) → w s ≡ v s.registry) → IsMeant bytes v ended after → IsMeantOf bytes w ended after
 plain None after v w ended kind of done = tt
 plain (Some image) after v w ended kind of done = λ s holds.
-    let d = done s.registry holds.holds in
+    let d = done s.registry (members_of s) holds in
     subst (λ (x : Verdict). IsDone x s image ended after) (sym (of s))
     (record { reply = d.reply; leaves = d.leaves ∙ image_plain (v s.registry) s image (kind s.registry) })
 

@@ -4,7 +4,7 @@ use Rattle.std.proofs.Common.{◌≡◌, ◌≢◌, ℕ, Bool, true, List, Optio
 use Rattle.std.specs.Option.{option_map}
 use Rattle.db_image.specs.Ends.{KeepsGrammar, end_of}
 use Rattle.db_image.proofs.Decided.{no_writer}
-use Rattle.prdb_layout.specs.Records.{whole}
+use Rattle.prdb_finds.specs.Records.{whole}
 use Rattle.pt_calls.specs.declared.calls.PtCall.{PtCall}
 use Rattle.pt_calls.specs.Calls.{call_kind}
 use Rattle.pt_calls.specs.Writes.{is_write}

@@ -1,7 +1,10 @@
 -- Laws of the protection database, and of its words.
-use Rattle.std.specs.Prelude.{◌≡◌, ◌≢◌, ℕ, ◌≤◌, List, length, Some, IsSome}
+use Rattle.std.specs.Prelude.{◌≡◌, ◌≢◌, ℕ, ℤ, ◌≤◌, List, length, Some, IsSome}
+use Rattle.db_chains.specs.Chains.{HasChain}
 use Rattle.db_image.specs.Standing.{IsMeantOver}
 use Rattle.db_image.specs.declared.services.CallReply.TheVariants.{Malformed}
+use Rattle.prdb_finds.specs.Keys.{id_chain, name_chain}
+use Rattle.prdb_finds.specs.Places.{id_links, name_links}
 use Rattle.pt_service.specs.State.{State}
 use Rattle.pt_database.specs.States.{HoldsState}
 use Rattle.pt_service.specs.Meaning.{protection_meaning}
@@ -38,3 +41,10 @@ AnswersCalls =
 abbrev pub NamesCalls : Type 0
 NamesCalls =
     (words : List (List ℕ)) (bytes : List ℕ) → protection_words.call_of words ≡ Some bytes → IsSome (protection_database.writes bytes)
+
+-- An image that holds a state has the chain of each name, and that of each id.
+abbrev pub HasEachChain : Type 0
+HasEachChain =
+    (image : List ℕ) (s : State) → HoldsState image s
+    → ((name : List ℕ) → (words : List ℕ) × HasChain name_links image (name_chain name) words)
+    × ((id : ℤ) → (words : List ℕ) × HasChain id_links image (id_chain id) words)

@@ -1,3 +1,4 @@
+pub mod Costs
 pub mod GrammarLaws
 pub mod Laws
 pub mod Service

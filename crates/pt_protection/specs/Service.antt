@@ -2,7 +2,7 @@
 use Rattle.std.specs.Option.{option_map}
 use Rattle.db_image.specs.Database.{Database}
 use Rattle.db_image.specs.Standing.{Standing}
-use Rattle.prdb_layout.specs.Records.{whole}
+use Rattle.prdb_finds.specs.Records.{whole}
 use Rattle.prdb_layout.specs.declared.blocks.TheConstants.{HEAD_LEN, BLOCK_LEN}
 use Rattle.pt_calls.specs.Calls.{call_kind}
 use Rattle.pt_calls.specs.Writes.{is_write}

@@ -2,7 +2,7 @@
 use Rattle.std.proofs.Common.{◌≢◌, ℕ, ◌≤◌, List, [], length, refl, subst}
 use Rattle.db_image.specs.Standing.{IsMeantOver}
 use Rattle.db_image.specs.declared.services.CallReply.TheVariants.{BadRecord}
-use Rattle.prdb_layout.specs.Records.{whole}
+use Rattle.prdb_finds.specs.Records.{whole}
 use Rattle.pt_service.specs.Meaning.{Answers, Makes, NoCall, Refuses, Verdict, asked, protection_meaning, reply_by, verdict}
 use Rattle.pt_service.specs.State.{State, first_state}
 use Rattle.pt_database.specs.States.{HoldsState}

@@ -1,7 +1,7 @@
 //! Laws of the protection database: each is the clause of a call that does nothing.
 ghost use Rattle.std.specs.Prelude.{[]};
 ghost use Rattle.pt_database.specs.States.{HoldsState};
-ghost use Rattle.pt_protection.specs.Laws.{AnswersCalls, DoesWhatIsMeant, HoldsOne, LeavesStates, NamesCalls, NeverShrinks};
+ghost use Rattle.pt_protection.specs.Laws.{AnswersCalls, DoesWhatIsMeant, HasEachChain, HoldsOne, LeavesStates, NamesCalls, NeverShrinks};
 ghost use Rattle.pt_service.specs.Meaning.{protection_meaning};
 
 /// Over an image that holds a state the database does what the call means in it; no call leaves a shorter image.
@@ -25,4 +25,9 @@ pub fn protection_calls_are_answered()
 /// Words never name bytes that are no call.
 pub fn protection_words_name_calls()
     ensures { NamesCalls }
+{}
+
+/// Over an image that holds a state, the bound on what nametoid and idtoname ask for holds: each name and each id has its one chain there.
+pub fn protection_look_ups_have_chains()
+    ensures { HasEachChain }
 {}

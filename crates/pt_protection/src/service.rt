@@ -1,17 +1,22 @@
 //! The protection database as a service.
 #![tactic(auto, unfolding(pt_service::specs::Meaning::verdict))]
 
-ghost use Rattle.std.specs.Prelude.{◌≡◌, ◌≤◌, Some, IfOk, IfErr, IsErrOf, false};
+ghost use Rattle.std.specs.Prelude.{◌≡◌, ◌≢◌, ◌≤◌, Some, IfSome, IfOk, IfErr, IsErrOf, false, true};
 ghost use Rattle.std.specs.Option.{option_map};
 ghost use Rattle.db_image.specs.Draft.{StaysAsItWas};
-ghost use Rattle.db_image.specs.Ends.{IsDecided};
-ghost use Rattle.prdb_layout.specs.RecordEnds.{OnlyDrafts};
-ghost use Rattle.prdb_lists.specs.Ends.{HasItsCause};
+ghost use Rattle.db_image.specs.Ends.{EndsBy, IsDecided, IsShort, KeepsGrammar};
+ghost use Rattle.db_image.specs.Images.{OnlyReads};
+ghost use Rattle.db_blocks.specs.Ends.{OnlyDrafts};
+ghost use Rattle.prdb_finds.specs.Ends.{HasItsCause};
 ghost use Rattle.pt_calls.specs.Calls.{HasSpelling, call_kind};
 ghost use Rattle.pt_calls.specs.Reading.{call_of};
 ghost use Rattle.pt_calls.specs.Writes.{is_write};
-ghost use Rattle.pt_service.specs.Meaning.{verdict};
+ghost use Rattle.pt_service.specs.Meaning.{asked, verdict};
+ghost use Rattle.pt_service.specs.State.{State};
+ghost use Rattle.pt_database.specs.States.{HoldsState};
 ghost use Rattle.pt_changes.specs.Standing.{IsMeantOf};
+ghost use Rattle.pt_protection.specs.Costs.{CostsAsLookUps};
+ghost use Rattle.pt_protection.specs.Service.{protection_database};
 
 use call_grammar::{bytes_fit, push_words};
 use db_image::{CallEnd, Draft, DraftService, DraftWords, ImageRead, RecordFault};
@@ -50,6 +55,7 @@ fn answer<I: ImageRead>(
     ensures fault { IfErr result (HasItsCause d.old.bytes) }
     ensures rests { is_write (call_kind call) ≡ false → StaysAsItWas d.old d.new }
     ensures frame { OnlyDrafts I.ImageRead d.old d.new (IsErrOf result RecordFault.DiskFault) }
+    ensures cost { CostsAsLookUps I.ImageRead (Some call) d.old d.new }
 {
     match call {
         PtCall::NewEntry { name, kind, owner } => new_entry(alloc, d, name.as_slice(), kind, owner),
@@ -84,6 +90,33 @@ fn answer<I: ImageRead>(
     }
 }
 
+/// Makes a call on the protection database, as `PtService` does. Where the image has the one chain of each name, in lower case, that a
+/// nametoid looks for (of each id that an idtoname does), the call asks the image for a word and each block of that chain at most, for each
+/// of the list.
+pub fn serve_protection<I: ImageRead>(alloc: Global, image: &mut Draft<I>, call: &[u8]) -> CallEnd
+    requires { image.old.len ≤ 16777216 }
+    ensures meant { IfSome image.old.bytes (λ bytes. (s : State) → HoldsState bytes s
+        → EndsBy (protection_database.call bytes 0 call.now) result image.new.bytes) }
+    ensures grammar { KeepsGrammar (protection_database.writes call.now) result }
+    ensures rests { protection_database.writes call.now ≢ Some true → StaysAsItWas image.old image.new }
+    ensures short { IsShort result }
+    ensures longer { image.old.len ≤ image.new.len }
+    ensures layout { image.new.layout ≡ image.old.layout }
+    ensures reads { OnlyReads I.ImageRead image.old.image image.new.image (result ≡ CallEnd.DiskFault) }
+    ensures cost { CostsAsLookUps I.ImageRead (asked call.now) image.old image.new }
+{
+    let Ok(read) = read_call(alloc, call) else {
+        return CallEnd::NoMemory;
+    };
+    let Some(asked) = read else {
+        return CallEnd::Malformed;
+    };
+    match answer(alloc, image, asked) {
+        Ok(end) => end,
+        Err(fault) => fault.into(),
+    }
+}
+
 /// The protection database.
 #[derive(Drop)]
 pub struct PtService;
@@ -110,16 +143,7 @@ impl DraftService for PtService {
     }
 
     fn call<I: ImageRead>(alloc: Global, image: &mut Draft<I>, _now: u32, call: &[u8]) -> CallEnd {
-        let Ok(read) = read_call(alloc, call) else {
-            return CallEnd::NoMemory;
-        };
-        let Some(asked) = read else {
-            return CallEnd::Malformed;
-        };
-        match answer(alloc, image, asked) {
-            Ok(end) => end,
-            Err(fault) => fault.into(),
-        }
+        serve_protection(alloc, image, call)
     }
 
     fn draft<I: ImageRead>(alloc: Global, image: I) -> Draft<I> {

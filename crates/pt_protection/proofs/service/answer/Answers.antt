@@ -1,4 +1,4 @@
-use Rattle.std.proofs.Common.{length, map, FitsSigned, ap, refl, arith, rules}
+use Rattle.std.proofs.Common.{length, map, FitsSigned, Some, ap, refl, arith, rules}
 use Rattle.std.specs.Int.{w32}
 use Rattle.std.proofs.lemmas.Int.{to_z-of_z}
 use Rattle.prdb_layout.specs.Names.{lowered}
@@ -7,8 +7,8 @@ use Rattle.pt_calls.specs.declared.answers.PtAnswer.TheVariants as answer
 use Rattle.pt_calls.specs.declared.calls.PtCall.TheVariants as call
 use Rattle.pt_calls.specs.Meaning.{id_or_anonymous}
 use Rattle.pt_service.specs.Meaning.{Answers, fields_set, maximum_set, name_of, new_entry, new_entry_of_id, of_entry, verdict}
-use Rattle.pt_database.proofs.States.{err_so}
 use Rattle.pt_laws.proofs.Changing.{fields_plain, given_plain, maximum_plain, new_plain, reads_look}
+use Rattle.pt_protection.proofs.Costs.{cost_of}
 use Rattle.pt_protection.proofs.Served.{change_ok, look_ok, no_reader, plain_ok}
 use Rattle.pt_protection.proofs.service.answer.Goals as goal
 
@@ -25,7 +25,7 @@ returns-in-NewEntry-clause-meant g c =
     (simp to_z-of_z at named)
 
 pub returns-in-NewEntry-clause-fault : goal.returns-in-NewEntry-clause-fault
-returns-in-NewEntry-clause-fault g c = err_so c.new_entry.result c.args.d.now.bytes c.new_entry.ensures.fault
+returns-in-NewEntry-clause-fault g c = c.new_entry.ensures.fault
 
 pub returns-in-INewEntry-clause-meant : goal.returns-in-INewEntry-clause-meant
 unfolding verdict
@@ -41,7 +41,7 @@ returns-in-INewEntry-clause-meant g c =
     (simp to_z-of_z at named)
 
 pub returns-in-INewEntry-clause-fault : goal.returns-in-INewEntry-clause-fault
-returns-in-INewEntry-clause-fault g c = err_so c.new_entry_of_id.result c.args.d.now.bytes c.new_entry_of_id.ensures.fault
+returns-in-INewEntry-clause-fault g c = c.new_entry_of_id.ensures.fault
 
 pub returns-in-NameToId-clause-meant : goal.returns-in-NameToId-clause-meant
 unfolding verdict
@@ -55,7 +55,7 @@ returns-in-NameToId-clause-meant g c =
     named
 
 pub returns-in-NameToId-clause-fault : goal.returns-in-NameToId-clause-fault
-returns-in-NameToId-clause-fault g c = err_so c.name_to_id.result c.args.d.now.bytes c.name_to_id.ensures.fault
+returns-in-NameToId-clause-fault g c = c.name_to_id.ensures.fault
 
 pub returns-in-IdToName-clause-meant : goal.returns-in-IdToName-clause-meant
 unfolding verdict
@@ -69,7 +69,7 @@ returns-in-IdToName-clause-meant g c =
     named
 
 pub returns-in-IdToName-clause-fault : goal.returns-in-IdToName-clause-fault
-returns-in-IdToName-clause-fault g c = err_so c.id_to_name.result c.args.d.now.bytes c.id_to_name.ensures.fault
+returns-in-IdToName-clause-fault g c = c.id_to_name.ensures.fault
 
 pub returns-in-Delete-clause-meant : goal.returns-in-Delete-clause-meant
 unfolding verdict
@@ -119,7 +119,7 @@ returns-in-ListMax-clause-meant g c =
     meant
 
 pub returns-in-ListMax-clause-fault : goal.returns-in-ListMax-clause-fault
-returns-in-ListMax-clause-fault g c = err_so c.list_max.result c.args.d.now.bytes c.list_max.ensures.fault
+returns-in-ListMax-clause-fault g c = c.list_max.ensures.fault
 
 pub returns-in-SetMax-clause-meant : goal.returns-in-SetMax-clause-meant
 unfolding verdict
@@ -133,7 +133,7 @@ returns-in-SetMax-clause-meant g c =
     (simp to_z-of_z at meant)
 
 pub returns-in-SetMax-clause-fault : goal.returns-in-SetMax-clause-fault
-returns-in-SetMax-clause-fault g c = err_so c.set_max.result c.args.d.now.bytes c.set_max.ensures.fault
+returns-in-SetMax-clause-fault g c = c.set_max.ensures.fault
 
 pub returns-in-ListEntry-clause-meant : goal.returns-in-ListEntry-clause-meant
 unfolding verdict
@@ -180,7 +180,7 @@ returns-in-SetFields-clause-meant g c =
     (simp to_z-of_z at meant)
 
 pub returns-in-SetFields-clause-fault : goal.returns-in-SetFields-clause-fault
-returns-in-SetFields-clause-fault g c = err_so c.set_fields.result c.args.d.now.bytes c.set_fields.ensures.fault
+returns-in-SetFields-clause-fault g c = c.set_fields.ensures.fault
 
 pub returns-in-ListElements-clause-meant : goal.returns-in-ListElements-clause-meant
 unfolding verdict
@@ -244,3 +244,75 @@ returns-in-ChangeEntry-clause-rests g c = λ reads. absurd (no_reader c.args.cal
 
 pub returns-in-SetFields-clause-rests : goal.returns-in-SetFields-clause-rests
 returns-in-SetFields-clause-rests g c = λ reads. absurd (no_reader c.args.call _ c.in-SetFields.is refl reads)
+
+pub returns-in-NewEntry-clause-cost : goal.returns-in-NewEntry-clause-cost
+returns-in-NewEntry-clause-cost g c =
+    cost_of g.I.ImageRead (Some c.args.call) _ c.args.d.now c.new_entry.new.d (ap Some c.in-NewEntry.is) tt
+
+pub returns-in-INewEntry-clause-cost : goal.returns-in-INewEntry-clause-cost
+returns-in-INewEntry-clause-cost g c =
+    cost_of g.I.ImageRead (Some c.args.call) _ c.args.d.now c.new_entry_of_id.new.d (ap Some c.in-INewEntry.is) tt
+
+pub returns-in-NameToId-clause-cost : goal.returns-in-NameToId-clause-cost
+returns-in-NameToId-clause-cost g c =
+    let cost = c.name_to_id.ensures.cost in
+    cost_of g.I.ImageRead (Some c.args.call) _ c.args.d.now c.name_to_id.new.d (ap Some c.in-NameToId.is)
+    (rw c.as_slice-in-NameToId.ensures at cost)
+
+pub returns-in-IdToName-clause-cost : goal.returns-in-IdToName-clause-cost
+returns-in-IdToName-clause-cost g c =
+    let cost = c.id_to_name.ensures.cost in
+    cost_of g.I.ImageRead (Some c.args.call) _ c.args.d.now c.id_to_name.new.d (ap Some c.in-IdToName.is)
+    (rw c.as_slice-in-IdToName.ensures at cost)
+
+pub returns-in-Delete-clause-cost : goal.returns-in-Delete-clause-cost
+returns-in-Delete-clause-cost g c =
+    cost_of g.I.ImageRead (Some c.args.call) _ c.args.d.now c.delete.new.d (ap Some c.in-Delete.is) tt
+
+pub returns-in-AddToGroup-clause-cost : goal.returns-in-AddToGroup-clause-cost
+returns-in-AddToGroup-clause-cost g c =
+    cost_of g.I.ImageRead (Some c.args.call) _ c.args.d.now c.add_to_group.new.d (ap Some c.in-AddToGroup.is) tt
+
+pub returns-in-RemoveFromGroup-clause-cost : goal.returns-in-RemoveFromGroup-clause-cost
+returns-in-RemoveFromGroup-clause-cost g c =
+    cost_of g.I.ImageRead (Some c.args.call) _ c.args.d.now c.remove_from_group.new.d (ap Some c.in-RemoveFromGroup.is) tt
+
+pub returns-in-GetCps-clause-cost : goal.returns-in-GetCps-clause-cost
+returns-in-GetCps-clause-cost g c =
+    cost_of g.I.ImageRead (Some c.args.call) _ c.args.d.now c.get_cps.new.d (ap Some c.in-GetCps.is) tt
+
+pub returns-in-ListMax-clause-cost : goal.returns-in-ListMax-clause-cost
+returns-in-ListMax-clause-cost g c =
+    cost_of g.I.ImageRead (Some c.args.call) _ c.args.d.now c.list_max.new.d (ap Some c.in-ListMax.is) tt
+
+pub returns-in-SetMax-clause-cost : goal.returns-in-SetMax-clause-cost
+returns-in-SetMax-clause-cost g c =
+    cost_of g.I.ImageRead (Some c.args.call) _ c.args.d.now c.set_max.new.d (ap Some c.in-SetMax.is) tt
+
+pub returns-in-ListEntry-clause-cost : goal.returns-in-ListEntry-clause-cost
+returns-in-ListEntry-clause-cost g c =
+    cost_of g.I.ImageRead (Some c.args.call) _ c.args.d.now c.list_entry.new.d (ap Some c.in-ListEntry.is) tt
+
+pub returns-in-ListEntries-clause-cost : goal.returns-in-ListEntries-clause-cost
+returns-in-ListEntries-clause-cost g c =
+    cost_of g.I.ImageRead (Some c.args.call) _ c.args.d.now c.list_entries.new.d (ap Some c.in-ListEntries.is) tt
+
+pub returns-in-ChangeEntry-clause-cost : goal.returns-in-ChangeEntry-clause-cost
+returns-in-ChangeEntry-clause-cost g c =
+    cost_of g.I.ImageRead (Some c.args.call) _ c.args.d.now c.change_entry.new.d (ap Some c.in-ChangeEntry.is) tt
+
+pub returns-in-SetFields-clause-cost : goal.returns-in-SetFields-clause-cost
+returns-in-SetFields-clause-cost g c =
+    cost_of g.I.ImageRead (Some c.args.call) _ c.args.d.now c.set_fields.new.d (ap Some c.in-SetFields.is) tt
+
+pub returns-in-ListElements-clause-cost : goal.returns-in-ListElements-clause-cost
+returns-in-ListElements-clause-cost g c =
+    cost_of g.I.ImageRead (Some c.args.call) _ c.args.d.now c.list_elements.new.d (ap Some c.in-ListElements.is) tt
+
+pub returns-in-IsMemberOf-clause-cost : goal.returns-in-IsMemberOf-clause-cost
+returns-in-IsMemberOf-clause-cost g c =
+    cost_of g.I.ImageRead (Some c.args.call) _ c.args.d.now c.is_member_of.new.d (ap Some c.in-IsMemberOf.is) tt
+
+pub returns-in-ListOwned-clause-cost : goal.returns-in-ListOwned-clause-cost
+returns-in-ListOwned-clause-cost g c =
+    cost_of g.I.ImageRead (Some c.args.call) _ c.args.d.now c.list_owned.new.d (ap Some c.in-ListOwned.is) tt

@@ -3,8 +3,9 @@ use Rattle.std.specs.Prelude.{is_some}
 use Rattle.db_image.proofs.Decided.{decided_grammar, decided_reads, decided_short, fault_grammar, no_writer}
 use Rattle.db_image.specs.declared.draft_services.CallEnd.TheVariants as end
 use Rattle.pt_service.specs.Meaning.{asked}
+use Rattle.pt_protection.proofs.Costs.{cost_of, looks_free}
 use Rattle.pt_protection.proofs.Served.{asked_is, call_done, meant, no_call_done, writes_as}
-use Rattle.pt_protection.proofs.service.PtServiceDraftService.call.Goals as goal
+use Rattle.pt_protection.proofs.service.serve_protection.Goals as goal
 
 pub returns-in_default-read-clause-meant : goal.returns-in_default-read-clause-meant
 returns-in_default-read-clause-meant g c =
@@ -50,3 +51,18 @@ pub returns-in-Err-clause-rests : goal.returns-in-Err-clause-rests
 returns-in-Err-clause-rests g c =
     let asks = writes_as c.args.call.now _ (λ i. omega (arith, c.type_inv.call i)) (sym c.in-Some.is ∙ c.in-Ok.ensures.exact) in
     λ reads. c.answer.ensures.rests (no_writer _ (λ e. reads (asks ∙ e)))
+
+pub returns-in_default-read-clause-cost : goal.returns-in_default-read-clause-cost
+returns-in_default-read-clause-cost g c = looks_free g.I.ImageRead (asked c.args.call.now) c.args.image.now
+
+pub returns-in-Ok-answer-clause-cost : goal.returns-in-Ok-answer-clause-cost
+returns-in-Ok-answer-clause-cost g c =
+    cost_of g.I.ImageRead (asked c.args.call.now) _ c.args.image.now c.answer.new.d
+    (asked_is c.args.call.now (λ i. omega (arith, c.type_inv.call i)) ∙ sym c.in-Ok.ensures.exact ∙ c.in-Some.is)
+    c.answer.ensures.cost
+
+pub returns-in-Err-clause-cost : goal.returns-in-Err-clause-cost
+returns-in-Err-clause-cost g c =
+    cost_of g.I.ImageRead (asked c.args.call.now) _ c.args.image.now c.answer.new.d
+    (asked_is c.args.call.now (λ i. omega (arith, c.type_inv.call i)) ∙ sym c.in-Ok.ensures.exact ∙ c.in-Some.is)
+    c.answer.ensures.cost
