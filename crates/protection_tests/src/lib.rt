@@ -1,8 +1,5 @@
-//! Tests of the crates of the protection database that no row of `protection_sessions` can show: reads that fail, and entries that are
-//! not there.
+//! Tests of the protection database that no row of `protection_sessions` can show: reads that fail.
 #![tactic(auto)]
 
 #[cfg(test)]
 mod faults;
-#[cfg(test)]
-mod records;
