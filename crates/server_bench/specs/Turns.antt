@@ -1,5 +1,5 @@
 -- What is asked of the protection database in each turn (own).
-use Rattle.std.specs.Prelude.{ℕ, ◌+◌, ◌/◌, ◌%◌, pos, negsuc, List, [], ◌∷◌, codes}
+use Rattle.std.specs.Prelude.{ℕ, ◌+◌, ◌/◌, ◌%◌, pos, List, [], ◌∷◌, codes}
 use Rattle.pt_calls.specs.declared.calls.PtCall.{PtCall}
 use Rattle.pt_calls.specs.declared.calls.PtCall.TheVariants as call
 use Rattle.server_bench.specs.declared.turns.Asked.{Asked}
@@ -12,9 +12,7 @@ letter n = 97 + n % 26
 abbrev pub user_name : ℕ → List ℕ
 user_name turn = 98 ∷ letter (turn / 676) ∷ letter (turn / 26) ∷ letter turn ∷ []
 
--- A user is made, or a name translated; the users from id 1 on are put into the group -206, or its members told.
+-- A user is made, or a name translated.
 abbrev pub call_of_turn : Asked → ℕ → PtCall
 call_of_turn asked.NewEntry turn = call.NewEntry (user_name turn) 0 (pos 0)
 call_of_turn asked.NameToId turn = call.NameToId (codes "nobody" ∷ [])
-call_of_turn asked.AddToGroup turn = call.AddToGroup (pos (turn + 1)) (negsuc 205)
-call_of_turn asked.ListElements turn = call.ListElements (negsuc 205)

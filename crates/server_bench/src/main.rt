@@ -5,40 +5,37 @@
 ghost use Rattle.std.specs.Prelude.{◌≤◌, IfOk, length};
 ghost use Rattle.page_file.specs.declared.label.TheConstants.{MAX_DATABASE_LEN};
 
-mod location_calls;
+mod draft_calls;
 mod measures;
 mod node_calls;
-mod protection_calls;
 mod station_calls;
 mod transfers;
 mod turns;
 
 use measures::{FIXED, Fault, HELP, Measure};
 use page_file::MAX_DATABASE_LEN;
+use std::alloc::Global;
 use std::env::{self, Args};
 use std::io::{self, Read};
 use std::process::ExitCode;
+use ubik_types::NoMemory;
 
-/// What the words of the program ask.
-#[derive(Clone, Copy)]
-enum Asked {
-    /// Measures over empty databases.
-    All,
-    /// The text that tells the words.
-    Help,
-    One(Measure),
+/// All words behind the name of the program.
+fn words_of(alloc: Global, args: Args) -> Result<Vec<String>, NoMemory> {
+    let mut words = Vec::new(alloc);
+    for word in args.skip(1) {
+        words.push(word)?;
+    }
+    Ok(words)
 }
 
-/// What the words ask, which stand behind the name of the program; none where they have no meaning.
-fn asked_by(mut words: Args) -> Option<Asked> {
-    let Some(name) = words.nth(1) else {
-        return Some(Asked::All);
-    };
-    if name.as_str() == "--help" {
-        return Some(Asked::Help);
+/// The words of a line.
+fn words_in(alloc: Global, line: &str) -> Result<Vec<String>, NoMemory> {
+    let mut words = Vec::new(alloc);
+    for word in line.split(' ') {
+        words.push(String::from_str(alloc, word)?)?;
     }
-    let measure = Measure::read(name.as_str(), &mut words)?;
-    words.next().is_none().then_some(Asked::One(measure))
+    Ok(words)
 }
 
 /// What standard input gives, if that can be a database file.
@@ -58,30 +55,33 @@ fn database(rt: &HostRuntime) -> Result<Vec<u8>, Fault>
     Ok(database)
 }
 
-/// Does a measure over a database, and tells it.
-fn tell(rt: &HostRuntime, measure: Measure, database: &[u8]) -> Result<(), Fault>
+/// Does what these words measure over a database, and tells it.
+fn tell(rt: &HostRuntime, measure: Measure<'_>, database: &[u8]) -> Result<(), Fault>
     requires { length database.now ≤ MAX_DATABASE_LEN }
 {
     measure.run(rt, database)?;
     println!(rt; "{measure}").map_err(|_| Fault::Output)
 }
 
+/// Does the measures that empty databases take.
+fn tell_fixed(rt: &HostRuntime) -> Result<(), Fault> {
+    for line in FIXED {
+        let words = words_in(rt.alloc(), line)?;
+        tell(rt, Measure::read(&words).ok_or(Fault::Words)?, &[])?;
+    }
+    Ok(())
+}
+
 /// Does what the words ask.
-fn answer(rt: &HostRuntime, words: io::Result<Args>) -> Result<(), Fault> {
-    let Some(asked) = words.ok().and_then(asked_by) else {
-        return Err(Fault::Words);
-    };
-    match asked {
-        Asked::Help => rt.print(HELP).map_err(|_| Fault::Output),
-        Asked::One(measure) => {
+fn answer(rt: &HostRuntime, args: io::Result<Args>) -> Result<(), Fault> {
+    let words = words_of(rt.alloc(), args.map_err(|_| Fault::Words)?)?;
+    match words.as_slice() {
+        [] => tell_fixed(rt),
+        [word] if word.as_str() == "--help" => rt.print(HELP).map_err(|_| Fault::Output),
+        words => {
+            let measure = Measure::read(words).ok_or(Fault::Words)?;
             let database = database(rt)?;
             tell(rt, measure, &database)
-        }
-        Asked::All => {
-            for measure in FIXED {
-                tell(rt, measure, &[])?;
-            }
-            Ok(())
         }
     }
 }

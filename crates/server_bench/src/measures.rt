@@ -2,50 +2,49 @@
 ghost use Rattle.std.specs.Prelude.{◌≤◌, length};
 ghost use Rattle.page_file.specs.declared.label.TheConstants.{MAX_DATABASE_LEN};
 
-use crate::location_calls::Plan;
+use crate::draft_calls::Plan;
 use crate::station_calls::{Blocks, Kept};
 use crate::turns::Asked;
-use crate::{location_calls, node_calls, protection_calls, station_calls, transfers};
-use std::env::Args;
+use crate::{draft_calls, node_calls, station_calls, transfers};
+use pt_protection::PtService;
 use std::fmt;
 use thiserror::Error;
 use ubik_types::NoMemory;
+use vl_database::VlService;
 
 /// What `--help` tells.
 pub const HELP: &str = "\
 server_bench does a piece of work that a script of bench/ times, over a
 database that standard input gives. Its words are one of
 
-  node CALL TIMES              a server that is alone in its cell is asked
-                               calls of the protection database; standard
-                               input is the database file
-  station CALL TIMES           the same calls, as frames, of a station of that
-                               server, whose journal is ghost data
-  turns KEPT EVERY BLOCKS      so many blocks of so many turns of a station, each
-                               of which translates a name, over an empty
-                               database; a line is told behind each block. KEPT
-                               is ghost, or held for a journal in memory
-  transfer open                two servers are opened over disks in memory, the
-                               first one with that database file
-  transfer send                the first one then sends its database to the
-                               second
-  protection CALL TIMES        calls of the protection database are made over a
-                               draft; standard input is the image
-  location look TIMES ENTRY    the same of the location database: the entry
-                               with this read-write id is looked up
-  location change TIMES ENTRY  its lock is cleared
-  --help                       tells this
+  node CALL TIMES            a server that is alone in its cell is asked calls
+                             of the protection database; standard input is the
+                             database file
+  station CALL TIMES         the same calls, as frames, of a station of that
+                             server, whose journal is ghost data
+  turns KEPT EVERY BLOCKS    so many blocks of so many turns of a station, each
+                             of which translates a name, over an empty
+                             database; a line is told behind each block. KEPT
+                             is ghost, or held for a journal in memory
+  transfer open              two servers are opened over disks in memory, the
+                             first one with that database file
+  transfer send              the first one then sends its database to the
+                             second
+  protection TIMES WORDS     the call of the protection database that these
+                             words name, as in a script, is made so often, each
+                             time over a draft of its own; standard input is
+                             the image
+  location TIMES WORDS       the same of the location database
+  --help                     tells this
 
-CALL is newentry, nametoid, addtogroup or listelements; the last two want the
-group -206. Over an empty image the entry of the location database is made
-first. Without words the program reads nothing, and does some of these over
-empty databases. Each that is done is a line. The status is 1 where the work
-failed, and 6 where the words have no meaning.
+CALL is newentry or nametoid. Without words the program reads nothing, and does
+some of these over empty databases. Each that is done is a line. The status is 1
+where the work failed, and 6 where the words have no meaning.
 ";
 
 /// What is measured, and how often it is done.
 #[derive(Clone, Copy)]
-pub enum Measure {
+pub enum Measure<'a> {
     /// Calls that a server alone in its cell is asked.
     Node { asked: Asked, times: u16 },
     /// The same calls, of a station of that server.
@@ -54,55 +53,25 @@ pub enum Measure {
     Turns(Blocks),
     /// Two servers are opened, and the first one sends its database to the second, or does not.
     Transfer { sends: bool },
-    /// Calls of the protection database over a draft.
-    Protection { asked: Asked, times: u16 },
-    /// Calls of the location database over a draft.
-    Location(Plan),
+    /// A call of the protection database over an image.
+    Protection(Plan<'a>),
+    /// A call of the location database over an image.
+    Location(Plan<'a>),
 }
 
-/// Those that an empty database takes.
-pub const FIXED: [Measure; 11] = [
-    Measure::Node {
-        asked: Asked::NewEntry,
-        times: 3,
-    },
-    Measure::Node {
-        asked: Asked::NameToId,
-        times: 3,
-    },
-    Measure::Station {
-        asked: Asked::NewEntry,
-        times: 3,
-    },
-    Measure::Station {
-        asked: Asked::NameToId,
-        times: 3,
-    },
-    Measure::Turns(Blocks {
-        kept: Kept::Held,
-        every: 2,
-        count: 1,
-    }),
-    Measure::Transfer { sends: false },
-    Measure::Transfer { sends: true },
-    Measure::Protection {
-        asked: Asked::NewEntry,
-        times: 3,
-    },
-    Measure::Protection {
-        asked: Asked::NameToId,
-        times: 3,
-    },
-    Measure::Location(Plan {
-        asked: location_calls::Asked::Look,
-        times: 3,
-        entry: 1,
-    }),
-    Measure::Location(Plan {
-        asked: location_calls::Asked::Change,
-        times: 3,
-        entry: 1,
-    }),
+/// The words of those that an empty database takes.
+pub const FIXED: [&str; 11] = [
+    "node newentry 3",
+    "node nametoid 3",
+    "station newentry 3",
+    "station nametoid 3",
+    "turns held 2 1",
+    "transfer open",
+    "transfer send",
+    "protection 3 newentry smith 0 0",
+    "protection 3 nametoid 1 smith",
+    "location 3 createentry root.cell 4096 1 0 0 0 1 167772161 0 4",
+    "location 3 probe",
 ];
 
 /// Why a measure was not done.
@@ -136,53 +105,49 @@ impl Fault {
     }
 }
 
-/// A call of the protection database, and how often it is made.
-fn asked_in(words: &mut Args) -> Option<(Asked, u16)> {
-    let asked = Asked::read(words.next()?.as_str())?;
-    Some((asked, words.next()?.parse().ok()?))
+/// A call that a server is asked, and how often.
+fn asked_in(asked: &str, times: &str) -> Option<(Asked, u16)> {
+    Some((Asked::read(asked)?, times.parse().ok()?))
 }
 
-/// A call of the location database, how often it is made, and on which entry.
-fn plan_in(words: &mut Args) -> Option<Plan> {
-    Some(Plan {
-        asked: location_calls::Asked::read(words.next()?.as_str())?,
-        times: words.next()?.parse().ok()?,
-        entry: words.next()?.parse().ok()?,
-    })
-}
-
-/// Blocks of turns.
-fn blocks_in(words: &mut Args) -> Option<Blocks> {
+/// Blocks of turns over this form of journal.
+fn blocks_in(kept: &str, every: &str, count: &str) -> Option<Blocks> {
     Some(Blocks {
-        kept: Kept::read(words.next()?.as_str())?,
-        every: words.next()?.parse().ok()?,
-        count: words.next()?.parse().ok()?,
+        kept: Kept::read(kept)?,
+        every: every.parse().ok()?,
+        count: count.parse().ok()?,
     })
 }
 
-impl Measure {
-    /// The measure of this name, of which the next words tell the rest; none where they do not.
-    pub fn read(name: &str, words: &mut Args) -> Option<Measure> {
-        match name {
-            "node" => {
-                let (asked, times) = asked_in(words)?;
+/// A call in words, and how often it is made.
+fn plan_in<'a>(times: &str, call: &'a [String]) -> Option<Plan<'a>> {
+    let times = times.parse().ok()?;
+    Some(Plan { times, call })
+}
+
+impl<'a> Measure<'a> {
+    /// What these words measure; none where they have no meaning.
+    pub fn read(words: &'a [String]) -> Option<Measure<'a>> {
+        let [name, words @ ..] = words else {
+            return None;
+        };
+        match (name.as_str(), words) {
+            ("node", [asked, times]) => {
+                let (asked, times) = asked_in(asked, times)?;
                 Some(Measure::Node { asked, times })
             }
-            "station" => {
-                let (asked, times) = asked_in(words)?;
+            ("station", [asked, times]) => {
+                let (asked, times) = asked_in(asked, times)?;
                 Some(Measure::Station { asked, times })
             }
-            "turns" => blocks_in(words).map(Measure::Turns),
-            "transfer" => match words.next()?.as_str() {
+            ("turns", [kept, every, count]) => Some(Measure::Turns(blocks_in(kept, every, count)?)),
+            ("transfer", [what]) => match what.as_str() {
                 "open" => Some(Measure::Transfer { sends: false }),
                 "send" => Some(Measure::Transfer { sends: true }),
                 _ => None,
             },
-            "protection" => {
-                let (asked, times) = asked_in(words)?;
-                Some(Measure::Protection { asked, times })
-            }
-            "location" => plan_in(words).map(Measure::Location),
+            ("protection", [times, call @ ..]) => Some(Measure::Protection(plan_in(times, call)?)),
+            ("location", [times, call @ ..]) => Some(Measure::Location(plan_in(times, call)?)),
             _ => None,
         }
     }
@@ -204,16 +169,16 @@ impl Measure {
                 true
             }
             Measure::Transfer { sends } => transfers::is_done(alloc, database, sends)?,
-            Measure::Protection { asked, times } => {
-                protection_calls::is_done(alloc, database, asked, times)?
+            Measure::Protection(plan) => {
+                draft_calls::is_done::<PtService>(alloc, database, plan)?
             }
-            Measure::Location(plan) => location_calls::is_done(alloc, database, plan)?,
+            Measure::Location(plan) => draft_calls::is_done::<VlService>(alloc, database, plan)?,
         };
         if done { Ok(()) } else { Err(Fault::Refused) }
     }
 }
 
-impl fmt::Display for Measure {
+impl fmt::Display for Measure<'_> {
     fn fmt<W: fmt::Write>(&self, f: &mut fmt::Formatter<W>) -> fmt::Result {
         match self {
             Measure::Node { asked, times } => {
@@ -232,14 +197,8 @@ impl fmt::Display for Measure {
                 write!(f, "transfer send: both servers have the database")
             }
             Measure::Transfer { sends: false } => write!(f, "transfer open: servers opened 2"),
-            Measure::Protection { asked, times } => {
-                let word = asked.word();
-                write!(f, "protection {word}: calls done {times}")
-            }
-            Measure::Location(plan) => {
-                let (word, times, entry) = (plan.asked.word(), plan.times, plan.entry);
-                write!(f, "location {word} of entry {entry}: calls done {times}")
-            }
+            Measure::Protection(plan) => write!(f, "protection {plan}"),
+            Measure::Location(plan) => write!(f, "location {plan}"),
         }
     }
 }

@@ -1,4 +1,4 @@
-//! The calls of the protection database that are made again and again.
+//! The calls of the protection database that a server is asked again and again.
 ghost use Rattle.std.specs.Prelude.{◌≡◌, ◌+◌, ◌%◌, IfOk};
 ghost use Rattle.pt_calls.specs.Calls.{HasSpelling, spelling};
 ghost use Rattle.server_bench.specs.Turns.{user_name, call_of_turn};
@@ -8,11 +8,8 @@ use pt_calls::{PtCall, spell_call};
 use std::alloc::Global;
 use ubik_types::{Bytes, NoMemory, bytes_of};
 
-/// A name that no entry of the image has, so that all blocks are looked at.
+/// A name that no entry of the image has, so that its whole chain is looked at.
 const NOBODY: &[u8] = b"nobody";
-
-/// The group of the image, which is made behind all users.
-const GROUP: i32 = -206;
 
 /// What is asked again and again.
 #[derive(Clone, Copy)]
@@ -21,10 +18,6 @@ pub enum Asked {
     NewEntry,
     /// A name is translated that is no entry's.
     NameToId,
-    /// Each time another user is put into the group.
-    AddToGroup,
-    /// The members of the group are told.
-    ListElements,
 }
 
 impl Asked {
@@ -33,8 +26,6 @@ impl Asked {
         match word {
             "newentry" => Some(Asked::NewEntry),
             "nametoid" => Some(Asked::NameToId),
-            "addtogroup" => Some(Asked::AddToGroup),
-            "listelements" => Some(Asked::ListElements),
             _ => None,
         }
     }
@@ -44,8 +35,6 @@ impl Asked {
         match self {
             Asked::NewEntry => "newentry",
             Asked::NameToId => "nametoid",
-            Asked::AddToGroup => "addtogroup",
-            Asked::ListElements => "listelements",
         }
     }
 }
@@ -82,11 +71,6 @@ fn call_of_turn(alloc: Global, asked: Asked, turn: u16) -> Result<PtCall, NoMemo
                 names: Items::new(vec![in alloc; nobody]?),
             })
         }
-        Asked::AddToGroup => Ok(PtCall::AddToGroup {
-            member: i32::from(turn) + 1,
-            group: GROUP,
-        }),
-        Asked::ListElements => Ok(PtCall::ListElements { id: GROUP }),
     }
 }
 

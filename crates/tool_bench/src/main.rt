@@ -1,92 +1,88 @@
-//! Runs a command of `vos` or `pts` over a link in memory, which the scripts of `bench/` time. The first word names the command, and those
-//! behind it are the command's; the frames that come back are on standard input. Without words two short listings are made.
+//! Runs a command of `vos` or `pts` over a link in memory, which the scripts of `bench/` time. The first word says what answers its calls,
+//! the second one names the command, and those behind it are the command's. Without words some short listings are made.
 #![tactic(auto)]
+
+ghost use Rattle.std.specs.Prelude.{◌<◌, ◌≤◌, ◌^◌, IfOk, length};
+ghost use Rattle.ubik_types.specs.declared.limits.TheConstants.{MAX_IMAGE};
 
 mod frames;
 mod measures;
+mod service_links;
 
+use afs_words::Tool;
 use frames::{ONE_USER, ONE_VOLUME};
-use measures::{Fault, HELP, Measure};
+use measures::{Fault, HELP, Measure, Peer};
 use std::alloc::Global;
 use std::env::{self, Args};
 use std::io::{self, Read};
 use std::process::ExitCode;
-use ubik_types::NoMemory;
+use ubik_types::{MAX_IMAGE, NoMemory};
 
-/// What the words of the program ask.
-#[derive(Drop)]
-enum Asked {
-    /// The short listings.
-    All,
-    /// The text that tells the words.
-    Help,
-    /// A command with its words.
-    One(Measure, Vec<String>),
-}
-
-/// All words that are left.
-fn rest_of(alloc: Global, args: Args) -> Result<Vec<String>, NoMemory> {
+/// All words behind the name of the program.
+fn words_of(alloc: Global, args: Args) -> Result<Vec<String>, NoMemory> {
     let mut words = Vec::new(alloc);
-    for word in args {
+    for word in args.skip(1) {
         words.push(word)?;
     }
     Ok(words)
 }
 
-/// What the words ask, which stand behind the name of the program.
-fn asked_by(alloc: Global, mut words: Args) -> Result<Asked, Fault> {
-    let Some(name) = words.nth(1) else {
-        return Ok(Asked::All);
-    };
-    if name.as_str() == "--help" {
-        return Ok(Asked::Help);
-    }
-    let Some(measure) = Measure::read(name.as_str()) else {
-        return Err(Fault::Words);
-    };
-    Ok(Asked::One(measure, rest_of(alloc, words)?))
-}
-
 /// Runs a command, tells its end, and gives its status.
-fn tell(rt: &HostRuntime, measure: Measure, words: &[String], frames: &[u8]) -> Result<u8, Fault> {
-    let ended = measure.run(rt.alloc(), words, frames)?;
+fn tell(rt: &HostRuntime, measure: Measure, words: &[String], given: &[u8]) -> Result<u8, Fault>
+    requires { length given.now < 2 ^ 32 }
+{
+    let ended = measure.run(rt.alloc(), words, given)?;
     let (name, status, told) = (measure.name(), ended.status, ended.told);
     println!(rt; "{name}: status {status}, {told} bytes told").map_err(|_| Fault::Output)?;
     Ok(status)
 }
 
-/// Runs a command of one word over frames that are known; its status.
-fn short(rt: &HostRuntime, measure: Measure, word: &str, frames: &[u8]) -> Result<u8, Fault> {
+/// Runs a command of one word; its status.
+fn short(rt: &HostRuntime, peer: Peer, tool: Tool, word: &str, given: &[u8]) -> Result<u8, Fault>
+    requires { length given.now < 2 ^ 32 }
+{
     let word = String::from_str(rt.alloc(), word).map_err(|_| Fault::NoMemory)?;
     let words = vec![in rt.alloc(); word].map_err(|_| Fault::NoMemory)?;
-    tell(rt, measure, &words, frames)
+    tell(rt, Measure { peer, tool }, &words, given)
 }
 
-/// What standard input gives.
-fn given_frames(rt: &HostRuntime) -> Result<Vec<u8>, Fault> {
-    let mut frames = Vec::new(rt.alloc());
+/// Lists a volume and a user of frames that are known, and then what empty databases have; the greatest status.
+fn list_shortly(rt: &HostRuntime) -> Result<u8, Fault> {
+    let volume = short(rt, Peer::Frames, Tool::Vos, "listvldb", ONE_VOLUME)?;
+    let user = short(rt, Peer::Frames, Tool::Pts, "listentries", ONE_USER)?;
+    let volumes = short(rt, Peer::Image, Tool::Vos, "listvldb", &[])?;
+    let users = short(rt, Peer::Image, Tool::Pts, "listentries", &[])?;
+    Ok(volume.max(user).max(volumes).max(users))
+}
+
+/// What standard input gives, if it is no longer than an image may be.
+fn given(rt: &HostRuntime) -> Result<Vec<u8>, Fault>
+    ensures { IfOk result (λ given. length given.items ≤ MAX_IMAGE) }
+{
+    let mut given = Vec::new(rt.alloc());
     rt.reader()
-        .read_to_end(&mut frames)
+        .read_to_end(&mut given)
         .map_err(|_| Fault::Input)?;
-    Ok(frames)
+    if given.len() > MAX_IMAGE {
+        return Err(Fault::Input);
+    }
+    Ok(given)
 }
 
 /// Does what the words ask; the status.
-fn answer(rt: &HostRuntime, words: io::Result<Args>) -> Result<u8, Fault> {
-    let Ok(words) = words else {
-        return Err(Fault::Words);
-    };
-    match asked_by(rt.alloc(), words)? {
-        Asked::Help => {
+fn answer(rt: &HostRuntime, args: io::Result<Args>) -> Result<u8, Fault> {
+    let words = words_of(rt.alloc(), args.map_err(|_| Fault::Words)?)?;
+    match words.as_slice() {
+        [] => list_shortly(rt),
+        [word] if word.as_str() == "--help" => {
             rt.print(HELP).map_err(|_| Fault::Output)?;
             Ok(0)
         }
-        Asked::One(measure, words) => tell(rt, measure, &words, &given_frames(rt)?),
-        Asked::All => {
-            let volumes = short(rt, Measure::Vos, "listvldb", ONE_VOLUME)?;
-            let users = short(rt, Measure::Pts, "listentries", ONE_USER)?;
-            Ok(volumes.max(users))
+        [peer, name, words @ ..] => {
+            let measure = Measure::read(peer, name).ok_or(Fault::Words)?;
+            tell(rt, measure, words, &given(rt)?)
         }
+        _ => Err(Fault::Words),
     }
 }
 
