@@ -1,9 +1,10 @@
 -- In which block a position lies.
+use Rattle.std.specs.Int.{div_ceil}
 use Rattle.std.proofs.Common.{◌≡◌, ℕ, suc, zero, ◌+◌, ◌-◌, ◌*◌, ◌/◌, ◌%◌, ◌<◌, ◌≤◌, sym, ap, ◌∙◌, ⊎_elim, arith}
 use Rattle.std.proofs.lemmas.Bool.{cases_lt}
-use Rattle.std.proofs.Math.Nat.{mul_comm, mul-suc}
+use Rattle.std.proofs.Math.Nat.{mul_comm, mul-suc, suc-mul, mul-le-mul_left, mul-le-mul_right, div-le_self}
 use Rattle.std.proofs.lemmas.Nat.{div-mul-add}
-use Rattle.std.proofs.lemmas.Grind.{common_steps}
+use Rattle.std.proofs.lemmas.Grind.{common_steps, div_ceil_times}
 use Rattle.db_image.specs.declared.services.Layout.{Layout}
 use Rattle.db_image.specs.declared.places.Place.{Place}
 use Rattle.db_image.specs.Places.{block_number, block_start, block_size, IsPlace}
@@ -72,7 +73,31 @@ pub size_most : (l : Layout) (k : ℕ) → block_size l k ≤ l.head + l.block
 size_most l zero = omega arith
 size_most l (suc k) = omega arith
 
-pub mul_more : (b k : ℕ) → b * (k + 1) ≡ b * k + b
-mul_more b k =
-    let e : k + 1 ≡ suc k = omega arith in
-    ap (λ (n : ℕ). b * n) e ∙ omega (arith, mul-suc b k)
+-- where a block behind the head begins
+pub start_at : (l : Layout) (n : ℕ) → 0 < n → block_start l n ≡ l.head + l.block * (n - 1)
+start_at l n some = start_behind l (n - 1) n (omega arith)
+
+pub ceil_most : (a b : ℕ) → div_ceil a b ≤ a + 1
+ceil_most a b = omega (arith, div-le_self a b)
+
+-- the blocks that begin before a position are the first ones, as many as there are lengths of a block behind the head, rounded up
+pub before_these : (l : Layout) (at behind block k : ℕ) → 0 < at → behind ≡ at - l.head → 0 < block → l.block ≤ block
+    → k < 1 + div_ceil behind block → block_start l k < at
+before_these l at behind block zero some rest long most below = some
+before_these l at behind block (suc k) some rest long most below =
+    let count : ℕ = div_ceil behind block in
+    let bound : count * block < behind + block = (div_ceil_times behind block long).1 in
+    let far : (k + 1) * block ≤ count * block = mul-le-mul_right block (omega (arith, below)) in
+    let sum : (k + 1) * block ≡ k * block + block = ap (λ (n : ℕ). n * block) (omega arith) ∙ suc-mul k block in
+    let wide : k * l.block ≤ k * block = mul-le-mul_left k most in
+    omega (arith, bound, far, sum, wide, rest, mul_comm l.block k)
+
+pub before_others : (l : Layout) (at behind block k : ℕ) → behind ≡ at - l.head → 0 < block → l.block ≡ block
+    → 1 + div_ceil behind block ≤ k → at ≤ block_start l k
+before_others l at behind block zero rest long same past = absurd (omega (arith, past))
+before_others l at behind block (suc k) rest long same past =
+    let count : ℕ = div_ceil behind block in
+    let bound : behind ≤ count * block = (div_ceil_times behind block long).0 in
+    let far : count * block ≤ k * block = mul-le-mul_right block (omega (arith, past)) in
+    let begins : l.block * k ≡ k * block = mul_comm l.block k ∙ ap (λ (n : ℕ). k * n) same in
+    omega (arith, bound, far, begins, rest)

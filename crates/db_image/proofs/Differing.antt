@@ -8,13 +8,13 @@ use Rattle.ubik_types.specs.declared.images.Change.{Change}
 use Rattle.ubik_types.specs.declared.images.Change.TheVariants.{Put}
 use Rattle.db_image.specs.declared.overlays.Overlay.{Overlay}
 use Rattle.db_image.specs.declared.overlays.ChangedBlock.{ChangedBlock}
-use Rattle.db_image.specs.Blocks.{block_at, block_change, block_changes, changes_between}
+use Rattle.db_image.specs.Blocks.{block_at, block_change}
 use Rattle.db_image.specs.Places.{block_number, block_start, block_size}
 use Rattle.db_image.specs.Draft.{changed_at, byte_of, bytes_over, IsLaid, IsChangeOf}
 use Rattle.db_image.proofs.BlockNumbers.{number_same}
 use Rattle.db_image.proofs.Bytes.{byte_in}
 use Rattle.db_image.proofs.Covering.{bytes_at, bytes_len}
-use Rattle.db_image.proofs.Steps.{block_at_past, block_changes_past}
+use Rattle.db_image.proofs.Steps.{block_at_past}
 
 pub block_length : (xs : List ℕ) (at size : ℕ) → length (block_at xs at size) ≡ min size (length xs - at)
 block_length xs at size = length-take size (drop at xs) ∙ ap (min size) (length-drop at xs)
@@ -142,11 +142,15 @@ change_zero o size number at count beneath found laid starts none past enough ch
     subst (λ (xs : List ℕ). IsChangeOf xs (block_at (bytes_over o beneath) at (block_size o.layout number)) found) empty
     (subst (λ (xs : List ℕ). IsChangeOf [] xs found) zeros change)
 
+-- a block that is the same is not put
+pub change_same : (old new : List ℕ) (at size : ℕ) → block_at new at size ≡ block_at old at size → block_change old new at size ≡ []
+change_same old new at size same =
+    ap (λ b. cond b [] (Put at (block_at new at size) ∷ [])) ((bytes_eq-Decides (block_at new at size) (block_at old at size)).1 same)
+
 -- the change of a block, pushed or not
 pub push_none : (old new : List ℕ) (at size : ℕ) (changes : List Change) → block_at new at size ≡ block_at old at size → changes ≡ changes ++ block_change old new at size
 push_none old new at size changes same =
-    let test : bytes_eq (block_at new at size) (block_at old at size) ≡ true = (bytes_eq-Decides (block_at new at size) (block_at old at size)).1 same in
-    sym (append-nil changes) ∙ ap (λ b. changes ++ cond b [] (Put at (block_at new at size) ∷ [])) (sym test)
+    sym (append-nil changes) ∙ ap (λ (xs : List Change). changes ++ xs) (sym (change_same old new at size same))
 
 not_true : (b : Bool) → ¬ (b ≡ true) → b ≡ false
 not_true true no_way = absurd (no_way refl)
@@ -167,22 +171,3 @@ map_ok (Err e) P Q so is = tt
 pub map_on_ok : {X E : Type 0} (r : Result X E) (P Q : Type 0) → (P → Q) → OnOk r P → OnOk r Q
 map_on_ok (Ok x) P Q so is = so is
 map_on_ok (Err e) P Q so is = tt
-
--- the changes after the head's
-pub first_pushed : (o : Overlay) (beneath : List ℕ) (changes : List Change) (at : ℕ)
-    → changes ≡ block_change beneath (bytes_over o beneath) 0 o.layout.head → at ≡ o.layout.head
-    → changes ++ block_changes beneath (bytes_over o beneath) at o.layout.block (o.len - 0)
-    ≡ changes_between o.layout.head o.layout.block beneath (bytes_over o beneath)
-first_pushed o beneath changes at pushed starts =
-    let new : List ℕ = bytes_over o beneath in
-    let all : o.len - 0 ≡ length new = omega (arith, bytes_len o beneath) in
-    ap (λ (xs : List Change). xs ++ block_changes beneath new at o.layout.block (o.len - 0)) pushed
-    ∙ ap (λ (n : ℕ). block_change beneath new 0 o.layout.head ++ block_changes beneath new n o.layout.block (o.len - 0)) starts
-    ∙ ap (λ (n : ℕ). block_change beneath new 0 o.layout.head ++ block_changes beneath new o.layout.head o.layout.block n) all
-
--- nothing is left behind the end of a draft
-pub none_behind : (o : Overlay) (size at left : ℕ) (beneath : List ℕ) → IsLaid o size (Some beneath) → o.len ≤ at
-    → block_changes beneath (bytes_over o beneath) at o.layout.block left ≡ []
-none_behind o size at left beneath laid past =
-    block_changes_past beneath (bytes_over o beneath) at o.layout.block left
-    (omega (arith, laid.told beneath refl, laid.longer, past)) (omega (arith, bytes_len o beneath, past))

@@ -11,4 +11,5 @@ pub mod Putting
 pub mod Ranges
 pub mod ReadSteps
 pub mod Steps
+pub mod Walked
 pub mod Writes

@@ -1,13 +1,14 @@
 -- A draft: an image beneath, and blocks that were changed over it.
-use Rattle.std.specs.Prelude.{ℕ, ◌+◌, ◌-◌, ◌*◌, ◌<◌, ◌≤◌, ◌≡◌, ◌≢◌, List, Option, Some, None, IsSome, ◌++◌, length, map, min, take, drop, slice_index}
+use Rattle.std.specs.Prelude.{ℕ, zero, suc, ◌+◌, ◌-◌, ◌*◌, ◌<◌, ◌≤◌, ◌≡◌, ◌≢◌, List, [], Option, Some, None, IsSome, ◌++◌, length, map, min, take, drop, slice_index}
 use Rattle.std.specs.BTreeMap.{get}
 use Rattle.std.specs.List.{range_with_len}
 use Rattle.std.specs.Option.{option_map_or, ForSome}
 use Rattle.std.specs.Ordering.{nat_cmp}
+use Rattle.ubik_types.specs.declared.images.Change.{Change}
 use Rattle.db_image.specs.declared.services.Layout.{Layout}
 use Rattle.db_image.specs.declared.overlays.ChangedBlock.{ChangedBlock}
 use Rattle.db_image.specs.declared.overlays.Overlay.{Overlay}
-use Rattle.db_image.specs.Blocks.{block_at}
+use Rattle.db_image.specs.Blocks.{block_at, block_change}
 use Rattle.db_image.specs.Places.{block_number, block_start, block_size}
 
 -- what contracts see of a draft
@@ -122,3 +123,8 @@ put_cost l count = (l.head + l.block) + range_cost l count
 abbrev pub IsChangeOf : (old new : List ℕ) → Option (List ℕ) → Type 0
 IsChangeOf old new None = new ≡ old
 IsChangeOf old new (Some bytes) = (bytes ≡ new) × (new ≢ old)
+
+-- the puts of the blocks of which the numbers are below this one, ascending
+abbrev pub changes_below : Layout → (old new : List ℕ) → (number : ℕ) → List Change
+changes_below l old new zero = []
+changes_below l old new (suc k) = changes_below l old new k ++ block_change old new (block_start l k) (block_size l k)

@@ -6,9 +6,9 @@ ghost use Rattle.ubik_types.specs.declared.images.Change.TheVariants.{Put};
 ghost use Rattle.db_image.specs.Images.{OnlyReads, ReadsAtMost, IsOfImage};
 ghost use Rattle.db_image.specs.Blocks.{block_at, block_change, changes_between, LeadSome, PutSome};
 ghost use Rattle.db_image.specs.Places.{block_number, block_start, block_size};
-ghost use Rattle.db_image.specs.Draft.{changed_at, byte_of, byte_over, IsLaid, IsFull, SameBytes, IsLoaded, Lays, Replaces, Keeps, IsLaidOver, ShowsFrom, bytes_over, range_cost, put_cost, IsChangeOf};
+ghost use Rattle.db_image.specs.Draft.{changed_at, byte_of, byte_over, IsLaid, IsFull, SameBytes, IsLoaded, Lays, Replaces, Keeps, IsLaidOver, ShowsFrom, bytes_over, range_cost, put_cost, IsChangeOf, changes_below};
 
-use crate::places::{place_of, size_of};
+use crate::places::{blocks_before, place_of, size_of, start_of};
 use crate::services::Layout;
 use crate::{ImageRead, ReadEnd, RecordFault};
 use std::alloc::{AllocError, Global};
@@ -357,26 +357,39 @@ impl Overlay {
     }
 
     /// Adds the put of a block, where it is new or a byte of it is another one than beneath.
-    fn push_change(
-        &self,
-        changes: &mut Changes,
-        size: u32,
-        number: u64,
-        at: u32,
-    ) -> Result<(), NoMemory>
+    fn push_change(&self, changes: &mut Changes, size: u32, number: u64) -> Result<(), NoMemory>
         requires full { IsFull self.now }
-        requires at { at ≡ block_start self.now.layout number }
+        requires begins { block_start self.now.layout number < 2 ^ 32 }
         ensures puts { OnOk result (PutSome changes.old → PutSome changes.new) }
         ensures change { OnOk result ((beneath : List ℕ) → IsLaid self.now size (Some beneath)
-            → changes.new ≡ changes.old ++ block_change beneath (bytes_over self.now beneath) at (block_size self.now.layout number)) }
+            → changes.new ≡ changes.old ++ block_change beneath (bytes_over self.now beneath)
+            (block_start self.now.layout number) (block_size self.now.layout number)) }
     {
+        let at = start_of(self.layout, number);
         let Some(bytes) = self.change_of(size, number, at)? else {
             return Ok(());
         };
         changes_push(changes, Change::Put { at, bytes })
     }
 
-    /// The puts of all blocks that are new or in which a byte is another one than beneath, ascending.
+    /// The puts of the first blocks, so many that begin in an image of `size` bytes. Only a changed block can be another one than beneath,
+    /// so it walks those and no others.
+    fn first_changes(&self, size: u32, count: u64) -> Result<Changes, NoMemory>
+        requires full { IsFull self.now }
+        requires begin { (k : ℕ) → k < count → block_start self.now.layout k < size }
+        ensures puts { IfOk result PutSome }
+        ensures changes { IfOk result (λ changes. (beneath : List ℕ) → IsLaid self.now size (Some beneath)
+            → changes ≡ changes_below self.now.layout beneath (bytes_over self.now beneath) count) }
+    {
+        let mut changes = changes_new(self.alloc);
+        for (number, _) in self.blocks.range(..count) {
+            self.push_change(&mut changes, size, *number)?;
+        }
+        Ok(changes)
+    }
+
+    /// The puts of all blocks that are new or in which a byte is another one than beneath, ascending. It walks the changed blocks and the
+    /// new ones, and not the image.
     pub fn changes(&self, size: u32) -> Result<Changes, NoMemory>
         requires full { IsFull self.now }
         ensures puts { IfOk result PutSome }
@@ -385,16 +398,11 @@ impl Overlay {
         ensures lead { IfOk result (λ changes. (held : Option (List ℕ)) → IsLaid self.now size held
             → LeadSome self.now.layout.head self.now.layout.block size self.now.len changes) }
     {
-        let mut changes = changes_new(self.alloc);
-        self.push_change(&mut changes, size, 0, 0)?;
-        let len = u64::from(self.len);
-        let mut at = u64::from(self.layout.head);
-        for index in 0..len {
-            if at >= len {
-                break;
-            }
-            self.push_change(&mut changes, size, index + 1, at as u32)?;
-            at += u64::from(self.layout.block);
+        let first_new = blocks_before(self.layout, size);
+        let count = blocks_before(self.layout, self.len);
+        let mut changes = self.first_changes(size, first_new)?;
+        for number in first_new..count {
+            self.push_change(&mut changes, size, number)?;
         }
         Ok(changes)
     }
