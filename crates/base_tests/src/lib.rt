@@ -6,4 +6,6 @@ mod links;
 #[cfg(test)]
 mod nets;
 #[cfg(test)]
+mod streams;
+#[cfg(test)]
 mod writes;

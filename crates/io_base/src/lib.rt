@@ -22,7 +22,4 @@ pub use memory_links::{MemAnswer, MemLink};
 pub use memory_nets::{MemFrame, MemNet, MemSent};
 pub use nets::{Net, NetGot, NetPut, Paused};
 pub use spawners::{Job, Missed, NoSpawner, Spawner, Started, ThreadSpawner};
-pub use tcp_links::{CONNECT_SECONDS, TcpLink, Waits};
-
-#[cfg(test)]
-mod tests;
+pub use tcp_links::{CONNECT_SECONDS, TcpLink, Waits, ask_once};

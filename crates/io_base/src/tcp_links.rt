@@ -9,7 +9,7 @@ use crate::{Answer, Exchange, Link};
 use std::alloc::Global;
 use std::io;
 use std::io::{Read, Write};
-use std::net::{Ipv4Addr, Net, SocketAddr, TcpStream};
+use std::net::{Ipv4Addr, Net, OpenStream, SocketAddr, TcpStream};
 use std::time::{Clock, Duration};
 use ubik_types::{Bytes, Host, NoMemory, RPCTIMEOUT, bytes_of};
 
@@ -231,14 +231,15 @@ fn is_idle(stream: &TcpStream) -> io::Result<bool> {
     Ok(idle)
 }
 
-/// Asks over a connection, and gives it back where an answer came in time; else it is closed.
-fn ask_once(
-    stream: TcpStream,
+/// Sends a frame over a stream, and reads the one that comes back, within a time. The stream is given back where an answer
+/// came; else it is closed, and the reply is empty.
+pub fn ask_once<S: Read + Write + OpenStream + Drop>(
+    stream: S,
     clock: &impl Clock,
     wait: Duration,
     frame: &[u8],
     reply: &mut Vec<u8>,
-) -> Result<TcpStream, Answer>
+) -> Result<S, Answer>
     requires { reply.old.items ≡ [] }
     ensures sent { IfErr result (λ answer. answer ≢ Answer.NoMemory) }
     ensures missed { IfErr result (λ answer. answer ≢ Answer.Got) }
@@ -254,7 +255,7 @@ fn ask_once(
 }
 
 /// Sends a frame, and reads the one that comes back.
-pub(crate) fn ask_over<S: Read + Write>(stream: &mut S, frame: &[u8], reply: &mut Vec<u8>) -> Answer
+fn ask_over<S: Read + Write>(stream: &mut S, frame: &[u8], reply: &mut Vec<u8>) -> Answer
     requires { reply.old.items ≡ [] }
     ensures bound { length reply.new.items ≤ MAX_FRAME }
     ensures emptied { result ≢ Answer.Got → reply.new.items ≡ [] }
