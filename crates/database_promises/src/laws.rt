@@ -1,9 +1,9 @@
 //! The promises of running servers at each database: the clause of a call that does nothing of its own.
-ghost use Rattle.pt_protection.specs.Service.{protection_standing};
+ghost use Rattle.pt_database.specs.Service.{protection_standing};
 ghost use Rattle.vl_database.specs.Service.{vl_standing};
 ghost use Rattle.database_promises.specs.Promises.{ServersKeepPromises};
 
-use pt_protection::PtService;
+use pt_database::PtService;
 use server_promises::law_running_servers_keep_promises;
 use vl_database::VlService;
 

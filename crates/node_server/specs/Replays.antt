@@ -4,7 +4,7 @@ use Rattle.ubik_types.specs.Hosts.{IsCell}
 use Rattle.disk_base.specs.declared.disks.Disk.{Ghosts}
 use Rattle.disk_base.specs.Files.{Files}
 use Rattle.db_image.specs.Standing.{Standing}
-use Rattle.pt_protection.specs.Service.{protection_standing}
+use Rattle.pt_database.specs.Service.{protection_standing}
 use Rattle.vl_database.specs.Service.{vl_standing}
 use Rattle.cell_model.specs.declared.events.Output.{Output}
 use Rattle.cell_model.specs.Durable.{Durable}

@@ -12,7 +12,7 @@ use crate::ends::ServerEnd;
 use crate::openings::{Served, open_and_serve};
 use disk_base::{Disk, Sink};
 use io_base::{Clock, Gate, Net, Spawner};
-use pt_protection::PtService;
+use pt_database::PtService;
 use server_crew::Outside;
 use server_station::{Journal, Keeper, Limits};
 use server_texts::{Database, ServerKind, ServerWords, WordsFault, read_words, say_end};

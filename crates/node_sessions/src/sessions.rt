@@ -2,7 +2,7 @@
 use crate::appending::Appending;
 use crate::servers::Server;
 use disk_base::MemDisk;
-use pt_protection::PtService;
+use pt_database::PtService;
 use session_rows::{Fault, Report, Rows, first_of};
 use std::alloc::Global;
 

@@ -5,7 +5,7 @@ ghost use Rattle.disk_base.specs.Mirrored.{mirrored_files, mirrored_may_leave};
 ghost use Rattle.ubik_node.specs.Built.{IsBuilt};
 
 use disk_base::{Disk, FileDisk, Mirrored, MostBytes, Refused};
-use pt_protection::PtService;
+use pt_database::PtService;
 use std::alloc::Global;
 use std::process::Abort;
 use std::test::Fail;

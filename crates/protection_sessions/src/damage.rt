@@ -2,7 +2,7 @@
 use crate::ends::end_over;
 use crate::tokens::{first_place, parted, place_of, words_of};
 use db_image::{Draft, DraftService, DraftWords, ImageRead, VecImage};
-use pt_protection::PtService;
+use pt_database::PtService;
 use session_rows::{Fault, bytes_in, first_of};
 use std::alloc::Global;
 use ubik_types::{Bytes, MAX_IMAGE};

@@ -1,6 +1,6 @@
 //! How calls end over an image.
 use db_image::{CallEnd, Draft, DraftService, DraftWords, ImageRead, VecImage};
-use pt_protection::PtService;
+use pt_database::PtService;
 use session_rows::Fault;
 use std::alloc::Global;
 use ubik_types::{Bytes, MAX_IMAGE};

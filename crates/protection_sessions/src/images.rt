@@ -3,7 +3,7 @@ use crate::damage::found_over;
 use crate::ends::end_over;
 use crate::tokens::{first_place, place_of};
 use db_image::{Draft, DraftService, ImageRead, VecImage};
-use pt_protection::PtService;
+use pt_database::PtService;
 use session_rows::{Fault, bytes_in, first_of};
 use std::alloc::Global;
 use ubik_types::MAX_IMAGE;

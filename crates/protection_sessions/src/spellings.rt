@@ -5,7 +5,7 @@ use db_image::DraftService;
 use pt_calls::{
     call_words, kind_of, read_answer, read_call, reply_words, spell_answer, spell_call,
 };
-use pt_protection::PtService;
+use pt_database::PtService;
 use session_rows::{Fault, bytes_in, first_of};
 use std::alloc::Global;
 use std::str;

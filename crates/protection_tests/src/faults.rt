@@ -1,6 +1,6 @@
 //! Calls over an image of which a read fails.
 use db_image::{CallEnd, Draft, DraftService, DraftWords, ImageRead, ReadEnd, VecImage};
-use pt_protection::PtService;
+use pt_database::PtService;
 use std::alloc::Global;
 use std::process::Abort;
 use std::test::Fail;

@@ -5,7 +5,7 @@ use Rattle.db_image.specs.declared.draft_services.CallEnd.{CallEnd}
 use Rattle.pt_calls.specs.declared.answers.PtAnswer.TheVariants as answer
 use Rattle.pt_service.specs.Meaning.{Answers, Change, Makes, Refuses, Verdict, reply_by}
 use Rattle.pt_service.specs.State.{State}
-use Rattle.pt_database.specs.States.{HoldsState, OfStates}
+use Rattle.pt_looks.specs.States.{HoldsState, OfStates}
 use Rattle.pt_changes.specs.Standing.{IsDone, IsMeantOf, image_after}
 
 done_refused : (v : Verdict) (s : State) (image : List ℕ) (after : Option (List ℕ)) (rule : ℕ) (ended : CallEnd)

@@ -19,9 +19,9 @@ use Rattle.pt_service.specs.Turning.{is_fixed}
 use Rattle.prdb_turns.specs.Ends.{Leaves as LeavesAll}
 use Rattle.prdb_turns.specs.Owners.{MayGive, after_gives}
 use Rattle.prdb_turns.proofs.Given.{all_given}
-use Rattle.pt_database.specs.States.{HoldsState, OfStates, members_of}
-use Rattle.pt_database.proofs.Pairs.{is_there}
-use Rattle.pt_database.proofs.States.{known_some, of_map, unknown_is}
+use Rattle.pt_looks.specs.States.{HoldsState, OfStates, members_of}
+use Rattle.pt_looks.proofs.Pairs.{is_there}
+use Rattle.pt_looks.proofs.States.{known_some, of_map, unknown_is}
 use Rattle.pt_changes.specs.Ends.{Always, Leaves, Makes, over_registry}
 use Rattle.pt_changes.specs.Leaving.{after_leave, after_parts, property, without_pairs}
 use Rattle.pt_changes.specs.Standing.{IsMeantOf}

@@ -21,8 +21,8 @@ use Rattle.pt_service.specs.Turning.{is_fixed}
 use Rattle.prdb_turns.specs.Owners.{MayGive, after_gives, with_owner}
 use Rattle.prdb_turns.proofs.Given.{IsGiving, all_given, gives_may, owners_are}
 use Rattle.prdb_turns.proofs.Refits.{refits_hold}
-use Rattle.pt_database.specs.States.{HoldsState, members_of}
-use Rattle.pt_database.proofs.Pairs.{entry_range, some_is}
+use Rattle.pt_looks.specs.States.{HoldsState, members_of}
+use Rattle.pt_looks.proofs.Pairs.{entry_range, some_is}
 use Rattle.pt_changes.specs.Ends.{over_registry}
 use Rattle.pt_changes.specs.Leaving.{MayPart, after_leave, after_parted, after_parts, is_property, property, without_paired, without_pairs}
 use Rattle.pt_changes.proofs.Listed.{any_id, filter_has, filter_meets, id_any, ids_have, no_fixed}

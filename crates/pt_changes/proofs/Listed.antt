@@ -12,7 +12,7 @@ use Rattle.prdb_layout.proofs.Changed.{by_id}
 use Rattle.entry_scans.specs.Pages.{least_id}
 use Rattle.pt_service.specs.State.{ids, numbers_from}
 use Rattle.pt_service.specs.Turning.{is_fixed}
-use Rattle.pt_database.proofs.Ordered.{InRange, Rises}
+use Rattle.pt_looks.proofs.Ordered.{InRange, Rises}
 
 -- ---- what is in a list
 

@@ -8,9 +8,9 @@ use Rattle.prdb_layout.specs.Registry.{Registry, IsRegistry}
 use Rattle.prdb_layout.specs.State.{PrEntry}
 use Rattle.prdb_lists.specs.Members.{Members}
 use Rattle.prdb_finds.specs.Records.{Holds}
-use Rattle.pt_database.specs.States.{OfStates, members_of}
-use Rattle.pt_database.proofs.Ordered.{list_is}
-use Rattle.pt_database.proofs.Pairs.{entry_range, is_there}
+use Rattle.pt_looks.specs.States.{OfStates, members_of}
+use Rattle.pt_looks.proofs.Ordered.{list_is}
+use Rattle.pt_looks.proofs.Pairs.{entry_range, is_there}
 use Rattle.pt_changes.specs.Leaving.{is_property, property}
 
 abbrev pub is_owned : ℤ → PrEntry → Bool

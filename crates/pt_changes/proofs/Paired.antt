@@ -16,9 +16,9 @@ use Rattle.prdb_members.specs.Changes.{after_join, after_part}
 use Rattle.pt_calls.specs.declared.answers.PtAnswer.TheVariants as answer
 use Rattle.pt_service.specs.Meaning.{Answers, Join, Makes, NoCall, Part, Refuses, Verdict, joins, of_pair, parts, reply_by}
 use Rattle.pt_service.specs.State.{State, is_group}
-use Rattle.pt_database.specs.States.{OfStates, members_of}
-use Rattle.pt_database.proofs.Ended.{PairFault}
-use Rattle.pt_database.proofs.States.{known_some, of_both, of_map, of_same}
+use Rattle.pt_looks.specs.States.{OfStates, members_of}
+use Rattle.pt_looks.proofs.Ended.{PairFault}
+use Rattle.pt_looks.proofs.States.{known_some, of_both, of_map, of_same}
 use Rattle.pt_changes.specs.Standing.{IsMeantOf}
 use Rattle.pt_changes.proofs.Decided.{OfImages, made_so, refused_so}
 

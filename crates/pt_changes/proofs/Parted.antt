@@ -14,9 +14,9 @@ use Rattle.prdb_lists.specs.Members.{are_paired}
 use Rattle.prdb_lists.proofs.Both.{has_without, without_still}
 use Rattle.prdb_lists.proofs.RecordsKeep.{int_other}
 use Rattle.pt_service.specs.State.{State, elements, is_paired, ids}
-use Rattle.pt_database.specs.States.{HoldsState, members_of}
-use Rattle.pt_database.proofs.Ordered.{InRange, Rises}
-use Rattle.pt_database.proofs.Pairs.{entry_range, paired_is, paired_there}
+use Rattle.pt_looks.specs.States.{HoldsState, members_of}
+use Rattle.pt_looks.proofs.Ordered.{InRange, Rises}
+use Rattle.pt_looks.proofs.Pairs.{entry_range, paired_is, paired_there}
 use Rattle.pt_changes.specs.Leaving.{MayPart, without_paired, without_pairs}
 use Rattle.pt_changes.proofs.Listed.{filter_has, filter_meets, ids_have, ids_rise, in_first, in_none, in_rest, rises_above}
 

@@ -16,7 +16,7 @@ use Rattle.prdb_finds.specs.Records.{Holds}
 use Rattle.prdb_members.specs.Changes.{after_part}
 use Rattle.pt_service.specs.State.{State, elements, is_group}
 use Rattle.pt_service.proofs.Frames.{looked}
-use Rattle.pt_database.specs.States.{HoldsState, OfStates, members_of}
+use Rattle.pt_looks.specs.States.{HoldsState, OfStates, members_of}
 use Rattle.pt_changes.specs.Ends.{Always, HasChangeCause, Leaves, Makes}
 use Rattle.pt_changes.specs.Leaving.{MayPart, after_parted, after_parts, without_paired, without_pairs}
 use Rattle.pt_changes.proofs.Decided.{OfImages}

@@ -4,7 +4,7 @@ use Rattle.db_image.specs.declared.faults.RecordFault.{RecordFault}
 use Rattle.db_blocks.specs.Ends.{HasCause}
 use Rattle.prdb_layout.specs.Registry.{Registry}
 use Rattle.pt_service.specs.State.{State}
-use Rattle.pt_database.specs.States.{HoldsState}
+use Rattle.pt_looks.specs.States.{HoldsState}
 
 -- a bad record is answered only where the bytes hold no state in which the change may be made
 abbrev pub HasChangeCause : Option (List ℕ) → (State → Type 0) → RecordFault → Type 0

@@ -7,7 +7,7 @@ use Rattle.prdb_entries.specs.Changes.{after_insert, after_replace}
 use Rattle.prdb_members.specs.Changes.{after_join, after_part}
 use Rattle.pt_service.specs.Meaning.{Change, Maxima, Enter, Refit, Leave, Turn, Join, Part, Verdict, Makes, reply_by}
 use Rattle.pt_service.specs.State.{State}
-use Rattle.pt_database.specs.States.{HoldsState}
+use Rattle.pt_looks.specs.States.{HoldsState}
 use Rattle.pt_changes.specs.Leaving.{after_leave}
 use Rattle.pt_changes.specs.Turning.{after_turn}
 

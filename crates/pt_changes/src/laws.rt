@@ -3,7 +3,7 @@ ghost use Rattle.std.specs.Prelude.{◌≡◌, ℕ, ℤ, List, IsSome, false};
 ghost use Rattle.pt_service.specs.Meaning.{Leave, state_after};
 ghost use Rattle.pt_service.specs.State.{State};
 ghost use Rattle.pt_service.specs.Turning.{is_fixed};
-ghost use Rattle.pt_database.specs.States.{HoldsState};
+ghost use Rattle.pt_looks.specs.States.{HoldsState};
 ghost use Rattle.pt_changes.specs.Leaving.{after_leave};
 
 /// The image after an entry has left holds the state after it.

@@ -16,7 +16,7 @@ use prdb_entries::remove;
 use prdb_members::{elements, remove_pair};
 use prdb_turns::give;
 use pt_calls::PtAnswer;
-use pt_database::is_unknown;
+use pt_looks::is_unknown;
 use pt_service::{NO_ENTRY, NOT_PERMITTED, is_group, tell};
 use std::alloc::Global;
 

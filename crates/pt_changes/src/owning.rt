@@ -2,7 +2,7 @@
 ghost use Rattle.std.specs.Prelude.{◌≡◌, ◌≤◌, IfOk, IfErr, IsErrOf};
 ghost use Rattle.db_blocks.specs.Ends.{OnlyLooks};
 ghost use Rattle.prdb_finds.specs.Ends.{HasItsCause};
-ghost use Rattle.pt_database.specs.States.{OfStates};
+ghost use Rattle.pt_looks.specs.States.{OfStates};
 ghost use Rattle.pt_changes.specs.Leaving.{property};
 
 use db_image::{Draft, ImageRead, RecordFault};

@@ -10,7 +10,7 @@ use crate::fixed::has_users_without_pairs;
 use db_image::{CallEnd, Draft, ImageRead, RecordFault};
 use prdb_members::{add_pair, remove_pair};
 use pt_calls::PtAnswer;
-use pt_database::{is_in, pair_fault};
+use pt_looks::{is_in, pair_fault};
 use pt_service::{ID_EXISTS, NO_ENTRY, NOT_PERMITTED, tell};
 use std::alloc::Global;
 

@@ -1,9 +1,4 @@
-pub mod Counted
-pub mod Ended
-pub mod Many
-pub mod Ordered
-pub mod Owned
-pub mod Paged
-pub mod Pairs
-pub mod Spelled
-pub mod States
+pub mod Costs
+pub mod Keyed
+pub mod Lawful
+pub mod Served

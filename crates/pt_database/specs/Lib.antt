@@ -1,4 +1,6 @@
-pub mod Ends
-pub mod Owned
-pub mod Pages
-pub mod States
+pub mod Costs
+pub mod GrammarLaws
+pub mod Laws
+pub mod Service
+pub mod ServiceLaws
+pub mod Words

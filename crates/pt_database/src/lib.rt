@@ -1,12 +1,11 @@
-//! The protection database over drafts, entries and pairs: the calls that only look.
+//! The protection database as a service over drafts.
 #![tactic(auto)]
 
-mod finds;
-mod looks;
-mod pages;
+mod laws;
+mod service;
 
-pub use finds::{entry_of, is_in};
-pub use looks::{
-    get_cps, is_member_of, is_unknown, list_elements, list_entry, list_owned, pair_fault,
+pub use laws::{
+    an_image_holds_one_protection_state, protection_calls_are_answered, protection_calls_are_meant,
+    protection_look_ups_have_chains, protection_words_name_calls,
 };
-pub use pages::list_entries;
+pub use service::{PtService, serve_protection};

@@ -9,7 +9,7 @@ use Rattle.prdb_members.proofs.Ends.{join_holds, part_holds}
 use Rattle.pt_service.specs.Meaning.{Answers, Change, Enter, Join, Leave, Makes, Maxima, NoCall, Part, Refit, Refuses, Turn, Verdict, asked, state_after, state_by, verdict}
 use Rattle.pt_service.specs.State.{State}
 use Rattle.pt_service.specs.Turning.{with_turned}
-use Rattle.pt_database.specs.States.{HoldsState, members_of}
+use Rattle.pt_looks.specs.States.{HoldsState, members_of}
 use Rattle.pt_changes.proofs.Left.{left_holds}
 use Rattle.pt_changes.specs.Turning.{after_turn}
 use Rattle.pt_turns.proofs.Whole.{turned_holds}

@@ -6,7 +6,7 @@ use Rattle.prdb_lists.specs.Members.{MayJoin, MayLeave}
 use Rattle.pt_service.specs.Meaning.{Answers, Change, Enter, Join, Leave, Makes, Maxima, NoCall, Part, Refit, Refuses, Turn, Verdict, of_entry}
 use Rattle.pt_service.specs.State.{State}
 use Rattle.pt_service.specs.Turning.{is_fixed}
-use Rattle.pt_database.specs.States.{members_of}
+use Rattle.pt_looks.specs.States.{members_of}
 use Rattle.pt_changes.specs.Turning.{MayTurn}
 
 -- ---- changes that may be made

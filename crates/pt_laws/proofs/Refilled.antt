@@ -15,7 +15,7 @@ use Rattle.prdb_finds.proofs.HeadTold.{told_maxima}
 use Rattle.prdb_entries.specs.Changes.{after_replace}
 use Rattle.prdb_entries.proofs.Empty.{unchanged}
 use Rattle.pt_service.specs.State.{State}
-use Rattle.pt_database.specs.States.{HoldsState, members_of}
+use Rattle.pt_looks.specs.States.{HoldsState, members_of}
 
 pub replace_same : (image : List ℕ) (s : State) (e : PrEntry) → HoldsState image s → s.registry.entry e.id ≡ Some e
     → after_replace e.id e image ≡ image

@@ -17,7 +17,7 @@ use Rattle.pt_service.specs.State.{State, is_group, is_id}
 use Rattle.pt_service.proofs.Entered.{group_of, made_record, may_enter, raised_are, unused_is}
 use Rattle.pt_service.proofs.Ownership.{for_is}
 use Rattle.pt_service.proofs.Unused.{behind_is}
-use Rattle.pt_database.proofs.Pairs.{some_is}
+use Rattle.pt_looks.proofs.Pairs.{some_is}
 use Rattle.pt_laws.proofs.Possible.{CanEnter, IsSound, either}
 
 -- ---- the id that was found

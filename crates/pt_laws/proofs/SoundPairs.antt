@@ -11,7 +11,7 @@ use Rattle.pt_service.specs.Meaning.{Join, Leave, Makes, Part, Refuses, Verdict,
 use Rattle.pt_service.specs.Refusals as rule
 use Rattle.pt_service.specs.State.{State, is_group}
 use Rattle.pt_service.specs.Turning.{is_fixed}
-use Rattle.pt_database.proofs.Pairs.{is_there, some_is}
+use Rattle.pt_looks.proofs.Pairs.{is_there, some_is}
 use Rattle.pt_laws.proofs.Possible.{IsSound, either, of_one}
 
 -- ---- both are there

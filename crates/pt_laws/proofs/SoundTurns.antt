@@ -15,7 +15,7 @@ use Rattle.pt_service.specs.Names.{has_colon, with_front}
 use Rattle.pt_service.specs.State.{State, is_group, is_id}
 use Rattle.pt_service.specs.Turning.{front_of_entry, front_under, given_or, has_equal_names, has_long_name, is_fixed, is_misnamed, name_after, new_name, turn_fault, turns_its_groups}
 use Rattle.pt_service.proofs.Entered.{group_of, raised_are}
-use Rattle.pt_database.proofs.Pairs.{is_there}
+use Rattle.pt_looks.proofs.Pairs.{is_there}
 use Rattle.pt_changes.specs.Turning.{MayRename, MayRenumber}
 use Rattle.pt_turns.proofs.Anyone.{any_some}
 use Rattle.pt_turns.proofs.Equal.{after_own}

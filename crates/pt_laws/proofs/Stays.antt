@@ -9,7 +9,7 @@ use Rattle.prdb_layout.specs.State.{PrEntry}
 use Rattle.prdb_layout.proofs.Changed.{under_same}
 use Rattle.pt_service.specs.Meaning.{Answers, Change, Enter, Join, Leave, Makes, Maxima, NoCall, Part, Refit, Refuses, Turn, Verdict, asked, disowned, state_after, state_by, verdict}
 use Rattle.pt_service.specs.State.{State}
-use Rattle.pt_database.specs.States.{HoldsState}
+use Rattle.pt_looks.specs.States.{HoldsState}
 use Rattle.pt_changes.specs.Standing.{image_after, image_by}
 use Rattle.pt_laws.proofs.Possible.{CanMake, IsSound}
 use Rattle.pt_laws.proofs.Refilled.{maxima_same, replace_same}

@@ -9,7 +9,7 @@ use Rattle.prdb_finds.proofs.Told.{registry_is}
 use Rattle.prdb_scans.specs.Told.{members_in}
 use Rattle.prdb_scans.proofs.Told.{pairs_told}
 use Rattle.pt_service.specs.State.{State, first_state}
-use Rattle.pt_database.specs.States.{HoldsState, members_of}
+use Rattle.pt_looks.specs.States.{HoldsState, members_of}
 use Rattle.pt_laws.specs.Told.{state_in}
 
 pub state_told : (image : List ℕ) (s : State) → HoldsState image s → s ≡ state_in (whole image)

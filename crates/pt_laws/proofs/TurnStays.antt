@@ -21,7 +21,7 @@ use Rattle.prdb_turns.specs.Owners.{after_gives, with_owner, with_owners}
 use Rattle.prdb_turns.specs.Refits.{after_refit, with_refit}
 use Rattle.prdb_turns.specs.Renumbering.{after_renumber, renumbered}
 use Rattle.prdb_turns.specs.Turning.{after_id, after_turn as after_steps, first, is_under as is_named_under, named, second}
-use Rattle.pt_database.specs.States.{HoldsState, members_of}
+use Rattle.pt_looks.specs.States.{HoldsState, members_of}
 use Rattle.pt_changes.specs.Turning.{after_turn, its_in}
 use Rattle.pt_turns.specs.Under.{is_one_under, is_under}
 use Rattle.pt_turns.proofs.Equal.{after_by, after_own}

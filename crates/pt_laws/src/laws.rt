@@ -3,7 +3,7 @@ ghost use Rattle.std.specs.Prelude.{◌≡◌, ◌≤◌, ℕ, List, [], length}
 ghost use Rattle.prdb_finds.specs.Records.{whole};
 ghost use Rattle.pt_service.specs.Meaning.{Verdict, asked, state_by, verdict};
 ghost use Rattle.pt_service.specs.State.{State, first_state};
-ghost use Rattle.pt_database.specs.States.{HoldsState};
+ghost use Rattle.pt_looks.specs.States.{HoldsState};
 ghost use Rattle.pt_changes.specs.Standing.{image_by};
 ghost use Rattle.pt_laws.specs.Told.{state_in};
 

@@ -10,7 +10,7 @@ use Rattle.prdb_layout.specs.Registry.{Registry, IsRegistry}
 use Rattle.prdb_layout.specs.State.{PrEntry}
 use Rattle.entry_scans.specs.Pages.{least_id}
 use Rattle.pt_service.specs.State.{entries, entries_from, ids, numbers_from}
-use Rattle.pt_database.proofs.Pairs.{entry_range, is_there}
+use Rattle.pt_looks.proofs.Pairs.{entry_range, is_there}
 
 abbrev there : Registry → ℤ → List PrEntry
 there r = λ id. option_to_list (r.entry id)

@@ -26,8 +26,8 @@ use Rattle.pt_service.proofs.Entered.{raised_are}
 use Rattle.prdb_turns.specs.Fronts.{ids_by_block}
 use Rattle.prdb_turns.specs.Turning.{HasTurn, IsTurned, MayTurn as MaySteps, is_under as is_named_under}
 use Rattle.prdb_turns.proofs.Refits.{some_at}
-use Rattle.pt_database.specs.States.{HoldsState, OfStates, members_of}
-use Rattle.pt_database.proofs.Pairs.{is_there}
+use Rattle.pt_looks.specs.States.{HoldsState, OfStates, members_of}
+use Rattle.pt_looks.proofs.Pairs.{is_there}
 use Rattle.pt_changes.proofs.Decided.{done_made, refused_so}
 use Rattle.pt_turns.specs.Deciding.{IsDecided}
 use Rattle.pt_changes.specs.Standing.{IsMeantOf}

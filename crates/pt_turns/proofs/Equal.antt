@@ -11,7 +11,7 @@ use Rattle.prdb_layout.specs.State.{PrEntry, front_of}
 use Rattle.pt_service.specs.Names.{has_colon, with_front}
 use Rattle.pt_service.specs.State.{ids}
 use Rattle.pt_service.specs.Turning.{has_equal_names, name_after}
-use Rattle.pt_database.proofs.Pairs.{is_there}
+use Rattle.pt_looks.proofs.Pairs.{is_there}
 use Rattle.pt_turns.specs.Deciding.{changed_share, is_shared, shares_one}
 use Rattle.pt_turns.specs.Under.{is_one_under, under}
 use Rattle.pt_turns.proofs.Anyone.{any_kept, any_some, any_which, which_kept}

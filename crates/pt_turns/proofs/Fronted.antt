@@ -11,7 +11,7 @@ use Rattle.pt_service.specs.Names.{with_front}
 use Rattle.pt_service.proofs.Refitted.{some_with}
 use Rattle.prdb_turns.specs.Fronts.{MayFronts, fronted, with_fronts}
 use Rattle.prdb_turns.specs.Refits.{MayRefit, with_refit}
-use Rattle.pt_database.proofs.Pairs.{is_there, some_is}
+use Rattle.pt_looks.proofs.Pairs.{is_there, some_is}
 use Rattle.pt_turns.specs.Under.{is_under}
 use Rattle.pt_turns.proofs.Fronts.{front_again, is_colon, parts_of}
 use Rattle.pt_turns.proofs.Named.{front_twice, id_of, record_with, under_parts}

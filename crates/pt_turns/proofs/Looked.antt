@@ -9,9 +9,9 @@ use Rattle.entry_scans.specs.Lists.{IsListOf}
 use Rattle.prdb_lists.specs.Members.{Members}
 use Rattle.prdb_finds.specs.Records.{Holds}
 use Rattle.pt_service.specs.State.{entries}
-use Rattle.pt_database.specs.States.{OfStates, members_of}
-use Rattle.pt_database.proofs.Ordered.{list_is}
-use Rattle.pt_database.proofs.Pairs.{entry_range, is_there}
+use Rattle.pt_looks.specs.States.{OfStates, members_of}
+use Rattle.pt_looks.proofs.Ordered.{list_is}
+use Rattle.pt_looks.proofs.Pairs.{entry_range, is_there}
 use Rattle.pt_turns.specs.Under.{is_one_under, is_under, under}
 use Rattle.pt_turns.proofs.Anyone.{any_none, any_some}
 

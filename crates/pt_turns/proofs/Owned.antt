@@ -30,9 +30,9 @@ use Rattle.prdb_members.specs.Owned.{AreInOrder, ids_along}
 use Rattle.pt_service.specs.State.{State, elements, ids, numbers_from}
 use Rattle.prdb_turns.specs.Owners.{AreItsOwn, IsOwnedUser}
 use Rattle.prdb_turns.proofs.Owned.{owner_block}
-use Rattle.pt_database.specs.States.{HoldsState, members_of}
-use Rattle.pt_database.proofs.Ordered.{Rises}
-use Rattle.pt_database.proofs.Pairs.{elements_are, some_is}
+use Rattle.pt_looks.specs.States.{HoldsState, members_of}
+use Rattle.pt_looks.proofs.Ordered.{Rises}
+use Rattle.pt_looks.proofs.Pairs.{elements_are, some_is}
 use Rattle.pt_changes.specs.Leaving.{is_property}
 use Rattle.pt_changes.specs.Turning.{groups_in, its_in, users_of}
 use Rattle.pt_turns.proofs.Anyone.{any_kept, which_kept}

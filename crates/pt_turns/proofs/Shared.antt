@@ -19,7 +19,7 @@ use Rattle.prdb_layout.specs.declared.records.PrEntry.{PrEntry as CodeEntry}
 use Rattle.pt_service.specs.Names.{has_colon}
 use Rattle.pt_service.specs.State.{State}
 use Rattle.pt_service.specs.Turning.{has_equal_names, has_long_name, owns_another, turns_its_groups}
-use Rattle.pt_database.specs.States.{HoldsState, OfStates}
+use Rattle.pt_looks.specs.States.{HoldsState, OfStates}
 use Rattle.pt_turns.specs.Deciding.{is_shared, name_fault, name_then, shares_one}
 use Rattle.pt_turns.specs.Under.{under}
 use Rattle.pt_turns.proofs.Equal.{changed_tell, none_equal}

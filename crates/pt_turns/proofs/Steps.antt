@@ -20,7 +20,7 @@ use Rattle.prdb_turns.proofs.Given.{gives_may}
 use Rattle.prdb_turns.proofs.Refits.{refit_holds, refits_hold}
 use Rattle.prdb_turns.proofs.Steps.{whole_holds}
 use Rattle.prdb_turns.proofs.Turned.{id_law}
-use Rattle.pt_database.proofs.Pairs.{is_there}
+use Rattle.pt_looks.proofs.Pairs.{is_there}
 use Rattle.pt_changes.specs.Turning.{MayRenumber, its_in}
 use Rattle.pt_turns.specs.Under.{is_one_under, is_under}
 use Rattle.pt_turns.proofs.Between.{first_other, first_own, moved_entry, second_other, second_own}

@@ -13,7 +13,7 @@ use Rattle.pt_service.specs.Names.{with_front}
 use Rattle.pt_service.specs.Turning.{is_fixed, moved, name_after, turned}
 use Rattle.prdb_turns.specs.Fronts.{fronted}
 use Rattle.prdb_turns.specs.Turning.{third, with_turn}
-use Rattle.pt_database.proofs.Pairs.{is_there, some_is}
+use Rattle.pt_looks.proofs.Pairs.{is_there, some_is}
 use Rattle.pt_changes.specs.Turning.{MayRenumber, MayTurn}
 use Rattle.pt_turns.specs.Under.{is_one_under, is_under}
 use Rattle.pt_turns.proofs.Between.{midway, third_gone, third_maxima, third_other, third_own}

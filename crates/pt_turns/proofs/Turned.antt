@@ -7,8 +7,8 @@ use Rattle.prdb_layout.specs.State.{PrEntry, front_of}
 use Rattle.pt_service.specs.Names.{has_colon, is_name_of, with_front}
 use Rattle.pt_service.specs.State.{State, is_group, is_id}
 use Rattle.pt_service.specs.Turning.{front_of_entry, given_or, has_equal_names, has_long_name, is_fixed, new_name, turn_fault, turns_its_groups}
-use Rattle.pt_database.specs.States.{OfStates}
-use Rattle.pt_database.proofs.States.{of_both, of_map}
+use Rattle.pt_looks.specs.States.{OfStates}
+use Rattle.pt_looks.proofs.States.{of_both, of_map}
 use Rattle.pt_turns.specs.Deciding.{IsDecided, given_fault, misnamed_by, name_by, name_fault}
 use Rattle.pt_turns.specs.declared.deciding.Turn.{Turn}
 

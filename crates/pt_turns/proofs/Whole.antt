@@ -14,8 +14,8 @@ use Rattle.prdb_turns.specs.Owners.{after_gives}
 use Rattle.prdb_turns.specs.Refits.{after_refit}
 use Rattle.prdb_turns.specs.Turning.{MayTurn as MaySteps, IsTurned, after_id, after_turn as after_steps, first, is_under as is_named_under, named, second, third, with_pairs, with_turn}
 use Rattle.prdb_turns.proofs.Refits.{refits_hold}
-use Rattle.pt_database.specs.States.{HoldsState, members_of}
-use Rattle.pt_database.proofs.Pairs.{is_there}
+use Rattle.pt_looks.specs.States.{HoldsState, members_of}
+use Rattle.pt_looks.proofs.Pairs.{is_there}
 use Rattle.pt_changes.specs.Turning.{MayTurn, after_turn, its_in}
 use Rattle.pt_turns.proofs.Grouped.{groups_are, not_empty}
 use Rattle.pt_turns.proofs.Moved.{before_same}

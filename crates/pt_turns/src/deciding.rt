@@ -10,7 +10,7 @@ ghost use Rattle.prdb_layout.specs.State.{front_of};
 ghost use Rattle.prdb_finds.specs.Ends.{HasItsCause};
 ghost use Rattle.pt_service.specs.Names.{has_colon, is_name_of};
 ghost use Rattle.pt_service.specs.Turning.{front_of_entry, given_or, has_equal_names, has_long_name, owns_another, turns_its_groups};
-ghost use Rattle.pt_database.specs.States.{OfStates};
+ghost use Rattle.pt_looks.specs.States.{OfStates};
 ghost use Rattle.pt_service.specs.State.{is_group, is_id};
 ghost use Rattle.pt_turns.specs.Deciding.{IsDecided, given_fault, is_shared, misnamed_by, name_by, name_fault, shares_one};
 
@@ -20,7 +20,7 @@ use db_image::{Draft, ImageRead, RecordFault};
 use prdb_layout::PrEntry;
 use prdb_turns::with_front;
 use pt_changes::is_fixed;
-use pt_database::entry_of;
+use pt_looks::entry_of;
 use pt_service::{
     BAD_ARGUMENT, BAD_NAME, ID_EXISTS, NAME_EXISTS, NO_ENTRY, NOT_PERMITTED, front_of, has_colon,
     is_group, is_id, is_name_of,

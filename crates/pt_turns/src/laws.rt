@@ -3,7 +3,7 @@ ghost use Rattle.std.specs.Prelude.{ℕ, ℤ, List};
 ghost use Rattle.prdb_layout.specs.State.{PrEntry};
 ghost use Rattle.pt_service.specs.State.{State};
 ghost use Rattle.pt_service.specs.Turning.{with_turned};
-ghost use Rattle.pt_database.specs.States.{HoldsState};
+ghost use Rattle.pt_looks.specs.States.{HoldsState};
 ghost use Rattle.pt_changes.specs.Turning.{MayTurn, after_turn};
 
 /// The image after an entry got another name, owner or id holds the state after it.

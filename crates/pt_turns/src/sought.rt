@@ -4,7 +4,7 @@ ghost use Rattle.std.specs.List.{list_any};
 ghost use Rattle.db_blocks.specs.Ends.{OnlyLooks};
 ghost use Rattle.prdb_finds.specs.Ends.{HasItsCause};
 ghost use Rattle.pt_service.specs.State.{entries};
-ghost use Rattle.pt_database.specs.States.{OfStates};
+ghost use Rattle.pt_looks.specs.States.{OfStates};
 ghost use Rattle.pt_turns.specs.Under.{under};
 
 use crate::names::{Renaming, is_after, is_under, len_after};

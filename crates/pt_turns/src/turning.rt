@@ -12,7 +12,7 @@ use db_image::{CallEnd, Draft, ImageRead, RecordFault};
 use prdb_finds::{maxima, set_maxima};
 use prdb_turns::turn;
 use pt_calls::PtAnswer;
-use pt_database::entry_of;
+use pt_looks::entry_of;
 use pt_service::{NO_ENTRY, lowered, raised, tell};
 use std::alloc::Global;
 

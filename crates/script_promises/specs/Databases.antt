@@ -1,8 +1,8 @@
 -- The databases that scripts speak of, by the kind of a cell.
 use Rattle.db_image.specs.CallWords.{CallWords}
 use Rattle.db_image.specs.Standing.{Standing}
-use Rattle.pt_protection.specs.Service.{protection_standing}
-use Rattle.pt_protection.specs.Words.{protection_words}
+use Rattle.pt_database.specs.Service.{protection_standing}
+use Rattle.pt_database.specs.Words.{protection_words}
 use Rattle.vl_database.specs.Service.{vl_standing}
 use Rattle.vl_database.specs.Words.{vl_words}
 use Rattle.cell_script.specs.declared.lines.Kind.{Kind}

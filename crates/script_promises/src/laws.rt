@@ -1,5 +1,5 @@
 //! Laws of scripts of one server: each is the clause of a call that does nothing.
-ghost use Rattle.pt_protection.specs.Service.{protection_standing};
+ghost use Rattle.pt_database.specs.Service.{protection_standing};
 ghost use Rattle.vl_database.specs.Service.{vl_standing};
 ghost use Rattle.script_laws.specs.Runs.{NamesCalls};
 ghost use Rattle.script_promises.specs.Databases.{databases};
@@ -10,7 +10,7 @@ use cell_model::{
     law_acknowledged_stay, law_announcements_grow, law_ok_is_acknowledged, law_replies_are_single,
     law_sites_are_single,
 };
-use pt_protection::{
+use pt_database::{
     an_image_holds_one_protection_state, protection_calls_are_answered, protection_calls_are_meant,
     protection_words_name_calls,
 };

@@ -6,7 +6,7 @@ use crate::draft_calls::Plan;
 use crate::station_calls::{Blocks, Kept};
 use crate::turns::Asked;
 use crate::{draft_calls, node_calls, station_calls, transfers};
-use pt_protection::PtService;
+use pt_database::PtService;
 use std::fmt;
 use thiserror::Error;
 use ubik_types::NoMemory;

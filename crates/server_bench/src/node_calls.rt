@@ -9,7 +9,7 @@ ghost use Rattle.server_bench.specs.Answers.{is_answer, answers};
 
 use crate::turns::{Asked, call_of};
 use disk_base::{Disk, DiskEnd, FileNo, MemDisk, RoomEnd, StopDisk};
-use pt_protection::PtService;
+use pt_database::PtService;
 use std::alloc::Global;
 use ubik_node::{Node, NodeEvent, Output, Outputs, Reply, StepEnd};
 use ubik_types::{Bytes, Cell, Host, NoMemory};

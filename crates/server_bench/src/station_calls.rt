@@ -11,7 +11,7 @@ use crate::measures::Fault;
 use crate::node_calls::{MOMENT, OPENED, filled};
 use crate::turns::{Asked, call_of};
 use disk_base::{Disk, MemDisk};
-use pt_protection::PtService;
+use pt_database::PtService;
 use server_rounds::{Sending, Sendings, Turn, TurnEnd};
 use server_station::{GhostJournal, Journal, Keeper, Limits, Opening, Seat, Station};
 use std::alloc::Global;

@@ -7,7 +7,7 @@ use crate::tops::{Given, Left, WORDS, run};
 use disk_base::MemDisk;
 use io_base::{ListClock, MemFrame, MemSent, ThreadSpawner};
 use node_server::{ServerKind, ServerRun};
-use pt_protection::PtService;
+use pt_database::PtService;
 use server_rounds::{Sending, Sendings, Turn, TurnEnd};
 use server_station::{GhostJournal, Journal, JournalItem, Opening, Seat, Station};
 use std::alloc::Global;

@@ -5,7 +5,7 @@ ghost use Rattle.ubik_types.specs.Moment.{IsMoment};
 
 use db_image::DraftService;
 use disk_base::{Disk, MemDisk, StopDisk};
-use pt_protection::PtService;
+use pt_database::PtService;
 use server_station::{Keeper, Opening, Station};
 use std::alloc::Global;
 use std::process::Abort;

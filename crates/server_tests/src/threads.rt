@@ -1,6 +1,6 @@
 //! Stations may be handed to another thread, over each disk that there is.
 use disk_base::{FileDisk, MemDisk, Mirrored};
-use pt_protection::PtService;
+use pt_database::PtService;
 use server_station::{Keeper, Opening, Station};
 
 fn goes<T: Send>() {}

@@ -10,7 +10,7 @@ use crate::wires::Wire;
 use cell_script::{Kind, Line, line_meaning};
 use db_image::DraftWords;
 use disk_base::{Disk, MemDisk, StopDisk};
-use pt_protection::PtService;
+use pt_database::PtService;
 use server_station::Opening;
 use std::alloc::Global;
 use std::marker::Brand;

@@ -7,7 +7,7 @@ use afs_words::{Tool, Words, read_words};
 use db_image::{DraftService, VecImage};
 use disk_base::MemSink;
 use io_base::{Link, MemLink};
-use pt_protection::PtService;
+use pt_database::PtService;
 use pts_tool::run_pts;
 use std::alloc::Global;
 use thiserror::Error;

@@ -14,7 +14,7 @@ use Rattle.cell_runs.specs.declared.limits.TheConstants.{MAX_LINES}
 use Rattle.cell_runs.specs.Script.{Cell, Told, servers_of}
 use Rattle.cell_runs.specs.ScriptDatabase.{Databases}
 use Rattle.cell_sites.specs.declared.cells.OpenCell.{OpenCell}
-use Rattle.pt_protection.specs.declared.service.PtService.{PtService}
+use Rattle.pt_database.specs.declared.service.PtService.{PtService}
 use Rattle.vl_database.specs.declared.service.VlService.{VlService}
 use Rattle.script_promises.specs.Databases.{databases, standings}
 use Rattle.ubik_cell.specs.Lines.{AreHeld, CellStandsFor, IsSoundRun, Leaves, LineTold, ShortLine, ToldLine, only, run_helds, sites_in}

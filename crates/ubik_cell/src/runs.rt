@@ -16,7 +16,7 @@ ghost use Rattle.ubik_cell.specs.ScriptRuns.{HasNoCell, IsEmptyScript, IsSoundSc
 use crate::scripts::{CellRun, RunEnd};
 use cell_script::Kind;
 use disk_base::{Disk, StopDisk};
-use pt_protection::PtService;
+use pt_database::PtService;
 use std::alloc::Global;
 use std::mem::replace;
 use ubik_types::NoMemory;

@@ -4,7 +4,7 @@ use Rattle.std.proofs.lemmas.Result.{err_from_is_err_and}
 use Rattle.db_blocks.proofs.Scanned.{drafts_then}
 use Rattle.pt_service.proofs.Frames.{looked}
 use Rattle.pt_service.proofs.Named.{passed_id}
-use Rattle.pt_database.proofs.Counted.{elements_told}
+use Rattle.pt_looks.proofs.Counted.{elements_told}
 use Rattle.pt_service.proofs.Frames.{drafts_so}
 use Rattle.pt_changes.proofs.Parting.{elements_same, parting_bytes, parting_fault, parting_holds, parting_more, parting_none}
 use Rattle.pt_changes.proofs.leaving.part_from_all.Goals as goal

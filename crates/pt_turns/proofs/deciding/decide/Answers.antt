@@ -6,7 +6,7 @@ use Rattle.std.proofs.lemmas.Int.{to_z-of_z}
 use Rattle.std.proofs.lemmas.Result.{err_from_is_err_and}
 use Rattle.prdb_layout.specs.RecordEnds.{seen}
 use Rattle.db_blocks.proofs.Scanned.{looks_then}
-use Rattle.pt_database.proofs.States.{looked_then}
+use Rattle.pt_looks.proofs.States.{looked_then}
 use Rattle.pt_turns.proofs.Turned.{decided_given, decided_misnamed, decided_named, decided_taken, decided_turns, given_id, name_fault_same, taken_same}
 use Rattle.pt_turns.proofs.deciding.decide.Goals as goal
 

@@ -4,7 +4,7 @@ use Rattle.std.specs.Int.{w32}
 use Rattle.std.proofs.lemmas.Int.{to_z-of_z}
 use Rattle.prdb_layout.specs.RecordEnds.{seen}
 use Rattle.db_blocks.proofs.Scanned.{looks_then}
-use Rattle.pt_database.proofs.States.{looked_then}
+use Rattle.pt_looks.proofs.States.{looked_then}
 use Rattle.pt_turns.proofs.Shared.{any_ok, kept_told, own_told}
 use Rattle.pt_turns.proofs.deciding.has_equal_names.Goals as goal
 

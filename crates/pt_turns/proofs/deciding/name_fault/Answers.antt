@@ -2,7 +2,7 @@ use Rattle.std.proofs.Common.{◌∙◌}
 use Rattle.std.proofs.lemmas.Result.{err_from_is_err_and}
 use Rattle.prdb_layout.specs.RecordEnds.{seen}
 use Rattle.db_blocks.proofs.Scanned.{looks_then}
-use Rattle.pt_database.proofs.States.{looked_then}
+use Rattle.pt_looks.proofs.States.{looked_then}
 use Rattle.pt_turns.proofs.Shared.{rule_equal, rule_long, rule_none, rule_turns}
 use Rattle.pt_turns.proofs.deciding.name_fault.Goals as goal
 

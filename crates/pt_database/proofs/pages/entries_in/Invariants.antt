@@ -1,5 +1,0 @@
-use Rattle.pt_database.proofs.Paged.{AreTold}
-use Rattle.pt_database.proofs.pages.entries_in.Given as goal
-
-abbrev pub invariant-loop-block : goal.invariant-loop-block
-invariant-loop-block l = AreTold l.blocks l.entries.items l.block-index

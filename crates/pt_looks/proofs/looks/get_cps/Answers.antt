@@ -1,0 +1,63 @@
+use Rattle.std.proofs.Common.{◌≤◌, length, refl, arith}
+use Rattle.std.specs.Prelude.{filter}
+use Rattle.std.proofs.lemmas.Int.{to_z-of_z}
+use Rattle.std.proofs.lemmas.Result.{err_from_is_err_and}
+use Rattle.prdb_layout.specs.State.{PrEntry}
+use Rattle.pt_calls.specs.declared.answers.PtAnswer.TheVariants as answer
+use Rattle.pt_service.specs.Meaning.{Answers, counts_for}
+use Rattle.pt_service.specs.State.{State, ids}
+use Rattle.pt_looks.proofs.Counted.{counts_few, counts_told, known_same}
+use Rattle.pt_looks.proofs.Ended.{known_ends, unknown_ends}
+use Rattle.pt_looks.proofs.Many.{err_many, long_same, no_disk_fault}
+use Rattle.pt_looks.proofs.States.{looked_then, of_same}
+use Rattle.pt_looks.proofs.looks.get_cps.Goals as goal
+
+pub returns-then-branch-clause-meant : goal.returns-then-branch-clause-meant
+returns-then-branch-clause-meant g c =
+    let fits = c.ranges.id in
+    let found = c.in_ok-is_unknown.ensures.found in
+    let none = rw c.if-branch.true at found in
+    unknown_ends c.args.d.now.bytes c.args.id (λ (s : State) (e : PrEntry). Answers (answer.Ids (filter (counts_for s c.args.id) ids))) _
+    (simp to_z-of_z at none) refl
+
+pub returns-clause-meant : goal.returns-clause-meant
+returns-clause-meant g c =
+    let fits = c.ranges.id in
+    let found = c.in_ok-is_unknown.ensures.found in
+    let some = rw c.if-branch.false at found in
+    let known = simp to_z-of_z at some in
+    let list = c.in_ok-ids.ensures.found in
+    let first = c.is_unknown.ensures.frame.same in
+    known_ends c.tell_ids.result c.args.d.now.bytes c.is_unknown.new.d.bytes c.args.id
+    (λ (s : State). filter (counts_for s c.args.id) ids) c.in_ok-ids.ids known first.bytes
+    (counts_told c.is_unknown.new.d.bytes c.args.id c.in_ok-ids.ids (simp to_z-of_z at list)
+    (known_same c.args.d.now.bytes c.is_unknown.new.d.bytes c.args.id first.bytes known))
+    (rw c.into_vec.ensures.value at c.tell_ids.ensures.told)
+
+pub returns-clause-fault : goal.returns-clause-fault
+returns-clause-fault g c =
+    let fits = c.ranges.id in
+    let found = c.in_ok-is_unknown.ensures.found in
+    let some = rw c.if-branch.false at found in
+    let known = simp to_z-of_z at some in
+    let list = c.in_ok-ids.ensures.found in
+    let same = c.cps.ensures.frame.same in
+    let first = c.is_unknown.ensures.frame.same in
+    err_many c.tell_ids.result c.args.d.now.bytes (length c.in_ok-ids.ids)
+    (rw c.into_vec.ensures.value at c.tell_ids.ensures.fault)
+    (of_same c.args.d.now.bytes c.is_unknown.new.d.bytes (λ (s : State). length c.in_ok-ids.ids ≤ 262143) first.bytes
+    (counts_few c.is_unknown.new.d.bytes c.cps.new.d.len c.args.id c.in_ok-ids.ids
+    (long_same c.is_unknown.new.d.bytes c.cps.new.d.bytes c.cps.new.d.len same.bytes c.len.ensures.told)
+    (omega (arith, same.len, first.len, c.requires)) (simp to_z-of_z at list)
+    (known_same c.args.d.now.bytes c.is_unknown.new.d.bytes c.args.id first.bytes known)))
+
+pub returns-clause-frame : goal.returns-clause-frame
+returns-clause-frame g c =
+    looked_then g.I.ImageRead c.args.d.now c.is_unknown.new.d c.cps.new.d _ _ _ c.is_unknown.ensures.frame
+    c.cps.ensures.frame (λ h. absurd (no_disk_fault c.tell_ids.result _ c.tell_ids.ensures.fault h))
+
+pub returns-in_err-ids-clause-frame : goal.returns-in_err-ids-clause-frame
+returns-in_err-ids-clause-frame g c =
+    let p = err_from_is_err_and c.from_residual-in_err-ids.result c.from_residual-in_err-ids.ensures.1 in
+    rw (p.1, p.2) (looked_then g.I.ImageRead c.args.d.now c.is_unknown.new.d c.cps.new.d _ _ _ c.is_unknown.ensures.frame
+    c.in_err-ids.ensures.frame (λ h. cc))

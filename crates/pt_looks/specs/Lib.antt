@@ -1,0 +1,4 @@
+pub mod Ends
+pub mod Owned
+pub mod Pages
+pub mod States

@@ -1,4 +1,0 @@
-pub mod Costs
-pub mod Keyed
-pub mod Lawful
-pub mod Served

@@ -1,5 +1,0 @@
-use Rattle.pt_protection.proofs.Lawful.{answers_calls}
-use Rattle.pt_protection.proofs.laws.protection_calls_are_answered.Goals as goal
-
-pub returns : goal.returns
-returns c = answers_calls

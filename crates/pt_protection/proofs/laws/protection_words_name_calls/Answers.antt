@@ -1,5 +1,0 @@
-use Rattle.pt_protection.proofs.Lawful.{names_calls}
-use Rattle.pt_protection.proofs.laws.protection_words_name_calls.Goals as goal
-
-pub returns : goal.returns
-returns c = names_calls

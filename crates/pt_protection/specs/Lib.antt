@@ -1,6 +1,0 @@
-pub mod Costs
-pub mod GrammarLaws
-pub mod Laws
-pub mod Service
-pub mod ServiceLaws
-pub mod Words
