@@ -4,7 +4,7 @@ use Rattle.std.specs.Prelude.{◌≤ℤ◌}
 use Rattle.std.proofs.lemmas.Bool.{false_from_ne_true}
 use Rattle.db_image.specs.declared.faults.RecordFault.{RecordFault}
 use Rattle.db_blocks.specs.Ascending.{first_blocks, numbers_met}
-use Rattle.db_blocks.specs.Blocks.{block_in as db_block_in, kind_of}
+use Rattle.db_blocks.specs.Blocks.{kind_of}
 use Rattle.db_blocks.proofs.Order.{AreApart, IsOrder, order_behind, order_least, order_of}
 use Rattle.prdb_layout.specs.Blocks.{block_count}
 use Rattle.prdb_layout.specs.Records.{Holds, IsLaidOut, block_in, entry_in, whole}
@@ -17,20 +17,15 @@ use Rattle.entry_scans.proofs.Told.{sought_from, sought_parts}
 
 -- ---- blocks
 
--- a block is the same, however it is named
-pub same_block : (image : List ℕ) (k : ℕ) → db_block_in 2112 image k ≡ block_in image k
-unfolding block_in db_block_in
-same_block image k = refl
-
 -- the scan's test and key of a block, and the id in it
 abbrev test_of : (PrEntry → Bool) → List ℕ → ℕ → Bool
-test_of test image k = is_sought test (db_block_in 2112 image k)
+test_of test image k = is_sought test (block_in image k)
 
 abbrev key_of : List ℕ → ℕ → ℕ
-key_of image k = rank_in (db_block_in 2112 image k)
+key_of image k = rank_in (block_in image k)
 
 abbrev id_of : List ℕ → ℕ → ℤ
-id_of image k = (entry_in (db_block_in 2112 image k)).id
+id_of image k = (entry_in (block_in image k)).id
 
 -- a block of an entry that meets the test
 record IsMet (test : PrEntry → Bool) (r : Registry) (block : List ℕ) : Type 0 where
@@ -39,18 +34,13 @@ record IsMet (test : PrEntry → Bool) (r : Registry) (block : List ℕ) : Type 
   met : test (entry_in block) ≡ true
   id : IsId (entry_in block).id
 
-met_block : (test : PrEntry → Bool) (r : Registry) (image : List ℕ) (k : ℕ) → IsRegistry r → IsLaidOut image r → k < block_count image
+met_at : (test : PrEntry → Bool) (r : Registry) (image : List ℕ) (k : ℕ) → IsRegistry r → IsLaidOut image r → k < block_count image
     → test_of test image k ≡ true → IsMet test r (block_in image k)
-met_block test r image k valid laid below is =
+met_at test r image k valid laid below is =
     let block = block_in image k in
-    let p = sought_parts test block (subst (λ (b : List ℕ). is_sought test b ≡ true) (same_block image k) is) in
+    let p = sought_parts test block is in
     let at = laid.there k below p.0 in
     record { kind = p.0; there = at; met = p.1; id = (valid.records (entry_in block).id (entry_in block) at).fields.id }
-
-met_at : (test : PrEntry → Bool) (r : Registry) (image : List ℕ) (k : ℕ) → IsRegistry r → IsLaidOut image r → k < block_count image
-    → test_of test image k ≡ true → IsMet test r (db_block_in 2112 image k)
-met_at test r image k valid laid below is =
-    subst (IsMet test r) (sym (same_block image k)) (met_block test r image k valid laid below is)
 
 -- an entry that meets the test has one
 record IsAt (test : PrEntry → Bool) (image : List ℕ) (id : ℤ) (k : ℕ) : Type 0 where
@@ -61,25 +51,22 @@ record IsAt (test : PrEntry → Bool) (image : List ℕ) (id : ℤ) (k : ℕ) : 
 found_at : (test : PrEntry → Bool) (r : Registry) (image : List ℕ) (id : ℤ) (f : PrEntry) → IsRegistry r → IsLaidOut image r
     → r.entry id ≡ Some f → test f ≡ true → (k : ℕ) × IsAt test image id k
 found_at test r image id f valid laid at met =
-    let o = laid.only id f at in
-    let same = sym (same_block image o.0) in (
+    let o = laid.only id f at in (
       o.0,
       record {
         below = o.1;
-        met = subst (λ (b : List ℕ). is_sought test b ≡ true) same (sought_from test (block_in image o.0) o.2 (ap test o.3 ∙ met));
-        own = subst (λ (b : List ℕ). (entry_in b).id ≡ id) same (ap (λ (e : PrEntry). e.id) o.3 ∙ valid.ids id f at);
+        met = sought_from test (block_in image o.0) o.2 (ap test o.3 ∙ met);
+        own = ap (λ (e : PrEntry). e.id) o.3 ∙ valid.ids id f at;
       },
     )
 
 apart_keys : (test : PrEntry → Bool) (r : Registry) (image : List ℕ) → IsRegistry r → IsLaidOut image r
     → AreApart (test_of test image) (key_of image) (block_count image)
 apart_keys test r image valid laid = λ j k below_j below_k met_j met_k same.
-    let a = met_block test r image j valid laid below_j met_j in
-    let b = met_block test r image k valid laid below_k met_k in
-    let ranks : rank_in (block_in image j) ≡ rank_in (block_in image k) =
-    sym (ap rank_in (same_block image j)) ∙ same ∙ ap rank_in (same_block image k) in
+    let a = met_at test r image j valid laid below_j met_j in
+    let b = met_at test r image k valid laid below_k met_k in
     laid.one j k below_j below_k a.kind b.kind
-    (rank_same (entry_in (block_in image j)).id (entry_in (block_in image k)).id a.id b.id ranks)
+    (rank_same (entry_in (block_in image j)).id (entry_in (block_in image k)).id a.id b.id same)
 
 -- ---- one entry after the other
 
@@ -110,7 +97,7 @@ at_most a b c most same = subst (λ (z : ℤ). a ≤ℤ z) (sym same) most
 
 firsts : (test : PrEntry → Bool) (r : Registry) (image : List ℕ) → IsRegistry r → IsLaidOut image r → (n low : ℕ) (from : ℤ) (ks : List ℕ)
     → IsOrder (test_of test image) (key_of image) (block_count image) low ks → IsFrom test image low from
-    → AreFirst test r from n (map entry_in (map (db_block_in 2112 image) (take n ks)))
+    → AreFirst test r from n (map entry_in (map (block_in image) (take n ks)))
 firsts test r image valid laid zero low from ks o start = refl
 firsts test r image valid laid (suc n) low from [] o start = λ id e above at.
     false_from_ne_true (test e) (λ met.

@@ -1,4 +1,3 @@
-pub mod First
 pub mod Found
 pub mod Lists
 pub mod Pages

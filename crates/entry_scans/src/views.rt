@@ -8,26 +8,10 @@ ghost use Rattle.entry_scans.specs.Pages.{pair_count_in};
 ghost use Rattle.entry_scans.specs.Views.{viewed};
 
 use db_blocks::{Block, word_at};
+use prdb_layout::{
+    CREATOR_AT, FLAGS_AT, ID_AT, NAME_AT, NAME_FIELD, OWNER_AT, PAIR_COUNT_AT, QUOTA_AT,
+};
 use ubik_types::WORD_LEN;
-
-// Where the fields of an entry stand in its block, by the layout of format 1.
-
-const FLAGS_AT: usize = 4;
-
-const ID_AT: usize = 8;
-
-const OWNER_AT: usize = 12;
-
-const CREATOR_AT: usize = 16;
-
-const QUOTA_AT: usize = 20;
-
-const PAIR_COUNT_AT: usize = 24;
-
-const NAME_AT: usize = 32;
-
-/// The length of a name's field, in bytes. Zero bytes fill it.
-const NAME_FIELD: usize = 64;
 
 /// An entry as it stands in a block: a user, whose id is positive, or a group, whose id is negative.
 #[derive(Clone, Copy)]
@@ -50,7 +34,7 @@ pub fn kind_of(block: &Block) -> u32
 }
 
 /// The signed number at a place.
-fn signed_at(bytes: &[u8], at: usize) -> i32
+pub fn signed_at(bytes: &[u8], at: usize) -> i32
     requires { at + WORD_LEN ≤ length bytes.now }
     ensures { result ≡ signed_at bytes.now at }
 {

@@ -8,8 +8,8 @@ use Rattle.prdb_layout.specs.Blocks.{block_count}
 use Rattle.prdb_layout.specs.Records.{IsBlock, IsLaidOut, block_in, block_place, entry_in, head_with}
 use Rattle.prdb_layout.specs.Registry.{Registry, IsRegistry}
 use Rattle.prdb_layout.specs.State.{PrEntry}
-use Rattle.prdb_layout.proofs.BlockPlaces.{IsPut}
-use Rattle.prdb_layout.proofs.LaidOut.{count_is}
+use Rattle.db_blocks.proofs.Scanned.{count_is}
+use Rattle.db_blocks.proofs.BlockPlaces.{IsPut}
 
 -- ---- an id under which something else stands
 
@@ -50,7 +50,7 @@ IsContent x None block = kind_of block ≢ 1
 IsContent x (Some e) block = (kind_of block ≡ 1) × (entry_in block ≡ e) × (e.id ≡ x)
 
 pub record IsStep (old new : List ℕ) (k m : ℕ) (block : List ℕ) : Type 0 where
-  pub put : IsPut k block old new m
+  pub put : IsPut 2112 k block old new m
   pub below : k < m
   pub kept : block_count old ≤ m
   pub only : (j : ℕ) → j < m → j ≢ k → j < block_count old
@@ -198,7 +198,7 @@ pub laid_from : (image : List ℕ) (m : ℕ) (r : Registry) → length image ≡
     → take 2112 image ≡ head_with r.max_user r.max_group m
     → HaveBlocks image m r.entry → IsLaidOut image r
 laid_from image m r size head h =
-    let count : block_count image ≡ m = count_is image m size in
+    let count : block_count image ≡ m = count_is 2112 image m size in
     record {
       size = size ∙ ap block_place (sym count);
       head = head ∙ ap (head_with r.max_user r.max_group) (sym count);

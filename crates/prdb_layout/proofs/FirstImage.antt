@@ -8,7 +8,7 @@ use Rattle.std.proofs.lemmas.Int.{ints}
 use Rattle.std.proofs.lemmas.List.{take_at, length-map, get_or-map}
 use Rattle.std.proofs.lemmas.List.Elements.{All-from_recursion}
 use Rattle.db_blocks.specs.Bytes.{words, zeros}
-use Rattle.db_blocks.specs.Blocks.{kind_of}
+use Rattle.db_blocks.specs.Blocks.{block_in as any_block, kind_of}
 use Rattle.prdb_layout.specs.Layout.{head_of, numbers_of, block_of, layout}
 use Rattle.prdb_layout.specs.Names.{is_user_name}
 use Rattle.prdb_layout.specs.Records.{Holds, IsBlock, IsLaidOut, block_in, entry_in, field_numbers, head_with, new_block, whole, with_fields}
@@ -26,7 +26,7 @@ nth k = get_or fixed_entries k (fixed [] 0 (pos 0))
 -- ---- the blocks
 
 block_at : (k : ℕ) → k < 6 → block_in (layout initial_state) k ≡ new_block (nth k)
-unfolding nth block_in layout head_of words zeros fixed_entries block_of numbers_of with_fields field_numbers
+unfolding nth any_block layout head_of words zeros fixed_entries block_of numbers_of with_fields field_numbers
 block_at zero below = refl
 block_at (suc zero) below = refl
 block_at (suc (suc zero)) below = refl

@@ -20,13 +20,15 @@ use Rattle.prdb_layout.specs.Bytes.{bits}
 use Rattle.prdb_layout.specs.Records.{Holds, IsBlock, IsEntryBlock, IsLaidOut, after_insert, after_remove, after_replace, after_set_maxima, block_in, entry_in, first_block, has_id, head_with, is_free, maxima_in, new_block, next_block, signed_at, whole, with_block, with_count, with_fields}
 use Rattle.prdb_layout.specs.Registry.{Registry, IsRegistry, IsRecord, AreMaxima, MayBeAdded, MayReplace, MayBeRemoved, with_entry, without_entry, with_maxima}
 use Rattle.prdb_layout.specs.State.{PrEntry}
-use Rattle.prdb_layout.proofs.BlockPlaces.{IsPut, put_block, add_block, block_len, put_count, put_maxima}
+use Rattle.prdb_layout.proofs.BlockPlaces.{block_len, put_count, put_maxima}
 use Rattle.prdb_layout.proofs.Changed.{IsStep, IsAlone, IsContent, blocks_of_laid, have_new, have_same, laid_from}
 use Rattle.prdb_layout.proofs.EntryFields.{entry_with, kind_with, is_new_block, is_block_with, length-with_fields}
-use Rattle.prdb_layout.proofs.LaidOut.{count_is, whole_same, zero_kind}
+use Rattle.prdb_layout.proofs.LaidOut.{whole_same, zero_kind}
 use Rattle.prdb_layout.proofs.Lengths.{bits_below}
 use Rattle.prdb_layout.proofs.Lookups.{id_parts}
 use Rattle.prdb_layout.proofs.Registries.{registry_added, registry_replaced, registry_removed, registry_maxima}
+use Rattle.db_blocks.proofs.Scanned.{count_is}
+use Rattle.db_blocks.proofs.BlockPlaces.{IsPut, put_block, add_block}
 
 -- ---- one entry more
 
@@ -44,7 +46,7 @@ free_kind image k free = eqb-true (kind_of (block_in image k)) 0 free
 step_in : (image block : List ℕ) (k : ℕ) (r : Registry) → IsLaidOut image r → length block ≡ 192 → k < block_count image
     → IsStep image (with_block k block image) k (block_count image) block
 step_in image block k r laid len below = record {
-  put = put_block image block k (block_count image) laid.size len below;
+  put = put_block 2112 image block k (block_count image) laid.size len below;
   below = below;
   kept = omega arith;
   only = λ j less other. less;
@@ -53,7 +55,7 @@ step_in image block k r laid len below = record {
 step_end : (image block : List ℕ) (r : Registry) → IsLaidOut image r → length block ≡ 192
     → IsStep image (with_block (block_count image) block image) (block_count image) (block_count image + 1) block
 step_end image block r laid len = record {
-  put = add_block image block (block_count image) laid.size len;
+  put = add_block 2112 image block (block_count image) laid.size len;
   below = omega arith;
   kept = omega arith;
   only = λ j less other. omega arith;
@@ -77,7 +79,7 @@ inserted_in image r e k laid valid is new below free =
       here = λ in_k kind. absurd (omega arith);
       others = λ j in_j other kind. none_has image r e laid new j in_j kind;
     } in
-    laid_from (with_block k (new_block e) image) (block_count image) (with_entry e r) step.put.size (step.put.head ∙ laid.head)
+    laid_from (with_block k (new_block e) image) (block_count image) (with_entry e r) step.put.size (step.put.front ∙ laid.head)
     (have_new image (with_block k (new_block e) image) k (block_count image) (new_block e) e.id (Some e) r laid valid step alone
     (new_content e (zeros 192) zeros_len is) (is_new_block e is.fields))
 
@@ -93,8 +95,8 @@ inserted_end image r e laid valid is new =
     } in
     let blocks = have_new image mid n (n + 1) (new_block e) e.id (Some e) r laid valid step alone
     (new_content e (zeros 192) zeros_len is) (is_new_block e is.fields) in
-    let put = put_count mid r.max_user r.max_group n (n + 1) (n + 1) step.put.size (step.put.head ∙ laid.head) in
-    let count = count_is mid (n + 1) step.put.size in
+    let put = put_count mid r.max_user r.max_group n (n + 1) (n + 1) step.put.size (step.put.front ∙ laid.head) in
+    let count = count_is 2112 mid (n + 1) step.put.size in
     laid_from (with_count (n + 1) mid) (n + 1) (with_entry e r) (put.size ∙ step.put.size) put.head
     (have_same mid (with_count (n + 1) mid) (n + 1) (with_entry e r).entry (λ j less. put.others j (omega (arith, less, count))) blocks)
 
@@ -148,7 +150,7 @@ entry_parts block is kind =
     is
 
 replaced_in : (old new : List ℕ) (r : Registry) (id : ℤ) (e : PrEntry) (k : ℕ) → IsLaidOut old r → IsRegistry r → IsRecord e → e.id ≡ id
-    → k < block_count old → has_id id (block_in old k) ≡ true → IsPut k (with_fields e (block_in old k)) old new (block_count old)
+    → k < block_count old → has_id id (block_in old k) ≡ true → IsPut 2112 k (with_fields e (block_in old k)) old new (block_count old)
     → IsLaidOut new (with_entry e r)
 replaced_in old new r id e k laid valid is same below has put =
     let len = block_len old k (block_count old) laid.size below in
@@ -157,7 +159,7 @@ replaced_in old new r id e k laid valid is same below has put =
     let step : IsStep old new k (block_count old)
     (with_fields e (block_in old k)) = record { put = put; below = below; kept = omega arith; only = λ j less other. less } in
     let alone : IsAlone old k e.id = subst (IsAlone old k) (sym same) (alone_at old r id k laid below has) in
-    laid_from new (block_count old) (with_entry e r) put.size (put.head ∙ laid.head)
+    laid_from new (block_count old) (with_entry e r) put.size (put.front ∙ laid.head)
     (have_new old new k (block_count old) (with_fields e (block_in old k)) e.id (Some e) r laid valid step alone
     (new_content e (block_in old k) len is)
     (is_block_with e (block_in old k) len is.fields parts.chains parts.behind))
@@ -175,10 +177,10 @@ holds_replaced image r id e holds is may below =
     let len : length block ≡ 192 = length-with_fields e (block_in old k) (block_len old k n holds.laid.size below) is.fields.name_len in
     ⊎_elim
     (λ (same : bytes_eq block (block_in old k) ≡ true).
-    let put : IsPut k block old old n =
+    let put : IsPut 2112 k block old old n =
     record {
       size = holds.laid.size;
-      head = refl;
+      front = refl;
       here = sym
           ((bytes_eq-Decides block (block_in old k)).0 same);
       others = λ j less other. refl;
@@ -187,7 +189,7 @@ holds_replaced image r id e holds is may below =
     (λ (other : bytes_eq block (block_in old k) ≡ false).
     rw other (holds_from (with_block k block old) (with_entry e r) valid
     (replaced_in old (with_block k block old) r id e k holds.laid holds.valid is may.same_id below has
-    (put_block old block k n holds.laid.size len below))))
+    (put_block 2112 old block k n holds.laid.size len below))))
     (cases_Bool (bytes_eq block (block_in old k)))
 
 -- ---- one entry less
@@ -202,7 +204,7 @@ holds_removed image r id holds may below =
     let has : has_id id (block_in old k) ≡ true = first_met (λ j. has_id id (block_in old j)) 0 n (omega arith) in
     let step = step_in old (zeros 192) k r holds.laid zeros_len below in
     holds_from (with_block k (zeros 192) old) (without_entry id r) (registry_removed r id holds.valid may)
-    (laid_from (with_block k (zeros 192) old) n (without_entry id r) step.put.size (step.put.head ∙ holds.laid.head)
+    (laid_from (with_block k (zeros 192) old) n (without_entry id r) step.put.size (step.put.front ∙ holds.laid.head)
     (have_new old (with_block k (zeros 192) old) k n (zeros 192) id None r holds.laid holds.valid step
     (alone_at old r id k holds.laid below has)
     (λ kind. omega (arith, kind, zero_kind)) (inl refl)))

@@ -12,6 +12,5 @@ pub mod Lengths
 pub mod Lookups
 pub mod MaximaRead
 pub mod Registries
-pub mod Scanned
 pub mod Told
 pub mod UserNames

@@ -2,7 +2,8 @@
 use Rattle.std.specs.Prelude.{ℕ, ◌-◌, List, [], ◌∷◌, ◌++◌, length}
 use Rattle.std.specs.List.{flat_map}
 use Rattle.ubik_types.specs.declared.words.TheConstants.{WORD_LEN}
-use Rattle.prdb_layout.specs.declared.blocks.TheConstants.{HEAD_LEN, BLOCK_COUNT_AT, BLOCK_LEN, NAME_AT, NAME_FIELD}
+use Rattle.prdb_layout.specs.declared.blocks.TheConstants.{HEAD_LEN, BLOCK_COUNT_AT, NAME_AT, NAME_FIELD}
+use Rattle.db_blocks.specs.declared.blocks.TheConstants.{BLOCK_LEN}
 use Rattle.db_blocks.specs.Bytes.{words, zeros, filled}
 use Rattle.prdb_layout.specs.Bytes.{bits}
 use Rattle.prdb_layout.specs.declared.entries.Entry.{Entry}

@@ -1,18 +1,19 @@
 -- How an image without words of chains holds a registry, and such an image after each change (layout of format 1).
-use Rattle.std.specs.Prelude.{ℕ, ℤ, ◌≡◌, ◌+◌, ◌-◌, ◌*◌, ◌<◌, ◌⊎◌, zero, Bool, ◌&&◌, ◌==◌, nat_lt, if◌then◌else◌, List, [], ◌∷◌, ◌++◌, length, take, drop, Option, Some, None}
+use Rattle.std.specs.Prelude.{ℕ, ℤ, ◌≡◌, ◌+◌, ◌-◌, ◌<◌, ◌⊎◌, Bool, ◌&&◌, ◌==◌, nat_lt, if◌then◌else◌, List, [], ◌∷◌, ◌++◌, length, take, drop, Option, Some, None}
 use Rattle.std.specs.Int.{w32, cast_signed}
 use Rattle.std.specs.Ordering.{int_eq}
 use Rattle.std.specs.Str.{bytes_eq}
 use Rattle.ubik_types.specs.Image.{changed}
 use Rattle.ubik_types.specs.declared.images.Change.TheVariants.{Put}
 use Rattle.prdb_layout.specs.Blocks.{block_count, block_name}
-use Rattle.db_blocks.specs.Blocks.{word_at, kind_of, first_from}
+use Rattle.db_blocks.specs.Blocks.{block_in as any_block, block_place as any_place, first_block as any_first, with_block as with_any, word_at, kind_of}
+use Rattle.db_blocks.specs.declared.blocks.TheConstants.{BLOCK_LEN}
 use Rattle.db_blocks.specs.Bytes.{filled, number_word, word, words, zeros}
 use Rattle.prdb_layout.specs.Bytes.{bits}
 use Rattle.prdb_layout.specs.Layout.{layout}
 use Rattle.prdb_layout.specs.Registry.{Registry, IsRegistry}
 use Rattle.prdb_layout.specs.State.{PrEntry, initial_state}
-use Rattle.prdb_layout.specs.declared.blocks.TheConstants.{HEAD_LEN, MAX_USER_AT, BLOCK_COUNT_AT, BLOCK_LEN, FLAGS_AT, ID_AT, OWNER_AT, CREATOR_AT, QUOTA_AT, PAIR_COUNT_AT, NAME_AT, NAME_FIELD, CHAINS_AT, CHAINS_LEN, END_AT}
+use Rattle.prdb_layout.specs.declared.blocks.TheConstants.{HEAD_LEN, MAX_USER_AT, BLOCK_COUNT_AT, FLAGS_AT, ID_AT, OWNER_AT, CREATOR_AT, QUOTA_AT, PAIR_COUNT_AT, NAME_AT, NAME_FIELD, CHAINS_AT, CHAINS_LEN, END_AT}
 
 -- ---- a block
 
@@ -64,10 +65,10 @@ whole (b ∷ bytes) = b ∷ bytes
 
 -- where a block begins, and its bytes; the first behind the head has the number 0
 abbrev pub block_place : ℕ → ℕ
-block_place k = HEAD_LEN + BLOCK_LEN * k
+block_place k = any_place HEAD_LEN k
 
-unfoldable pub block_in : List ℕ → ℕ → List ℕ
-block_in image k = take BLOCK_LEN (drop (block_place k) image)
+abbrev pub block_in : List ℕ → ℕ → List ℕ
+block_in image k = any_block HEAD_LEN image k
 
 -- the head: the database's word, format 1, the maxima, the number of blocks, and zero bytes
 abbrev pub head_with : (user group : ℤ) → (count : ℕ) → List ℕ
@@ -95,7 +96,7 @@ pub record Holds (image : List ℕ) (r : Registry) : Type 0 where
 
 -- the first block that meets a test, or the number of blocks
 abbrev pub first_block : (List ℕ → Bool) → List ℕ → ℕ
-first_block test image = first_from (λ k. test (block_in image k)) 0 (block_count image)
+first_block test image = any_first HEAD_LEN test image
 
 abbrev pub is_free : List ℕ → Bool
 is_free block = kind_of block == 0
@@ -123,7 +124,7 @@ registry_in image = record { entry = entry_at image; max_user = (maxima_in image
 -- ---- the image after a change
 
 abbrev pub with_block : ℕ → List ℕ → List ℕ → List ℕ
-with_block k block image = changed image (Put (block_place k) block)
+with_block k block image = with_any HEAD_LEN k block image
 
 abbrev pub with_count : ℕ → List ℕ → List ℕ
 with_count count image = changed image (Put BLOCK_COUNT_AT (number_word count))

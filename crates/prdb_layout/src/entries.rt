@@ -1,11 +1,11 @@
 //! Entries, and the images that are written of them.
 ghost use Rattle.std.specs.Prelude.{◌≡◌, ◌++◌, OnOk, IfOk, length};
-ghost use Rattle.db_blocks.specs.Bytes.{words, zeros, filled};
 ghost use Rattle.std.specs.List.{flat_map};
 ghost use Rattle.prdb_layout.specs.State.{fixed, fixed_entries, administrators, initial_state};
 ghost use Rattle.prdb_layout.specs.Layout.{head_of, numbers_of, block_of, layout, entry_of};
 
-use crate::blocks::{ANONYMOUS, BLOCK_COUNT_AT, BLOCK_LEN, HEAD_LEN, NAME_AT, NAME_FIELD};
+use crate::blocks::{ANONYMOUS, BLOCK_COUNT_AT, HEAD_LEN, NAME_AT, NAME_FIELD};
+use db_blocks::{BLOCK_LEN, push_filled, push_words, push_zeros};
 use std::alloc::{AllocError, Global};
 use ubik_types::WORD_LEN;
 
@@ -28,9 +28,6 @@ const GROUP_FLAGS: u32 = 131_584;
 
 /// The id of `system:administrators`, which owns what has no other owner.
 pub const ADMINISTRATORS: i32 = -204;
-
-/// How many groups a user may still make at first.
-pub const USER_QUOTA: i32 = 20;
 
 /// One of the first entries.
 #[derive(Clone, Copy)]
@@ -59,34 +56,6 @@ impl<'a> Entry<'a> {
     }
 }
 
-#[tactic(auto, unfolding(db_blocks::specs::Bytes::zeros))]
-pub fn push_zeros(out: &mut Vec<u8>, count: usize) -> Result<(), AllocError>
-    ensures { OnOk result (out.new.items ≡ out.old.items ++ zeros count) }
-{
-    for _ in 0..count {
-        out.push(0)?;
-    }
-    Ok(())
-}
-
-#[tactic(auto, unfolding(db_blocks::specs::Bytes::words))]
-pub fn push_words(out: &mut Vec<u8>, numbers: &[u32]) -> Result<(), AllocError>
-    ensures { OnOk result (out.new.items ≡ out.old.items ++ words numbers.now) }
-{
-    for number in numbers {
-        out.extend_from_slice(&number.to_be_bytes())?;
-    }
-    Ok(())
-}
-
-pub fn push_name(out: &mut Vec<u8>, name: &[u8]) -> Result<(), AllocError>
-    ensures { OnOk result (out.new.items ≡ out.old.items ++ filled NAME_FIELD name.now) }
-{
-    out.extend_from_slice(name)?;
-    push_zeros(out, NAME_FIELD.saturating_sub(name.len()))?;
-    Ok(())
-}
-
 #[tactic(auto, unfolding(crate::specs::Layout::numbers_of))]
 fn numbers(entry: &Entry<'_>) -> [u32; 8]
     ensures { result ≡ numbers_of (entry_of entry.now) }
@@ -109,7 +78,7 @@ fn push_block(out: &mut Vec<u8>, entry: &Entry<'_>) -> Result<(), AllocError>
     ensures { OnOk result (out.new.items ≡ out.old.items ++ block_of (entry_of entry.now)) }
 {
     push_words(out, &numbers(entry))?;
-    push_name(out, entry.name)?;
+    push_filled(out, NAME_FIELD, entry.name)?;
     push_zeros(out, BLOCK_LEN - NAME_AT - NAME_FIELD)?;
     Ok(())
 }
@@ -119,7 +88,7 @@ fn push_head(out: &mut Vec<u8>) -> Result<(), AllocError>
     ensures { OnOk result (out.new.items ≡ out.old.items ++ head_of initial_state) }
 {
     push_words(out, &[DATABASE, FORMAT, 0, MAX_GROUP.cast_unsigned(), 6])?;
-    push_zeros(out, HEAD_LEN - BLOCK_COUNT_AT - WORD_LEN)?;
+    push_zeros(out, HEAD_LEN as usize - BLOCK_COUNT_AT - WORD_LEN)?;
     Ok(())
 }
 

@@ -1,7 +1,7 @@
 -- The empty image holds no pairs.
 use Rattle.std.proofs.Common.{◌≡◌, ℕ, zero, suc, ◌<◌, List, [], drop, refl, sym, subst, arith}
 use Rattle.db_blocks.specs.Bytes.{words, zeros}
-use Rattle.db_blocks.specs.Blocks.{kind_of}
+use Rattle.db_blocks.specs.Blocks.{block_in as any_block, kind_of}
 use Rattle.prdb_layout.specs.Layout.{layout, head_of, block_of as entry_block, numbers_of}
 use Rattle.prdb_layout.specs.Records.{block_in}
 use Rattle.prdb_layout.specs.Registry.{first_registry}
@@ -14,7 +14,7 @@ use Rattle.prdb_lists.proofs.ListFound.{front_zero, whole_none}
 use Rattle.prdb_lists.proofs.Spelled.{first_spelled}
 
 first_zero : (k : ℕ) → k < 6 → drop 112 (block_in (layout initial_state) k) ≡ id_field 80 []
-unfolding block_in layout head_of words zeros fixed_entries entry_block numbers_of
+unfolding any_block layout head_of words zeros fixed_entries entry_block numbers_of
 first_zero zero below = refl
 first_zero (suc zero) below = refl
 first_zero (suc (suc zero)) below = refl
@@ -24,7 +24,7 @@ first_zero (suc (suc (suc (suc (suc zero))))) below = refl
 first_zero (suc (suc (suc (suc (suc (suc k)))))) below = absurd (omega arith)
 
 first_kind : (k : ℕ) → k < 6 → kind_of (block_in (layout initial_state) k) ≡ 1
-unfolding block_in layout head_of words zeros fixed_entries entry_block numbers_of
+unfolding any_block layout head_of words zeros fixed_entries entry_block numbers_of
 first_kind zero below = refl
 first_kind (suc zero) below = refl
 first_kind (suc (suc zero)) below = refl

@@ -7,13 +7,15 @@ use Rattle.db_blocks.specs.Blocks.{kind_of}
 use Rattle.db_blocks.proofs.FirstBlocks.{first_met, first_within}
 use Rattle.prdb_layout.specs.Records.{IsBlock, IsLaidOut, block_in, block_place, entry_in, head_with, is_free, next_block, with_block, with_count}
 use Rattle.prdb_layout.specs.Registry.{Registry}
-use Rattle.prdb_layout.proofs.BlockPlaces.{IsPut, IsHeadPut, add_block, put_count}
-use Rattle.prdb_layout.proofs.LaidOut.{count_is, zero_kind}
+use Rattle.prdb_layout.proofs.BlockPlaces.{IsHeadPut, put_count}
+use Rattle.prdb_layout.proofs.LaidOut.{zero_kind}
 use Rattle.prdb_lists.specs.Changes.{with_free}
 use Rattle.prdb_lists.specs.Layout.{PairList}
 use Rattle.prdb_lists.specs.Sides.{HoldsLists}
 use Rattle.prdb_lists.proofs.Kept.{IsOneOther, lists_kept}
 use Rattle.prdb_lists.proofs.RecordsKeep.{zeros_len}
+use Rattle.db_blocks.proofs.Scanned.{count_is}
+use Rattle.db_blocks.proofs.BlockPlaces.{IsPut, add_block}
 
 -- this block is free, all others are those that were there, and the image holds the same
 pub record HasFree (old new : List ℕ) (r : Registry) (lists : ℤ → PairList) (f : ℕ) : Type 0 where
@@ -52,7 +54,7 @@ record IsAdded (old new : List ℕ) (n : ℕ) : Type 0 where
 added_laid : (old new : List ℕ) (r : Registry) (n : ℕ) → IsLaidOut old r → block_count old ≡ n → IsAdded old new n
     → take 2112 new ≡ head_with r.max_user r.max_group (n + 1) → IsLaidOut new r
 added_laid old new r n laid count a head =
-    let new_count : block_count new ≡ n + 1 = count_is new (n + 1) a.size in
+    let new_count : block_count new ≡ n + 1 = count_is 2112 new (n + 1) a.size in
     let zero : kind_of (block_in new n) ≡ 0 = ap kind_of a.here ∙ zero_kind in
     let before : (j : ℕ) → j < block_count new → kind_of (block_in new j) ≡ 1 → j < n = λ j below kind.
     ⊎_elim (λ (same : j ≡ n). let one = ap (λ (i : ℕ). kind_of (block_in new i)) (sym same) ∙ kind in absurd (omega arith))
@@ -89,13 +91,13 @@ free_end image r lists n h count =
     let mid = with_block n (zeros 192) image in
     let new = with_count (n + 1) mid in
     let was : length image ≡ block_place n = h.has.laid.size ∙ ap block_place count in
-    let put : IsPut n (zeros 192) image mid (n + 1) = add_block image (zeros 192) n was zeros_len in
+    let put : IsPut 2112 n (zeros 192) image mid (n + 1) = add_block 2112 image (zeros 192) n was zeros_len in
     let first : take 2112 image ≡ head_with r.max_user r.max_group n = h.has.laid.head ∙ ap (head_with r.max_user r.max_group) count in
     let head : IsHeadPut mid new (head_with r.max_user r.max_group (n + 1)) = put_count mid r.max_user r.max_group n (n + 1)
-    (n + 1) put.size (put.head ∙ first) in
-    let mid_count : block_count mid ≡ n + 1 = count_is mid (n + 1) put.size in
+    (n + 1) put.size (put.front ∙ first) in
+    let mid_count : block_count mid ≡ n + 1 = count_is 2112 mid (n + 1) put.size in
     let size : length new ≡ block_place (n + 1) = head.size ∙ put.size in
-    let new_count : block_count new ≡ n + 1 = count_is new (n + 1) size in
+    let new_count : block_count new ≡ n + 1 = count_is 2112 new (n + 1) size in
     let a : IsAdded image new n = record {
       size = size;
       here = head.others n (omega arith) ∙ put.here;

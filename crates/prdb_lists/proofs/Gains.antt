@@ -13,8 +13,7 @@ use Rattle.db_blocks.proofs.FirstBlocks.{first_at}
 use Rattle.prdb_layout.specs.Records.{block_in, block_place, entry_in, has_id, next_block, with_block}
 use Rattle.prdb_layout.specs.Registry.{Registry}
 use Rattle.prdb_layout.specs.State.{PrEntry}
-use Rattle.prdb_layout.proofs.BlockPlaces.{IsPut, put_block}
-use Rattle.prdb_layout.proofs.LaidOut.{count_is, zero_kind}
+use Rattle.prdb_layout.proofs.LaidOut.{zero_kind}
 use Rattle.prdb_layout.proofs.Lookups.{id_parts}
 use Rattle.prdb_lists.specs.Changes.{blocks_for, gained, list_in, lost, place_in, relisted, with_free, with_freed, with_id, without_id}
 use Rattle.prdb_lists.specs.Layout.{IsDistinct, IsListed, PairList}
@@ -27,6 +26,8 @@ use Rattle.prdb_lists.proofs.Ids.{IsWithout, entry_fits, ids_with-ascending, ids
 use Rattle.prdb_lists.proofs.RecordsKeep.{zeros_len}
 use Rattle.prdb_lists.proofs.Relist.{IsSpared, StandsAt, relist}
 use Rattle.prdb_lists.proofs.Side.{IsMoreBlock, chain_block}
+use Rattle.db_blocks.proofs.Scanned.{count_is}
+use Rattle.db_blocks.proofs.BlockPlaces.{IsPut, put_block}
 
 pub listed_at : (image : List ℕ) (r : Registry) (lists : ℤ → PairList) (x : ℤ) (k : ℕ) → HasLists image r lists → StandsAt image x k
     → IsListed image x (block_in image k) (lists x)
@@ -266,9 +267,9 @@ distinct_front more behind is i j d less below same =
 
 spare_block : (image : List ℕ) (f n : ℕ) → length image ≡ block_place n → f < n → IsSpared image (with_block f (zeros 192) image) f
 spare_block image f n size below =
-    let count : block_count image ≡ n = count_is image n size in
-    let put : IsPut f (zeros 192) image (with_block f (zeros 192) image) n = put_block image (zeros 192) f n size zeros_len below in
-    record { size = put.size ∙ sym size; front = put.head; zero = λ less. put.here; others = put.others }
+    let count : block_count image ≡ n = count_is 2112 image n size in
+    let put : IsPut 2112 f (zeros 192) image (with_block f (zeros 192) image) n = put_block 2112 image (zeros 192) f n size zeros_len below in
+    record { size = put.size ∙ sym size; front = put.front; zero = λ less. put.here; others = put.others }
 
 lose_one : (image : List ℕ) (r : Registry) (lists : ℤ → PairList) (x id : ℤ) (k : ℕ) → HoldsLists image r lists → StandsAt image x k
     → IsSome (r.entry x) → Contains (lists x).ids id

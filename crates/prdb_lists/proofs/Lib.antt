@@ -4,7 +4,6 @@ pub mod FirstPairs
 pub mod InList
 pub mod ListFound
 pub mod ListRead
-pub mod OwnedIds
 pub mod Kept
 pub mod RecordsKeep
 pub mod Side

@@ -3,7 +3,7 @@ use Rattle.std.proofs.Common.{◌≡◌, ℕ, ℤ, zero, suc, ◌<◌, true, fal
 use Rattle.std.specs.Prelude.{◌<ℤ◌, ◌||◌, pos}
 use Rattle.std.specs.List.{Contains}
 use Rattle.std.proofs.lemmas.Bool.{cases_Bool}
-use Rattle.db_blocks.specs.Blocks.{word_at}
+use Rattle.db_blocks.specs.Blocks.{block_in as any_block, word_at}
 use Rattle.db_blocks.specs.Bytes.{word, words, zeros}
 use Rattle.prdb_layout.specs.Layout.{layout, head_of, block_of as entry_block, numbers_of}
 use Rattle.prdb_layout.specs.Records.{IsLaidOut, block_in, entry_in, whole}
@@ -49,7 +49,7 @@ none_paired image r m id h none other =
 -- ---- the first image has no pairs
 
 pub front_zero : (k : ℕ) → k < 6 → take 8 (drop 24 (block_in (layout initial_state) k)) ≡ word 0 ++ link_word 0
-unfolding block_in layout head_of words zeros fixed_entries entry_block numbers_of
+unfolding any_block layout head_of words zeros fixed_entries entry_block numbers_of
 front_zero zero below = refl
 front_zero (suc zero) below = refl
 front_zero (suc (suc zero)) below = refl

@@ -12,7 +12,7 @@ use Rattle.db_image.specs.declared.images.ImageRead.{Ghosts}
 use Rattle.db_image.specs.declared.faults.RecordFault.{RecordFault}
 use Rattle.db_image.specs.declared.faults.RecordFault.TheVariants.{DiskFault, BadRecord, NoMemory}
 use Rattle.db_image.proofs.ReadSteps.{asks_none, asks_then}
-use Rattle.db_blocks.specs.Blocks.{IsWhole, block_in as block_of, block_place, word_at}
+use Rattle.db_blocks.specs.Blocks.{IsWhole, block_place, word_at}
 use Rattle.db_blocks.specs.Ends.{HasCause, OnlyLooks}
 use Rattle.db_blocks.proofs.Scanned.{looks_none, looks_then, looks_so}
 use Rattle.prdb_layout.specs.Blocks.{block_count}
@@ -24,11 +24,6 @@ use Rattle.prdb_lists.specs.Blocks.{AreWithin, IsMore, ids_in, is_more_of}
 use Rattle.prdb_lists.specs.Layout.{IsChain, IsListed, PairList, link_to, more_block}
 use Rattle.prdb_lists.proofs.Ascending.{ascending_left, ascending_apart, one_apart}
 use Rattle.prdb_lists.proofs.BlockIds.{count_of, link_of, ids_read, ids_more, ids_of_more, is_more, next_of_more}
-
--- a block is the same, however it is named
-pub block_same : (image : List ℕ) (k : ℕ) → block_of 2112 image k ≡ block_in image k
-unfolding block_in block_of
-block_same image k = refl
 
 -- ---- ids that do not ascend
 
@@ -136,12 +131,12 @@ more_there image entry l ids more left link count r fits some size =
 pub next_read : (image block : List ℕ) (entry : ℤ) (l : PairList) (ids : List ℤ) (more : List ℕ) (left link here : ℕ)
     → IsRest image entry l ids more left link
     → IsAscending l.ids → All (λ id. FitsSigned w32 id) l.ids → 0 < left
-    → block ≡ block_of 2112 image (link - 1) → here ≡ min left 44 → IsNextRead image block entry l ids more left link here
+    → block ≡ block_in image (link - 1) → here ≡ min left 44 → IsNextRead image block entry l ids more left link here
 next_read image block entry l ids more left link here r rises fits some at len =
     let n = chain_next image entry r.rest.more r.rest.ids r.chain (omega (arith, r.left_is)) in
     let link_at : link ≡ n.k + 1 = r.link_is ∙ ap link_to n.is in
     let k_is : link - 1 ≡ n.k = omega (arith, link_at) in
-    let block_is : block ≡ more_block entry (link_to n.behind) (take 44 r.rest.ids) = at ∙ block_same image (link - 1)
+    let block_is : block ≡ more_block entry (link_to n.behind) (take 44 r.rest.ids) = at
     ∙ ap (block_in image) k_is ∙ n.block in
     let fits_rest : All (λ id. FitsSigned w32 id) r.rest.ids = All-same (λ id. FitsSigned w32 id) r.rest.ids (drop (length ids) l.ids)
     (sym (drop_front ids r.rest.ids l.ids r.ids_are)) (All-drop (λ id. FitsSigned w32 id) (length ids) l.ids fits) in
@@ -214,7 +209,7 @@ read_first g d entry block ids more first count left link told short len here id
 more_so : (bytes : Option (List ℕ)) (block read : List ℕ) (entry : ℤ) (ids new_ids : List ℤ) (more new_more : List ℕ)
     (left link here new_left new_link : ℕ)
     → IfSome bytes (λ image. (l : PairList) → IsListed image entry block l → IsRest image entry l ids more left link)
-    → IfSome bytes (λ image. read ≡ block_of 2112 image (link - 1)) → 0 < left → here ≡ min left 44
+    → IfSome bytes (λ image. read ≡ block_in image (link - 1)) → 0 < left → here ≡ min left 44
     → new_ids ≡ ids ++ ids_in read 12 here → new_more ≡ more ++ (link - 1) ∷ [] → new_left ≡ left - here → new_link ≡ word_at read 8
     → IfSome bytes (λ image. (l : PairList) → IsListed image entry block l → IsRest image entry l new_ids new_more new_left new_link)
 more_so None block read entry ids new_ids more new_more left link here new_left new_link rest at some len i m n k = tt
@@ -227,7 +222,7 @@ pub read_more : {I : Type 0} (g : Ghosts I) (first now next : Drafted I) (entry 
     (more new_more : List ℕ)
     (count left link here new_left new_link : ℕ) (failed : Type 0) → ReadSoFar g first now entry block ids more count left link
     → OnlyLooks g now next failed → AsksAtMost 192 (g.asked now.image) (g.asked next.image)
-    → IfSome now.bytes (λ image. read ≡ block_of 2112 image (link - 1)) → 0 < left → 0 < link → link ≤ count → here ≡ min left 44
+    → IfSome now.bytes (λ image. read ≡ block_in image (link - 1)) → 0 < left → 0 < link → link ≤ count → here ≡ min left 44
     → new_ids ≡ ids ++ ids_in read 12 here → new_more ≡ more ++ (link - 1) ∷ [] → new_left ≡ left - here → new_link ≡ word_at read 8
     → ReadSoFar g first next entry block new_ids new_more count new_left new_link
 read_more g first now next entry block read ids new_ids more new_more count left link here new_left new_link failed s looks asks at some linked
@@ -241,7 +236,7 @@ read_more g first now next entry block read ids new_ids more new_more count left
       cost = asks_then (192 * length more) 192 (192 * length new_more) (g.asked first.image) (g.asked now.image) (g.asked next.image) s.cost
           asks (omega (arith, ap length m, length-append more ((link - 1) ∷ [])));
       rest = more_so first.bytes block read entry ids new_ids more new_more left link here new_left new_link s.rest
-          (subst (λ (b : Option (List ℕ)). IfSome b (λ image. read ≡ block_of 2112 image (link - 1))) s.frame.same.bytes at) some len i m n
+          (subst (λ (b : Option (List ℕ)). IfSome b (λ image. read ≡ block_in image (link - 1))) s.frame.same.bytes at) some len i m n
           k;
     }
 
@@ -264,11 +259,11 @@ lists_whole (Some image) entry block = λ lists. lists.0
 
 -- a block is no continuation of the entry
 pub not_more : (bytes : Option (List ℕ)) (entry : ℤ) (link count : ℕ) (block : List ℕ)
-    → IfSome bytes (λ image. block ≡ block_of 2112 image (link - 1))
+    → IfSome bytes (λ image. block ≡ block_in image (link - 1))
     → is_more_of entry block ≡ false → IfSome bytes (λ image. IsMore image entry link count → ⊥)
 not_more None entry link count block at fails = tt
 not_more (Some image) entry link count block at fails = λ more.
-    let meets : is_more_of entry block ≡ true = ap (is_more_of entry) (at ∙ block_same image (link - 1)) ∙ more.kind in
+    let meets : is_more_of entry block ≡ true = ap (is_more_of entry) at ∙ more.kind in
     absurd cc
 
 -- the ids of the entry's block do not ascend
@@ -303,7 +298,7 @@ no_more g first now entry block ids more count left link fault s fits some cause
 
 falls_so : (bytes : Option (List ℕ)) (entry : ℤ) (block read : List ℕ) (ids : List ℤ) (more : List ℕ) (left link here : ℕ) → 0 < left
     → IfSome bytes (λ image. (l : PairList) → IsListed image entry block l → IsRest image entry l ids more left link)
-    → IfSome bytes (λ image. read ≡ block_of 2112 image (link - 1)) → here ≡ min left 44 → ¬ IsAscending (ids ++ ids_in read 12 here)
+    → IfSome bytes (λ image. read ≡ block_in image (link - 1)) → here ≡ min left 44 → ¬ IsAscending (ids ++ ids_in read 12 here)
     → IfSome bytes (λ image. Lists entry block image → ⊥)
 falls_so None entry block read ids more left link here some rest at len not = tt
 falls_so (Some image) entry block read ids more left link here some rest at len not = λ lists.
@@ -314,11 +309,11 @@ falls_so (Some image) entry block read ids more left link here some rest at len 
 pub more_falls : {I : Type 0} (g : Ghosts I) (first now : Drafted I) (entry : ℤ) (block read : List ℕ) (ids : List ℤ) (more : List ℕ)
     (count left link here : ℕ)
     → ReadSoFar g first now entry block ids more count left link → 0 < left
-    → IfSome now.bytes (λ image. read ≡ block_of 2112 image (link - 1)) → here ≡ min left 44
+    → IfSome now.bytes (λ image. read ≡ block_in image (link - 1)) → here ≡ min left 44
     → ¬ IsAscending (ids ++ ids_in read 12 here) → IfSome first.bytes (λ image. Lists entry block image → ⊥)
 more_falls g first now entry block read ids more count left link here s some at len not =
     falls_so first.bytes entry block read ids more left link here some s.rest
-    (subst (λ (b : Option (List ℕ)). IfSome b (λ image. read ≡ block_of 2112 image (link - 1))) s.frame.same.bytes at) len not
+    (subst (λ (b : Option (List ℕ)). IfSome b (λ image. read ≡ block_in image (link - 1))) s.frame.same.bytes at) len not
 
 -- ---- the whole list
 

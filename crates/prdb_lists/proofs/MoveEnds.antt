@@ -1,5 +1,5 @@
 -- What another id of an entry makes of a draft, and why it is not made.
-use Rattle.std.proofs.Common.{◌≡◌, ◌≢◌, ℤ, suc, ◌<◌, List, [], ◌∷◌, refl, sym, ap, subst, ◌∙◌, arith}
+use Rattle.std.proofs.Common.{◌≡◌, ◌≢◌, ℤ, suc, List, [], ◌∷◌, refl, sym, ap, subst, ◌∙◌, arith}
 use Rattle.std.specs.Prelude.{◌<ℤ◌}
 use Rattle.std.specs.List.{Contains}
 use Rattle.std.proofs.lemmas.Int.{ints}

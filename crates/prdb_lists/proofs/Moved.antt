@@ -4,6 +4,7 @@ use Rattle.std.specs.List.{Contains}
 use Rattle.std.proofs.lemmas.Bool.{cases_Bool}
 use Rattle.db_blocks.specs.Bytes.{words, zeros}
 use Rattle.prdb_layout.specs.Layout.{layout, head_of, block_of as entry_block, numbers_of}
+use Rattle.db_blocks.specs.Blocks.{block_in as any_block}
 use Rattle.prdb_layout.specs.Records.{IsLaidOut, block_in, entry_in, whole}
 use Rattle.prdb_layout.specs.Registry.{Registry, IsFixedId}
 use Rattle.prdb_layout.specs.State.{PrEntry, fixed_entries, initial_state}
@@ -124,7 +125,7 @@ move_holds image r m old new others h may list =
 -- ---- the empty image
 
 fixed_there : (k : ℕ) → k < 6 → IsFixedId (entry_in (block_in (layout initial_state) k)).id
-unfolding block_in layout head_of words zeros fixed_entries entry_block numbers_of
+unfolding any_block layout head_of words zeros fixed_entries entry_block numbers_of
 fixed_there zero below = (0, omega arith, refl)
 fixed_there (suc zero) below = (1, omega arith, refl)
 fixed_there (suc (suc zero)) below = (2, omega arith, refl)

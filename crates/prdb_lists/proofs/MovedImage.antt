@@ -10,9 +10,9 @@ use Rattle.prdb_layout.specs.Blocks.{block_count}
 use Rattle.prdb_layout.specs.Records.{IsBlock, IsEntryBlock, IsLaidOut, block_in, block_place, entry_in, head_with, with_block}
 use Rattle.prdb_layout.specs.Registry.{Registry, IsRegistry}
 use Rattle.prdb_layout.specs.State.{PrEntry}
-use Rattle.prdb_layout.proofs.BlockPlaces.{IsPut, block_len, put_block}
+use Rattle.prdb_layout.proofs.BlockPlaces.{block_len}
 use Rattle.prdb_layout.proofs.Changed.{by_id, some_same}
-use Rattle.prdb_layout.proofs.LaidOut.{count_is, zero_kind}
+use Rattle.prdb_layout.proofs.LaidOut.{zero_kind}
 use Rattle.prdb_layout.proofs.Lengths.{fits_id}
 use Rattle.prdb_lists.specs.Changes.{list_in, relisted, with_list, with_more}
 use Rattle.prdb_lists.specs.Layout.{AreLists, IsListed, PairList, IsSpelled}
@@ -26,6 +26,8 @@ use Rattle.prdb_lists.proofs.MovedRegistry.{back, back_new, back_other, ids_diff
 use Rattle.prdb_lists.proofs.Relist.{StandsAt, all_of, old_blocks}
 use Rattle.prdb_lists.proofs.Side.{IsMoreBlock, IsWritten, chain_block, chain_stays, contains_or, written}
 use Rattle.prdb_lists.proofs.WithList.{entry_block, entry_kept, first_of, front_told, length-with_list, spelled_kept}
+use Rattle.db_blocks.proofs.Scanned.{count_is}
+use Rattle.db_blocks.proofs.BlockPlaces.{IsPut, put_block}
 
 -- Block k is the entry's, with another id and its list; the list's blocks are written. All others stay.
 record IsIdPut (image after : List ℕ) (old new : ℤ) (k n : ℕ) (block : List ℕ) (l : PairList) : Type 0 where
@@ -71,10 +73,10 @@ put_made image r lists old new k n h may at count =
     (all_of l.more n (λ j has. let less = more_within image r lists old k h at j has in omega arith)) (h.are.once old may.there)
     (full_by-length l.more (drop 19 l.ids) (chain-length image old l.more (drop 19 l.ids) listed.chain)) in
     let full = with_more new l.more (drop 19 l.ids) image in
-    let full_count : block_count full ≡ n = count_is full n w.size in
-    let put : IsPut k block full (with_block k block full) n = put_block full block k n w.size (length-with_list mid l mid_len) in_n in
+    let full_count : block_count full ≡ n = count_is 2112 full n w.size in
+    let put : IsPut 2112 k block full (with_block k block full) n = put_block 2112 full block k n w.size (length-with_list mid l mid_len) in_n in
     let after = with_block k block full in
-    let after_count : block_count after ≡ n = count_is after n put.size in
+    let after_count : block_count after ≡ n = count_is 2112 after n put.size in
     let is_entry : IsEntryBlock (block_in image k) = elim (h.laid.blocks k below) [
       | inl free ↦ let kind = at.kind in let zero = ap kind_of free ∙ zero_kind in absurd (omega arith)
       | inr other ↦ elim other [ inl two ↦ let kind = at.kind in absurd (omega arith) | inr is ↦ is ]
@@ -93,7 +95,7 @@ put_made image r lists old new k n h may at count =
     record {
       was = was;
       size = put.size;
-      front = put.head ∙ w.front;
+      front = put.front ∙ w.front;
       within = in_n;
       kind = at.kind;
       id = at.id;
@@ -146,7 +148,7 @@ entry_of : (image after : List ℕ) (r : Registry) (old new : ℤ) (k n : ℕ) (
     → MayMove old new r
     → IsIdPut image after old new k n block l → (j : ℕ) → j < n → kind_of (block_in after j) ≡ 1 → IsEntryOf image after r old new k j
 entry_of image after r old new k n block l laid valid may s j below kind =
-    let count : block_count image ≡ n = count_is image n s.was in
+    let count : block_count image ≡ n = count_is 2112 image n s.was in
     elim (place image after old new k n block l s j below) [
       | the_entry same ↦
           let b : block_in after j ≡ block = ap (block_in after) same ∙ s.here in
@@ -184,7 +186,7 @@ stays_in : (image after : List ℕ) (r : Registry) (old new : ℤ) (k n : ℕ) (
     → MayMove old new r
     → IsIdPut image after old new k n block l → (id : ℤ) (e : PrEntry) → id ≢ old → r.entry id ≡ Some e → StandsIn after n e
 stays_in image after r old new k n block l laid valid may s id e apart at =
-    let count : block_count image ≡ n = count_is image n s.was in
+    let count : block_count image ≡ n = count_is 2112 image n s.was in
     let o = laid.only id e at in
     let below = o.1 in
     let in_n : o.0 < n = omega arith in
@@ -199,7 +201,7 @@ entries_stand : (image after : List ℕ) (r : Registry) (old new : ℤ) (k n : �
     → IsRegistry r → MayMove old new r
     → IsIdPut image after old new k n block l → (id : ℤ) (e : PrEntry) → (moved_registry old new r).entry id ≡ Some e → StandsIn after n e
 entries_stand image after r old new k n block l laid valid may s id e at =
-    let count : block_count image ≡ n = count_is image n s.was in
+    let count : block_count image ≡ n = count_is 2112 image n s.was in
     let in_n = s.within in
     by_id id new
     (λ same.
@@ -216,8 +218,8 @@ put_laid : (image after : List ℕ) (r : Registry) (old new : ℤ) (k n : ℕ) (
     → MayMove old new r
     → IsIdPut image after old new k n block l → IsLaidOut after (moved_registry old new r)
 put_laid image after r old new k n block l laid valid may s =
-    let count : block_count image ≡ n = count_is image n s.was in
-    let after_count : block_count after ≡ n = count_is after n s.size in
+    let count : block_count image ≡ n = count_is 2112 image n s.was in
+    let after_count : block_count after ≡ n = count_is 2112 after n s.size in
     record {
       size = s.size ∙ ap block_place (sym after_count);
       head = s.front ∙ laid.head ∙ ap (head_with r.max_user r.max_group) (count ∙ sym after_count);
@@ -243,8 +245,8 @@ put_lists : (image after : List ℕ) (r : Registry) (lists : ℤ → PairList) (
     → IsIdPut image after old new k n block (lists old) → AreLists after (moved_registry old new r) (λ id. lists (back old new id))
 put_lists image after r lists old new k n block h may s =
     let l = lists old in
-    let count : block_count image ≡ n = count_is image n s.was in
-    let after_count : block_count after ≡ n = count_is after n s.size in
+    let count : block_count image ≡ n = count_is 2112 image n s.was in
+    let after_count : block_count after ≡ n = count_is 2112 after n s.size in
     record {
       listed = λ j below kind. elim (place image after old new k n block (lists old) s j (omega arith)) [
         | the_entry same ↦

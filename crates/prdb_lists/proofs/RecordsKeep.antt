@@ -18,11 +18,11 @@ use Rattle.prdb_layout.specs.Bytes.{bits}
 use Rattle.prdb_layout.specs.Records.{Holds, IsLaidOut, after_insert, after_remove, after_replace, after_set_maxima, block_in, block_place, entry_in, field_numbers, first_block, has_id, is_free, maxima_in, new_block, next_block, whole, with_block, with_count, with_fields}
 use Rattle.prdb_layout.specs.Registry.{Registry, AreMaxima, IsRecord, MayBeAdded, MayBeRemoved, MayReplace, with_entry, with_maxima, without_entry}
 use Rattle.prdb_layout.specs.State.{PrEntry}
-use Rattle.prdb_layout.proofs.BlockPlaces.{IsPut, put_block, add_block, put_count, put_maxima, block_len}
+use Rattle.prdb_layout.proofs.BlockPlaces.{put_count, put_maxima, block_len}
 use Rattle.prdb_layout.proofs.Changed.{by_id}
 use Rattle.prdb_layout.proofs.EntryFields.{behind_name, entry_with, kind_with, length-with_fields}
 use Rattle.prdb_layout.proofs.Held.{holds_inserted, holds_maxima, holds_removed, holds_replaced}
-use Rattle.prdb_layout.proofs.LaidOut.{count_is, whole_same, zero_kind}
+use Rattle.prdb_layout.proofs.LaidOut.{whole_same, zero_kind}
 use Rattle.prdb_layout.proofs.Lookups.{id_absent, id_parts}
 use Rattle.prdb_lists.specs.Layout.{AreLists, HoldsPairs, IsDistinct, IsListed, PairList, id_field, list_words, IsSpelled}
 use Rattle.prdb_lists.specs.Members.{Members, are_paired}
@@ -30,6 +30,8 @@ use Rattle.prdb_lists.proofs.Kept.{IsOneOther, listed_kept, lists_kept}
 use Rattle.prdb_lists.proofs.ListFound.{none_paired}
 use Rattle.prdb_lists.proofs.ListRead.{chain_end}
 use Rattle.prdb_lists.proofs.Spelled.{fields_spelled}
+use Rattle.db_blocks.proofs.Scanned.{count_is}
+use Rattle.db_blocks.proofs.BlockPlaces.{IsPut, put_block, add_block}
 
 is_there : (o : Option PrEntry) (x : PrEntry) → o ≡ Some x → IsSome o
 is_there o x e = subst (λ (v : Option PrEntry). IsSome v) (sym e) refl
@@ -102,7 +104,7 @@ maxima_lists image r user group lists laid are = elim (maxima_after image user g
       let n = block_count old in
       let put = put_maxima old r.max_user r.max_group user group n laid.size laid.head in
       let long : 0 < length new = omega (arith, put.size, laid.size) in
-      let count : block_count new ≡ n = count_is new n (put.size ∙ laid.size) in
+      let count : block_count new ≡ n = count_is 2112 new n (put.size ∙ laid.size) in
       subst (λ (i : List ℕ). AreLists (whole i) r lists) (sym made)
       (subst (λ (i : List ℕ). AreLists i r lists) (sym (whole_same new long)) (lists_same old new r lists count put.others are))
 ]
@@ -175,12 +177,12 @@ first_there image r id holds there =
 replaced_lists : (old new : List ℕ) (r s : Registry) (id : ℤ) (e : PrEntry) (k n : ℕ) (lists : ℤ → PairList) → IsLaidOut old r
     → length old ≡ block_place n → k < n
     → kind_of (block_in old k) ≡ 1 → (entry_in (block_in old k)).id ≡ id → e.id ≡ id → IsRecord e
-    → IsPut k (with_fields e (block_in old k)) old new n
+    → IsPut 2112 k (with_fields e (block_in old k)) old new n
     → ((x : ℤ) → IsSome (r.entry x) → IsSome (s.entry x)) → ((x : ℤ) → IsSome (s.entry x) → IsSome (r.entry x)) → AreLists old r lists
     → AreLists new s lists
 replaced_lists old new r s id e k n lists laid size below kind same_id same is put there back are =
-    let count : block_count old ≡ n = count_is old n size in
-    let new_count : block_count new ≡ n = count_is new n put.size in
+    let count : block_count old ≡ n = count_is 2112 old n size in
+    let new_count : block_count new ≡ n = count_is 2112 new n put.size in
     let len = block_len old k n size below in
     let block = with_fields e (block_in old k) in
     let entry : entry_in block ≡ e = entry_with e (block_in old k) len is.fields in
@@ -236,14 +238,14 @@ replace_keep image r m id e h is may =
     let len : length block ≡ 192 = length-with_fields e (block_in old k) (block_len old k n h.holds.laid.size below) is.fields.name_len in
     let lists : AreLists (whole (after_replace id e image)) (with_entry e r) h.lists = elim (replace_after image id e) [
       | inl same ↦
-          let put : IsPut k block old old
-          n = record { size = h.holds.laid.size; head = refl; here = sym same.1; others = λ j less other. refl } in
+          let put : IsPut 2112 k block old old
+          n = record { size = h.holds.laid.size; front = refl; here = sym same.1; others = λ j less other. refl } in
           subst (λ (i : List ℕ). AreLists (whole i) (with_entry e r) h.lists) (sym same.0)
           (replaced_lists old old r
           (with_entry e r) id e k n h.lists h.holds.laid h.holds.laid.size below parts.0 parts.1 may.same_id is put there back h.are)
       | inr made ↦
           let new = with_block k block old in
-          let put : IsPut k block old new n = put_block old block k n h.holds.laid.size len below in
+          let put : IsPut 2112 k block old new n = put_block 2112 old block k n h.holds.laid.size len below in
           let long : 0 < length new = omega (arith, put.size) in
           subst (λ (i : List ℕ). AreLists (whole i) (with_entry e r) h.lists) (sym made)
           (subst (λ (i : List ℕ). AreLists i (with_entry e r) h.lists) (sym (whole_same new long))
@@ -337,8 +339,8 @@ taken_in : (old : List ℕ) (r : Registry) (e : PrEntry) (k : ℕ) → IsLaidOut
 taken_in old r e k laid is below free =
     let n = block_count old in
     let new = with_block k (new_block e) old in
-    let put : IsPut k (new_block e) old new n = put_block old (new_block e) k n laid.size (new_len e is) below in
-    let new_count : block_count new ≡ n = count_is new n put.size in
+    let put : IsPut 2112 k (new_block e) old new n = put_block 2112 old (new_block e) k n laid.size (new_len e is) below in
+    let new_count : block_count new ≡ n = count_is 2112 new n put.size in
     record {
       one = record {
         stood = λ j in_new other. let in_old : j < n = omega (arith, in_new, new_count) in (in_old, put.others j in_old other);
@@ -356,10 +358,10 @@ taken_end old r e laid is =
     let n = block_count old in
     let mid = with_block n (new_block e) old in
     let new = with_count (n + 1) mid in
-    let put : IsPut n (new_block e) old mid (n + 1) = add_block old (new_block e) n laid.size (new_len e is) in
-    let head = put_count mid r.max_user r.max_group n (n + 1) (n + 1) put.size (put.head ∙ laid.head) in
-    let mid_count : block_count mid ≡ n + 1 = count_is mid (n + 1) put.size in
-    let new_count : block_count new ≡ n + 1 = count_is new (n + 1) (head.size ∙ put.size) in
+    let put : IsPut 2112 n (new_block e) old mid (n + 1) = add_block 2112 old (new_block e) n laid.size (new_len e is) in
+    let head = put_count mid r.max_user r.max_group n (n + 1) (n + 1) put.size (put.front ∙ laid.head) in
+    let mid_count : block_count mid ≡ n + 1 = count_is 2112 mid (n + 1) put.size in
+    let new_count : block_count new ≡ n + 1 = count_is 2112 new (n + 1) (head.size ∙ put.size) in
     let here : block_in new n ≡ new_block e = head.others n (omega (arith, mid_count)) ∙ put.here in
     record {
       one = record {
@@ -446,8 +448,8 @@ removed_lists : (old : List ℕ) (r : Registry) (id : ℤ) (k : ℕ) (lists : �
 removed_lists old r id k lists laid below kind same none are =
     let n = block_count old in
     let new = with_block k (zeros 192) old in
-    let put : IsPut k (zeros 192) old new n = put_block old (zeros 192) k n laid.size zeros_len below in
-    let new_count : block_count new ≡ n = count_is new n put.size in
+    let put : IsPut 2112 k (zeros 192) old new n = put_block 2112 old (zeros 192) k n laid.size zeros_len below in
+    let new_count : block_count new ≡ n = count_is 2112 new n put.size in
     let zero : kind_of (block_in new k) ≡ 0 = ap kind_of put.here ∙ zero_kind in
     let was : IsListed old id (block_in old k) (lists id) = subst (λ (x : ℤ). IsListed old x (block_in old k) (lists x)) same
     (are.listed k below kind) in
@@ -481,7 +483,7 @@ remove_lists image r id lists holds there none are =
     let below = first_there image r id holds there in
     let has : has_id id (block_in old k) ≡ true = first_met (λ j. has_id id (block_in old j)) 0 n (omega arith) in
     let parts = id_parts id (block_in old k) has in
-    let put : IsPut k (zeros 192) old (with_block k (zeros 192) old) n = put_block old (zeros 192) k n holds.laid.size zeros_len below in
+    let put : IsPut 2112 k (zeros 192) old (with_block k (zeros 192) old) n = put_block 2112 old (zeros 192) k n holds.laid.size zeros_len below in
     let long : 0 < length (with_block k (zeros 192) old) = omega (arith, put.size) in
     subst (λ (i : List ℕ). AreLists i (without_entry id r) lists) (sym (whole_same (with_block k (zeros 192) old) long))
     (removed_lists old r id k lists holds.laid below parts.0 parts.1 none are)

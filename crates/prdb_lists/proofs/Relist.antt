@@ -9,9 +9,9 @@ use Rattle.db_blocks.specs.Bytes.{zeros}
 use Rattle.db_blocks.specs.Blocks.{kind_of}
 use Rattle.prdb_layout.specs.Records.{IsEntryBlock, block_in, block_place, entry_in, with_block}
 use Rattle.prdb_layout.specs.Registry.{Registry, IsRegistry}
-use Rattle.prdb_layout.proofs.BlockPlaces.{IsPut, block_len, put_block}
+use Rattle.prdb_layout.proofs.BlockPlaces.{block_len}
 use Rattle.prdb_layout.proofs.Changed.{by_id}
-use Rattle.prdb_layout.proofs.LaidOut.{count_is, zero_kind}
+use Rattle.prdb_layout.proofs.LaidOut.{zero_kind}
 use Rattle.entry_scans.specs.Lists.{IsAscending}
 use Rattle.prdb_lists.specs.Changes.{relisted, with_list, with_more}
 use Rattle.prdb_lists.specs.Layout.{IsDistinct, IsListed, PairList}
@@ -20,6 +20,8 @@ use Rattle.prdb_lists.proofs.Chains.{chain_over, full_by-length}
 use Rattle.prdb_lists.proofs.Ids.{entry_fits, few_ids}
 use Rattle.prdb_lists.proofs.Side.{IsMoreBlock, IsSide, IsWritten, chain_block, set_other, set_same, side_laid, side_lists, stays, written}
 use Rattle.prdb_lists.proofs.WithList.{entry_block, entry_kept, first_of, front_told, length-with_list, spelled_kept}
+use Rattle.db_blocks.proofs.Scanned.{count_is}
+use Rattle.db_blocks.proofs.BlockPlaces.{IsPut, put_block}
 
 -- an entry's block
 pub record StandsAt (image : List ℕ) (x : ℤ) (k : ℕ) : Type 0 where
@@ -99,11 +101,11 @@ relist_side old mid r lists x k f n l h at there count spared ids may =
     written x l.more (drop 19 l.ids) mid n mid_size (all_of l.more n (λ j has. let less = may.within j has in omega arith)) may.distinct
     (full_by-length l.more (drop 19 l.ids) may.enough) in
     let full = with_more x l.more (drop 19 l.ids) mid in
-    let full_count : block_count full ≡ n = count_is full n w.size in
-    let put : IsPut k block full (with_block k block full) n = put_block full block k n w.size
+    let full_count : block_count full ≡ n = count_is 2112 full n w.size in
+    let put : IsPut 2112 k block full (with_block k block full) n = put_block 2112 full block k n w.size
     (length-with_list (block_in old k) l len) in_n in
     let new = with_block k block full in
-    let new_count : block_count new ≡ n = count_is new n put.size in
+    let new_count : block_count new ≡ n = count_is 2112 new n put.size in
     let entry : IsEntryBlock (block_in old k) = elim (h.laid.blocks k below) [
       | inl free ↦ let kind = at.kind in let zero = ap kind_of free ∙ zero_kind in absurd (omega arith)
       | inr other ↦ elim other [ inl two ↦ let kind = at.kind in absurd (omega arith) | inr is ↦ is ]
@@ -111,7 +113,7 @@ relist_side old mid r lists x k f n l h at there count spared ids may =
     record {
       was = was;
       size = put.size;
-      front = put.head ∙ w.front ∙ spared.front;
+      front = put.front ∙ w.front ∙ spared.front;
       within = in_n;
       kind = at.kind;
       id = at.id;
@@ -163,7 +165,7 @@ rewritten old mid r lists x k f l h at there spared ids may =
     → IsMoreBlock new x j = chain_block new x l.more (drop 19 l.ids) (entry_fits r x h.valid there) s.listed.chain in
     let size : length new ≡ block_place n = s.size in
     let was = h.laid.size in
-    let new_count : block_count new ≡ n = count_is new n size in
+    let new_count : block_count new ≡ n = count_is 2112 new n size in
     record {
       has = record {
         valid = h.valid;

@@ -12,15 +12,16 @@ use Rattle.db_blocks.specs.Blocks.{kind_of}
 use Rattle.prdb_layout.specs.Records.{IsBlock, IsEntryBlock, IsLaidOut, block_in, block_place, entry_in, head_with, signed_at, with_block}
 use Rattle.prdb_layout.specs.Registry.{Registry}
 use Rattle.prdb_layout.specs.State.{PrEntry}
-use Rattle.prdb_layout.proofs.BlockPlaces.{IsPut, put_block}
 use Rattle.prdb_layout.proofs.Changed.{by_id}
-use Rattle.prdb_layout.proofs.LaidOut.{count_is, zero_kind}
+use Rattle.prdb_layout.proofs.LaidOut.{zero_kind}
 use Rattle.prdb_lists.specs.Layout.{AreLists, IsChain, IsDistinct, IsListed, PairList, link_to, more_block, IsSpelled}
 use Rattle.prdb_lists.specs.Changes.{with_more}
 use Rattle.prdb_lists.specs.Sides.{set_list}
 use Rattle.prdb_lists.proofs.BlockIds.{kind_of_more, entry_of_more}
 use Rattle.prdb_lists.proofs.RecordsKeep.{int_other}
 use Rattle.prdb_lists.proofs.WithList.{length-more, take_few}
+use Rattle.db_blocks.proofs.Scanned.{count_is}
+use Rattle.db_blocks.proofs.BlockPlaces.{IsPut, put_block}
 
 -- ---- blocks of a list
 
@@ -67,16 +68,16 @@ written entry [] ids image n size below distinct full = record { size = size; fr
 written entry (k ∷ more) ids image n size below distinct full =
     let block = more_block entry (link_to more) (take 44 ids) in
     let here : k < n = below 0 0 (omega arith) in
-    let put : IsPut k block image (with_block k block image) n = put_block image block k n size
+    let put : IsPut 2112 k block image (with_block k block image) n = put_block 2112 image block k n size
     (length-more entry (link_to more) (take 44 ids) (take_few 44 ids)) here in
-    let count : block_count image ≡ n = count_is image n size in
+    let count : block_count image ≡ n = count_is 2112 image n size in
     let rest = written entry more (drop 44 ids) (with_block k block image) n put.size (All-tail (λ j. j < n) k more below)
     (distinct_tail k more distinct) full.1 in
     let last : block_count (with_more entry more (drop 44 ids) (with_block k block image))
-    ≡ n = count_is (with_more entry more (drop 44 ids) (with_block k block image)) n rest.size in
+    ≡ n = count_is 2112 (with_more entry more (drop 44 ids) (with_block k block image)) n rest.size in
     record {
       size = rest.size;
-      front = rest.front ∙ put.head;
+      front = rest.front ∙ put.front;
       chain = (omega (arith, here, last), full.0, rest.others k here (head_not k more distinct) ∙ put.here, rest.chain);
       others = λ j less not.
           let other : j ≢ k = λ same. not (0, omega arith, sym same) in
@@ -195,8 +196,8 @@ pub side_laid : (old new : List ℕ) (r : Registry) (lists : ℤ → PairList) (
     → ((j : ℕ) → Contains l.more j → IsMoreBlock new x j)
     → IsLaidOut new r
 side_laid old new r lists x k f n block l laid s more new_more =
-    let count : block_count old ≡ n = count_is old n s.was in
-    let new_count : block_count new ≡ n = count_is new n s.size in
+    let count : block_count old ≡ n = count_is 2112 old n s.was in
+    let new_count : block_count new ≡ n = count_is 2112 new n s.size in
     let kind_one : (j : ℕ) → j < n → kind_of (block_in new j) ≡ 1
     → (kind_of (block_in old j) ≡ 1) × (entry_in (block_in new j) ≡ entry_in (block_in old j)) =
     λ j below kind. elim (place old new lists x k f n block l s j below) [
@@ -261,8 +262,8 @@ pub side_lists : (old new : List ℕ) (r : Registry) (lists : ℤ → PairList) 
     → ((j : ℕ) → Contains (lists x).more j → IsMoreBlock old x j) → ((j : ℕ) → Contains l.more j → IsMoreBlock new x j)
     → AreLists new r (set_list x l lists)
 side_lists old new r lists x k f n block l laid are s there fits more new_more =
-    let count : block_count old ≡ n = count_is old n s.was in
-    let new_count : block_count new ≡ n = count_is new n s.size in
+    let count : block_count old ≡ n = count_is 2112 old n s.was in
+    let new_count : block_count new ≡ n = count_is 2112 new n s.size in
     record {
       listed = λ j below kind.
           let in_n : j < n = omega (arith, below, new_count) in

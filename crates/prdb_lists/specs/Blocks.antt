@@ -4,7 +4,9 @@ use Rattle.std.specs.List.{All, range_with_len}
 use Rattle.std.specs.Ordering.{int_eq}
 use Rattle.db_blocks.specs.Blocks.{block_place, kind_of}
 use Rattle.prdb_layout.specs.Records.{block_in, signed_at}
-use Rattle.prdb_lists.specs.declared.layout.TheConstants.{HEAD_LEN, BLOCK_LEN, MORE_ENTRY_AT}
+use Rattle.db_blocks.specs.declared.blocks.TheConstants.{BLOCK_LEN}
+use Rattle.prdb_layout.specs.declared.blocks.TheConstants.{HEAD_LEN}
+use Rattle.prdb_lists.specs.declared.layout.TheConstants.{MORE_ENTRY_AT}
 
 -- so many signed numbers from a place on
 abbrev pub ids_in : List ℕ → (at count : ℕ) → List ℤ

@@ -8,7 +8,9 @@ use Rattle.prdb_layout.specs.Records.{block_in, first_block, has_id, next_block,
 use Rattle.prdb_lists.specs.Blocks.{ids_in}
 use Rattle.prdb_lists.specs.Layout.{PairList, id_field, link_to, list_words, more_block}
 use Rattle.prdb_lists.specs.Lists.{ids_with, ids_without}
-use Rattle.prdb_lists.specs.declared.layout.TheConstants.{BLOCK_LEN, PAIR_COUNT_AT, FIRST_MORE_AT, FIRST_IDS_AT, FIRST_IDS, NEXT_AT, MORE_IDS_AT, MORE_IDS}
+use Rattle.db_blocks.specs.declared.blocks.TheConstants.{BLOCK_LEN}
+use Rattle.prdb_layout.specs.declared.blocks.TheConstants.{PAIR_COUNT_AT}
+use Rattle.prdb_lists.specs.declared.layout.TheConstants.{FIRST_MORE_AT, FIRST_IDS_AT, FIRST_IDS, NEXT_AT, MORE_IDS_AT, MORE_IDS}
 
 -- ---- the list that an image tells of an entry
 

@@ -10,7 +10,9 @@ use Rattle.prdb_layout.specs.Records.{Holds, block_in, entry_in, field_numbers, 
 use Rattle.prdb_layout.specs.Registry.{Registry}
 use Rattle.entry_scans.specs.Lists.{IsAscending}
 use Rattle.prdb_lists.specs.Members.{Members, ArePairs, are_paired}
-use Rattle.prdb_lists.specs.declared.layout.TheConstants.{BLOCK_LEN, PAIR_COUNT_AT, FIRST_IDS_AT, FIRST_IDS, MORE_IDS_AT, MORE_IDS}
+use Rattle.db_blocks.specs.declared.blocks.TheConstants.{BLOCK_LEN}
+use Rattle.prdb_layout.specs.declared.blocks.TheConstants.{PAIR_COUNT_AT}
+use Rattle.prdb_lists.specs.declared.layout.TheConstants.{FIRST_IDS_AT, FIRST_IDS, MORE_IDS_AT, MORE_IDS}
 
 -- the ids with which an entry is paired, and the numbers of the continuation blocks in which those behind the first ones lie
 pub record PairList : Type 0 where

@@ -12,7 +12,7 @@ use Rattle.prdb_lists.specs.Layout.{PairList}
 use Rattle.prdb_lists.specs.Lists.{ids_with, ids_without}
 use Rattle.prdb_lists.specs.Members.{Members}
 use Rattle.prdb_lists.specs.Sides.{HasLists}
-use Rattle.prdb_lists.specs.declared.layout.TheConstants.{ID_AT}
+use Rattle.prdb_layout.specs.declared.blocks.TheConstants.{ID_AT}
 
 -- ---- of an image
 

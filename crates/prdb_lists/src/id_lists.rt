@@ -34,14 +34,6 @@ impl IdList {
         }
     }
 
-    /// The list of these ids, which ascend.
-    pub(crate) fn of_ascending(ids: Vec<i32>) -> Self
-        requires { IsAscending ids.items }
-        ensures { result ≡ ids.items }
-    {
-        IdList { ids }
-    }
-
     pub fn as_slice(&self) -> &[i32]
         ensures value { result.now ≡ self.now }
         ensures ascending { IsAscending result.now }

@@ -2,14 +2,12 @@
 #![tactic(auto)]
 
 mod blocks;
-mod finds;
 mod id_lists;
 mod layout;
 mod listed;
 mod sides;
 mod writes;
 
-pub use finds::owned;
 pub use id_lists::IdList;
 pub use listed::{Listed, read_list};
 pub use sides::{Place, blocks_for, write_list};

@@ -5,15 +5,15 @@ ghost use Rattle.db_blocks.specs.Blocks.{IsWhole, block_in, block_place};
 ghost use Rattle.db_blocks.specs.Ends.{HasCause, OnlyLooks};
 ghost use Rattle.prdb_lists.specs.Blocks.{AreWithin, IsMore};
 ghost use Rattle.prdb_lists.specs.Layout.{IsListed, PairList};
-ghost use Rattle.prdb_lists.specs.declared.layout.TheConstants.{BLOCK_LEN};
+ghost use Rattle.db_blocks.specs.declared.blocks.TheConstants.{BLOCK_LEN};
 
 use crate::blocks::{is_more_of, read_ids};
 use crate::id_lists::IdList;
-use crate::layout::{
-    FIRST_IDS, FIRST_IDS_AT, FIRST_MORE_AT, HEAD_LEN, MORE_IDS, MORE_IDS_AT, NEXT_AT, PAIR_COUNT_AT,
-};
+use crate::layout::{FIRST_IDS, FIRST_IDS_AT, FIRST_MORE_AT, MORE_IDS, MORE_IDS_AT, NEXT_AT};
 use db_blocks::{Block, Found, block_count, block_place, read_block, word_at};
 use db_image::{Draft, ImageRead, RecordFault};
+use entry_scans::pair_count_in;
+use prdb_layout::HEAD_LEN;
 use std::alloc::Global;
 
 /// The pairs of an entry.
@@ -45,7 +45,7 @@ fn read_more<I: ImageRead>(
     if link == 0 || link > count {
         return Err(RecordFault::BadRecord { at });
     }
-    let block = read_block(d, HEAD_LEN as u32, link - 1)?;
+    let block = read_block(d, HEAD_LEN, link - 1)?;
     if !is_more_of(&block, entry) {
         return Err(RecordFault::BadRecord { at });
     }
@@ -69,11 +69,11 @@ pub fn read_list<I: ImageRead>(
     ensures cost { IfSome d.old.bytes (λ image. (l : PairList) → IsListed image entry found.now.block l
         → AsksAtMost (BLOCK_LEN * length l.more) (I.asked d.old.image) (I.asked d.new.image)) }
 {
-    let at = block_place(HEAD_LEN as u32, found.number);
-    let count = block_count(HEAD_LEN as u32, d.len())?;
+    let at = block_place(HEAD_LEN, found.number);
+    let count = block_count(HEAD_LEN, d.len())?;
     let mut ids = IdList::new(alloc);
     let mut more = Vec::new(alloc);
-    let mut left = word_at(&found.block, PAIR_COUNT_AT) as usize;
+    let mut left = pair_count_in(&found.block) as usize;
     let mut link = word_at(&found.block, FIRST_MORE_AT);
     let first = left.min(FIRST_IDS);
     if !read_ids(&mut ids, &found.block, FIRST_IDS_AT, first)? {

@@ -6,13 +6,14 @@ ghost use Rattle.db_blocks.specs.Blocks.{block_place};
 ghost use Rattle.db_blocks.specs.Ends.{Becomes, HasCause, OnlyDrafts};
 ghost use Rattle.prdb_lists.specs.Blocks.{AreWithin};
 ghost use Rattle.prdb_lists.specs.Changes.{blocks_for, relisted};
-ghost use Rattle.prdb_lists.specs.declared.layout.TheConstants.{BLOCK_LEN};
+ghost use Rattle.db_blocks.specs.declared.blocks.TheConstants.{BLOCK_LEN};
 
-use crate::layout::{FIRST_IDS, HEAD_LEN, MAX_IDS, MORE_IDS};
+use crate::layout::{FIRST_IDS, MAX_IDS, MORE_IDS};
 use crate::listed::Listed;
 use crate::writes::{with_list, write_more};
 use db_blocks::{Found, block_place};
 use db_image::{Draft, ImageRead, RecordFault};
+use prdb_layout::HEAD_LEN;
 use std::alloc::Global;
 
 /// An entry, its block, and its list of pairs.
@@ -48,7 +49,7 @@ pub fn write_list<I: ImageRead>(
     ensures frame { OnlyDrafts I.ImageRead d.old d.new (IsErrOf result RecordFault.DiskFault) }
     ensures cost { AsksAtMost (put_cost d.old.layout BLOCK_LEN * (length more.now + 1)) (I.asked d.old.image) (I.asked d.new.image) }
 {
-    let at = block_place(HEAD_LEN as u32, place.found.number);
+    let at = block_place(HEAD_LEN, place.found.number);
     if ids.len() > MAX_IDS {
         return Err(RecordFault::BadRecord { at });
     }

@@ -12,12 +12,11 @@ ghost use Rattle.prdb_lists.specs.Blocks.{AreWithin};
 ghost use Rattle.prdb_lists.specs.Changes.{with_list, with_more};
 ghost use Rattle.prdb_lists.specs.Layout.{id_field, link_to, more_block};
 
-use crate::layout::{
-    BLOCK_LEN, FIRST_IDS, FIRST_IDS_AT, HEAD_LEN, MORE, MORE_IDS, MORE_IDS_AT, NAME_AT,
-    PAIR_COUNT_AT,
-};
-use db_blocks::{Block, block_place, push_filled, push_words};
+use crate::layout::{FIRST_IDS, FIRST_IDS_AT, MORE_IDS, MORE_IDS_AT};
+use db_blocks::{BLOCK_LEN, Block, block_place, push_filled, push_words};
 use db_image::{Draft, ImageRead, RecordFault};
+use entry_scans::MORE;
+use prdb_layout::{HEAD_LEN, NAME_AT, PAIR_COUNT_AT};
 use std::alloc::{AllocError, Global};
 
 /// The word that names the first of these blocks: its number from 1 on, or 0 where there is none.
@@ -99,7 +98,7 @@ fn write_one<I: ImageRead>(
     ensures cost { AsksAtMost (put_cost d.old.layout BLOCK_LEN) (I.asked d.old.image) (I.asked d.new.image) }
 {
     let block = more_block(alloc, entry, link_to(behind), ids)?;
-    d.put(block_place(HEAD_LEN as u32, number), &block)
+    d.put(block_place(HEAD_LEN, number), &block)
 }
 
 /// Writes the ids behind the first ones into the continuation blocks of an entry.

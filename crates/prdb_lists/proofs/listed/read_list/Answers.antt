@@ -19,7 +19,7 @@ returns-in_err-count-clause-fault g c =
 pub returns-then-not-branch-clause-fault : goal.returns-then-not-branch-clause-fault
 returns-then-not-branch-clause-fault g c =
     first_falls c.args.d.now.bytes c.args.entry c.args.found.now.block c.min-first.result
-    (omega (arith, c.min-first.ensures, c.word_at-left.ensures))
+    (omega (arith, c.min-first.ensures, c.pair_count_in-left.ensures))
     (subst (λ (l : List ℤ). ¬ IsAscending (l ++ ids_in c.args.found.now.block 112 c.min-first.result)) c.new-ids.ensures
     (c.in_ok-read_ids.ensures.not c.if-not-branch.true))
 
@@ -29,15 +29,15 @@ loop-left-init g c =
     simp to_z-of_z
     (read_first g.I.ImageRead c.args.d.now c.args.entry c.args.found.now.block c.read_ids.new.ids c.new-more.result.items c.min-first.result
     c.in_ok-count.count
-    (c.word_at-left.result - c.min-first.result) c.word_at-link.result
+    (c.pair_count_in-left.result - c.min-first.result) c.word_at-link.result
     (rw (← c.in_ok-count.ensures.count, c.len.ensures.size) c.len.ensures.told)
     (omega (arith, c.in_ok-count.ensures.count, c.len.ensures.size, c.requires.len))
     (omega (arith, c.in_ok-count.ensures.count, c.len.ensures.size))
-    (omega (arith, c.min-first.ensures, c.word_at-left.ensures))
+    (omega (arith, c.min-first.ensures, c.pair_count_in-left.ensures))
     (c.in_ok-read_ids.ensures.read c.if-not-branch.false
     ∙ ap (λ (l : List ℤ). l ++ ids_in c.args.found.now.block 112 c.min-first.result) c.new-ids.ensures)
     c.new-more.ensures.items
-    (ap (λ (n : ℕ). n - c.min-first.result) c.word_at-left.ensures)
+    (ap (λ (n : ℕ). n - c.min-first.result) c.pair_count_in-left.ensures)
     c.word_at-link.ensures)
 
 pub returns-in_err-block-clause-fault : goal.returns-in_err-block-clause-fault

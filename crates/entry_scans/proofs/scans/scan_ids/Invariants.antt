@@ -1,5 +1,0 @@
-use Rattle.entry_scans.proofs.Passed.{Passed}
-use Rattle.entry_scans.proofs.scans.scan_ids.Given as goal
-
-abbrev pub invariant-loop-number : goal.invariant-loop-number
-invariant-loop-number g l = Passed g.I.ImageRead l.initial.d l.d (g.S.Sought.test l.sought) l.ids.items l.count l.number
