@@ -1,5 +1,5 @@
 -- The image after a block was taken for an entry, before it comes into its chains.
-use Rattle.std.proofs.Common.{◌≡◌, ◌≢◌, ℕ, ◌+◌, ◌-◌, ◌^◌, ◌<◌, ◌≤◌, ◌⊎◌, inr, ⊎_elim, List, [], ◌∷◌, ◌++◌, length, take, drop, refl, sym, ap, subst, ◌∙◌, append_assoc, arith}
+use Rattle.std.proofs.Common.{◌≡◌, ◌≢◌, ℕ, ◌+◌, ◌-◌, ◌<◌, ◌≤◌, ◌⊎◌, inr, ⊎_elim, List, [], ◌∷◌, ◌++◌, length, take, drop, refl, sym, ap, subst, ◌∙◌, append_assoc, arith}
 use Rattle.std.specs.List.{Contains}
 use Rattle.std.specs.Prelude.{slice_get, unwrap_or}
 use Rattle.std.proofs.lemmas.Bool.{cases_eq, le-ltb, lt-ltb}
@@ -25,7 +25,6 @@ use Rattle.db_chains.specs.Visits.{Visits}
 use Rattle.prdb_finds.specs.Unchained.{unchained, unlinked}
 use Rattle.prdb_finds.proofs.Fields.{entry_unlinked}
 use Rattle.prdb_finds.proofs.Lists.{first_or_rest}
-use Rattle.prdb_finds.proofs.Lookups.{same_block}
 use Rattle.prdb_finds.proofs.Taken.{IsMade, free_all, is_made, not_free}
 use Rattle.prdb_finds.proofs.Without.{unchained_block, unchained_count, unchained_kind, unchained_len}
 use Rattle.prdb_entries.proofs.Entries.{Belongs, IsUnowned, IsWith, each_free, linked_from}
@@ -125,7 +124,7 @@ base_with old e n base whole is made there =
     let count_v = unchained_count base there in
     let within : k < block_count base = omega (arith, some, size, whole, most) in
     let own : block_in (unchained base) k ≡ new_block e =
-    unchained_block base k there within ∙ ap unlinked (sym (same_block base k) ∙ made.taken.here) ∙ new_unlinked e is in
+    unchained_block base k there within ∙ ap unlinked made.taken.here ∙ new_unlinked e is in
     record {
       within = omega (arith, within, count_v);
       kind = ap kind_of own ∙ kind_with e (zeros 192);
@@ -136,7 +135,7 @@ base_with old e n base whole is made there =
           let less : j < block_count old = omega (arith, below, count_u) in
           let now : j < block_count base = omega (arith, less, size) in
           unchained_block base j there now
-          ∙ ap unlinked (sym (same_block base j) ∙ made.taken.others j less other ∙ same_block old j)
+          ∙ ap unlinked (made.taken.others j less other)
           ∙ sym (unchained_block old j whole less);
     }
 
@@ -181,7 +180,7 @@ old_visits old block base n c are whole made is other =
 own_word : (base : List ℕ) (block : List ℕ) (k p more : ℕ) → p + more ≡ 192 → 4 ≤ more → block_in base k ≡ block
     → any_word base (block_place k + p) ≡ word_at block p
 own_word base block k p more size long here =
-    sym (in_block 2112 base k p more size long) ∙ ap (λ (b : List ℕ). word_at b p) (same_block base k ∙ here)
+    sym (in_block 2112 base k p more size long) ∙ ap (λ (b : List ℕ). word_at b p) here
 
 rest_up : (ws : List ℕ) → IsAscending ws → IsAscending (drop 1 ws)
 rest_up [] up = tt
@@ -219,7 +218,7 @@ base_visits old e n base (Owned k) are whole is made has entry =
     (λ (same : k ≡ n - 1). record {
       words = [];
       chain = own_word base (new_block e) k 108 84 refl (omega arith)
-          (ap (block_in base) same ∙ sym (same_block base (n - 1)) ∙ made.taken.here) ∙ new_own e is;
+          (ap (block_in base) same ∙ made.taken.here) ∙ new_own e is;
       only = λ w none. absurd (omega (arith, none.1));
       each = λ w belongs. absurd (base_new old e n base whole made (subst (IsEntry (unchained old)) same belongs.0));
     })
@@ -243,7 +242,7 @@ is_base old e whole are is =
     let there : IsWhole 2112 base = omega (arith, some, size, whole, most) in
     let has = base_with old e n base whole is made there in
     let count = unchained_count base there in
-    let here : block_in base (n - 1) ≡ new_block e = sym (same_block base (n - 1)) ∙ made.taken.here in
+    let here : block_in base (n - 1) ≡ new_block e = made.taken.here in
     let frees = made.taken.free are.free.words are.free.chain in
     record {
       some = some;

@@ -10,15 +10,13 @@ use Rattle.std.proofs.lemmas.Slice.Eq.{bytes_eq-Decides}
 use Rattle.db_image.specs.Images.{IsOfImage}
 use Rattle.db_image.specs.declared.faults.RecordFault.{RecordFault}
 use Rattle.db_image.specs.declared.faults.RecordFault.TheVariants.{DiskFault, BadRecord, NoMemory}
-use Rattle.prdb_layout.specs.Records.{Holds as HoldsEntries}
 use Rattle.prdb_layout.specs.Registry.{IsRecord, MayReplace, Registry, first_registry, with_entry}
 use Rattle.prdb_layout.specs.State.{PrEntry}
 use Rattle.prdb_lists.specs.Layout.{HoldsPairs}
 use Rattle.prdb_lists.specs.Members.{Members, no_members}
 use Rattle.prdb_finds.specs.Records.{Holds, whole}
 use Rattle.prdb_finds.specs.Unchained.{unchained}
-use Rattle.prdb_finds.proofs.FirstHolds.{empty_holds}
-use Rattle.prdb_finds.proofs.Ended.{first_held}
+use Rattle.prdb_finds.proofs.FirstHolds.{empty_holds, first_holds}
 use Rattle.prdb_finds.proofs.Told.{registry_is, whole_same}
 use Rattle.prdb_entries.specs.Changes.{after_replace, fitted, is_same, is_this, stays_empty}
 use Rattle.prdb_entries.proofs.InsertClauses.{on_false, on_true}
@@ -92,14 +90,14 @@ stays_from r m e holds there =
 whole_twice : (image : List ℕ) → 0 < length (whole image) → whole (whole image) ≡ whole image
 whole_twice image some = whole_same (whole image) some
 
--- what a search of the first image finds
-pub first_found : (first : Option (List ℕ)) (o : Option PrEntry) (id : ℤ) (e : PrEntry) → first ≡ Some []
-    → IfSome first (λ image. (r : Registry) → HoldsEntries image r → o ≡ r.entry id)
+-- what is found in the first image
+pub first_found : (first : Option (List ℕ)) (o : Option PrEntry) (id : ℤ) (e : PrEntry) → first ≡ Some (whole [])
+    → IfSome first (λ image. (r : Registry) (m : Members) → Holds image r m → o ≡ r.entry id)
     → is_this o e ≡ is_this (first_registry.entry id) e
 first_found first o id e here found =
     ap (λ (x : Option PrEntry). is_this x e)
-    ((subst (λ (b : Option (List ℕ)). IfSome b (λ image. (r : Registry) → HoldsEntries image r → o ≡ r.entry id)) here found)
-    first_registry (first_held [] first_registry no_members refl empty_holds))
+    ((subst (λ (b : Option (List ℕ)). IfSome b (λ image. (r : Registry) (m : Members) → Holds image r m → o ≡ r.entry id)) here found)
+    first_registry no_members first_holds)
 
 pub only_memory : (fault : RecordFault) → IsOfImage fault → (fault ≡ DiskFault → ⊥) → fault ≡ NoMemory
 only_memory DiskFault cause never = absurd (never refl)

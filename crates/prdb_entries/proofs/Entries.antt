@@ -12,7 +12,6 @@ use Rattle.prdb_finds.specs.Records.{AreChains, HasIdKey, HasNameKey, IsEntryAt,
 use Rattle.db_chains.specs.Visits.{Visits}
 use Rattle.db_chains.proofs.Entered.{visits_as}
 use Rattle.prdb_finds.specs.Unchained.{unchained}
-use Rattle.prdb_finds.proofs.Lookups.{same_block}
 use Rattle.prdb_finds.proofs.Without.{unchained_count, unchained_entry, unchained_kind}
 use Rattle.prdb_entries.proofs.Linked.{ById, ByName, Chain, IsChain, IsEntry, IsLinked, Owned, links_of, place_of}
 
@@ -86,7 +85,7 @@ chains_there image (Owned k) whole are is =
     (are.owned k e.below e.kind)
 
 next_word : (image : List ℕ) (k : ℕ) → any_word image (block_place k + 104) ≡ word_at (block_in image k) 104
-next_word image k = sym (in_block 2112 image k 104 88 refl (omega arith)) ∙ ap (λ (b : List ℕ). word_at b 104) (same_block image k)
+next_word image k = sym (in_block 2112 image k 104 88 refl (omega arith))
 
 -- an image that has its chains
 pub linked_from : (image : List ℕ) → IsWhole 2112 image → (are : AreChains image)

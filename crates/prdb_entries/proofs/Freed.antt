@@ -17,15 +17,14 @@ use Rattle.db_chains.proofs.Stops.{above_behind}
 use Rattle.db_chains.proofs.Words.{right, right_names}
 use Rattle.prdb_layout.specs.Blocks.{block_count}
 use Rattle.prdb_layout.specs.Records.{block_in, block_place, with_block}
-use Rattle.prdb_layout.proofs.BlockPlaces.{put_block}
 use Rattle.prdb_finds.specs.Places.{free_blocks}
 use Rattle.prdb_finds.specs.Unchained.{unchained, unlinked}
 use Rattle.prdb_finds.proofs.Beside.{free_beside, head_beside}
 use Rattle.prdb_finds.proofs.Laid.{block_laid}
 use Rattle.prdb_finds.proofs.Lists.{first_or_rest}
-use Rattle.prdb_finds.proofs.Lookups.{same_block}
 use Rattle.prdb_finds.proofs.Taken.{free_word}
 use Rattle.db_chains.proofs.Leaving.{place_kind, here, later}
+use Rattle.db_blocks.proofs.BlockPlaces.{put_block}
 
 -- ---- the words of free blocks
 
@@ -83,7 +82,7 @@ right_free image w is =
     let place : mark_place l w ≡ 2112 + 192 * (w - 1) = omega (arith, one) in (
       omega (arith, names.some),
       omega (arith, names.block),
-      ap kind_of (sym (same_block image (w - 1))) ∙ block_mark 2112 (w - 1) image ∙ ap (word_at image) (sym place)
+      block_mark 2112 (w - 1) image ∙ ap (word_at image) (sym place)
           ∙ (right l image w is).mark,
     )
 
@@ -98,7 +97,7 @@ put_form image n p whole some within kind where_p =
     let count = block_count image in
     let below : k < count = omega arith in
     let base = with_block k (blank free_blocks) image in
-    let put = put_block image (blank free_blocks) k count whole (blank_len free_blocks) below in
+    let put = put_block 2112 image (blank free_blocks) k count whole (blank_len free_blocks) below in
     let whole_base : IsWhole 2112 base = omega (arith, put.size) in
     let count_base : block_count base ≡ count = omega (arith, put.size) in
     let below_base : k < block_count base = omega arith in
@@ -125,11 +124,10 @@ put_form image n p whole some within kind where_p =
     let in_image : j < count = omega (arith, free.0, free.1) in
     let stays : StaysBut q 4 base mid = word_put base q x room in
     let kept : block_in mid j ≡ block_in image j =
-    sym (same_block mid j)
-    ∙ block_stays 2112 q 4 j base mid stays (omega (arith, whole_base, count_base, in_image))
+    block_stays 2112 q 4 j base mid stays (omega (arith, whole_base, count_base, in_image))
     (⊎_elim (λ (before : 2112 + 192 * j + 192 ≤ 2112 + 192 * k + 4). inl (omega (arith, at)))
     (λ (after : 2112 + 192 * k + 4 + 4 ≤ 2112 + 192 * j). inr (omega (arith, at))) (beside 2112 k j 4 (omega arith) other))
-    ∙ same_block base j ∙ put.others j in_image other in
+    ∙ put.others j in_image other in
     ap (λ (y : ℕ). unchained (put_word y n mid)) place
     ∙ free_beside mid j n whole_mid (omega (arith, size, count_base, in_image)) (ap kind_of kept ∙ free.2)
     ∙ first)

@@ -22,7 +22,6 @@ use Rattle.prdb_finds.specs.Places.{IsEntryPlace, entry_links, free_blocks, id_p
 use Rattle.db_chains.specs.Visits.{Visits}
 use Rattle.prdb_finds.specs.Unchained.{unchained}
 use Rattle.prdb_finds.proofs.Beside.{put_beside}
-use Rattle.prdb_finds.proofs.Lookups.{same_block}
 use Rattle.prdb_finds.proofs.Without.{unchained_count, unchained_kind}
 
 -- ---- chains
@@ -238,7 +237,7 @@ right_here image c n is some =
     let rest : n % 1 ≡ 0 = omega arith in
     let place : mark_place (links_of c) n ≡ 2112 + 192 * (n - 1) = omega (arith, one) in
     right_from (links_of c) image n refl (omega (arith, one)) (omega (arith, one, is.below)) (omega arith)
-    (ap (word_at image) place ∙ sym (block_mark 2112 (n - 1) image) ∙ ap kind_of (same_block image (n - 1)) ∙ is.kind)
+    (ap (word_at image) place ∙ sym (block_mark 2112 (n - 1) image) ∙ is.kind)
 
 -- where a chain begins is a place of a word of a chain
 pub entry_place : (image u : List ℕ) (M : Chain → ℕ → Type 0) (U : ℕ → Type 0) (fs : List ℕ) (c : Chain) → IsLinked image u M U fs

@@ -1,5 +1,5 @@
 -- The number of the block of the entry of an id: a walk along the chain of the id stops there.
-use Rattle.std.proofs.Common.{◌≡◌, ℕ, ℤ, ◌+◌, ◌-◌, ◌/◌, ◌<◌, Bool, true, List, ◌∷◌, ◌++◌, sym, ap, subst, ◌∙◌, arith}
+use Rattle.std.proofs.Common.{◌≡◌, ℕ, ℤ, ◌+◌, ◌-◌, ◌/◌, Bool, true, List, ◌∷◌, ◌++◌, sym, ap, subst, ◌∙◌, arith}
 use Rattle.std.specs.List.{Contains}
 use Rattle.db_blocks.specs.Blocks.{block_in as any_block, word_at}
 use Rattle.db_chains.specs.Chains.{HasChain}
@@ -10,12 +10,11 @@ use Rattle.db_chains.proofs.Stops.{stop_behind}
 use Rattle.db_chains.proofs.Split.{split_first}
 use Rattle.prdb_layout.specs.Records.{block_in, entry_in, has_id}
 use Rattle.prdb_layout.specs.State.{PrEntry}
-use Rattle.prdb_layout.proofs.Lookups.{id_parts}
+use Rattle.prdb_layout.proofs.Lookups.{id_from, id_parts}
 use Rattle.prdb_finds.specs.Keys.{id_chain, id_key}
 use Rattle.prdb_finds.specs.Places.{id_links}
 use Rattle.prdb_finds.specs.Records.{HasIdKey, IsEntryAt}
 use Rattle.prdb_finds.proofs.Lists.{among_this}
-use Rattle.prdb_finds.proofs.Lookups.{id_has, same_block}
 use Rattle.prdb_finds.proofs.Without.{unchained_entry}
 use Rattle.prdb_entries.specs.Changes.{number_of}
 use Rattle.prdb_entries.specs.Ends.{HasLink}
@@ -53,8 +52,8 @@ own_met : (image u : List ℕ) (M : Chain → ℕ → Type 0) (U : ℕ → Type 
 own_met image u M U fs id o l of =
     let here = entry_here image u M U fs o l of.entry in
     let place : block_of id_links (o + 1) ≡ o = omega (arith, block_of_word (o + 1)) in
-    ap (λ (j : ℕ). has_id id (any_block 2112 image j)) place ∙ ap (has_id id) (same_block image o)
-    ∙ id_has id (block_in image o) here.kind
+    ap (λ (j : ℕ). has_id id (any_block 2112 image j)) place
+    ∙ id_from id (block_in image o) here.kind
     (ap (λ (e : PrEntry). e.id) (entry_same image u M U fs o l of.entry) ∙ of.id_is)
 
 pub has_link : (image u : List ℕ) (M : Chain → ℕ → Type 0) (U : ℕ → Type 0) (fs : List ℕ) (id : ℤ) (o : ℕ) → IsLinked image u M U fs
@@ -81,7 +80,7 @@ number_is image u M U fs id o l of among =
     let k = s.word - 1 in
     let entry : IsEntry u k = record { below = omega (arith, is.some, is.within); kind = is.kind } in
     let met : has_id id (block_in image k) ≡ true =
-    ap (has_id id) (sym (same_block image k)) ∙ ap (λ (j : ℕ). has_id id (any_block 2112 image j)) (sym (block_of_word s.word)) ∙ s.met in
+    ap (λ (j : ℕ). has_id id (any_block 2112 image j)) (sym (block_of_word s.word)) ∙ s.met in
     let own : (entry_in (block_in u k)).id ≡ id =
     ap (λ (e : PrEntry). e.id) (sym (entry_same image u M U fs k l entry)) ∙ (id_parts id (block_in image k) met).1 in
     let same = of.one k entry own in

@@ -6,7 +6,7 @@ use Rattle.std.proofs.lemmas.Grind.{same_number_lists}
 use Rattle.std.proofs.lemmas.List.{get_or-drop, get_or-take, length-drop, length-take-le}
 use Rattle.ubik_types.specs.Image.{changed}
 use Rattle.ubik_types.specs.declared.images.Change.TheVariants.{Put}
-use Rattle.db_blocks.specs.Blocks.{IsWhole, word_at}
+use Rattle.db_blocks.specs.Blocks.{block_in as any_block, IsWhole, word_at}
 use Rattle.db_blocks.proofs.BlockPlaces.{changed_laid, laid_in}
 use Rattle.db_chains.specs.Chains.{HasChain}
 use Rattle.db_chains.specs.Free.{free_links}
@@ -18,7 +18,6 @@ use Rattle.db_chains.proofs.Words.{right_names}
 use Rattle.prdb_layout.specs.Blocks.{block_count}
 use Rattle.prdb_layout.specs.Records.{block_in, block_place}
 use Rattle.prdb_finds.specs.Places.{entry_links, free_blocks}
-use Rattle.prdb_finds.proofs.Lookups.{same_block}
 use Rattle.prdb_entries.specs.Changes.{refilled}
 
 -- ---- two puts in a block
@@ -75,7 +74,7 @@ twice image block k whole below size =
     }
 
 block_byte : (image : List ℕ) (k i : ℕ) → i < 192 → slice_index (block_in image k) i ≡ slice_index image (block_place k + i)
-unfolding block_in
+unfolding any_block
 block_byte image k i below = get_or-take 192 (drop (block_place k) image) i 0 below ∙ get_or-drop (block_place k) image i 0
 
 -- what the image is then
@@ -108,12 +107,10 @@ refilled_from image block mid new k whole below t =
           get_or-take 2112 new i 0 low ∙ t.second.before i (omega arith) (omega (arith, whole))
           ∙ t.first.before i (omega arith) (omega (arith, whole)) ∙ sym (get_or-take 2112 image i 0 low));
       others = λ j less other.
-          sym (same_block new j)
-          ∙ block_stays 2112 (block_place k + 32) 64 j mid new t.second (omega (arith, whole))
+          block_stays 2112 (block_place k + 32) 64 j mid new t.second (omega (arith, whole))
           (other_side image k j (block_place k + 32) 64 other (omega arith) (omega arith))
           ∙ block_stays 2112 (block_place k + 4) 20 j image mid t.first (omega (arith, whole))
-          (other_side image k j (block_place k + 4) 20 other (omega arith) (omega arith))
-          ∙ same_block image j;
+          (other_side image k j (block_place k + 4) 20 other (omega arith) (omega arith));
       fields = λ i less field.
           block_byte new k i less
           ∙ ⊎_elim

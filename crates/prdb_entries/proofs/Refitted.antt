@@ -10,7 +10,7 @@ use Rattle.db_blocks.specs.Bytes.{words, zeros}
 use Rattle.prdb_layout.specs.Records.{IsLaidOut, after_replace as entries_after, block_in, block_place, entry_in, field_numbers, first_block, has_id, new_block, with_block, with_fields}
 use Rattle.prdb_layout.specs.Registry.{IsRecord, MayReplace, Registry, with_entry}
 use Rattle.prdb_layout.specs.State.{PrEntry}
-use Rattle.prdb_layout.proofs.BlockPlaces.{block_len, put_block}
+use Rattle.prdb_layout.proofs.BlockPlaces.{block_len}
 use Rattle.prdb_layout.proofs.EntryFields.{entry_with, kind_with, length-with_fields}
 use Rattle.prdb_layout.proofs.LaidOut.{whole_same as entries_same}
 use Rattle.prdb_lists.specs.Layout.{HoldsPairs, IsSpelled}
@@ -32,6 +32,7 @@ use Rattle.prdb_entries.proofs.Moving.{IsMoving, chain_same, home_stands, linked
 use Rattle.prdb_entries.proofs.Refilled.{IsTwice, chain_refilled, free_refilled, head_apart, is_refilled, own_apart, twice_refilled, word_refilled}
 use Rattle.prdb_entries.proofs.Removed.{IsHeld, entry_held, first_of, held_of, linked_of, own_number}
 use Rattle.prdb_entries.proofs.Replaced.{refilled_form}
+use Rattle.db_blocks.proofs.BlockPlaces.{put_block}
 
 -- ---- the chains
 
@@ -81,8 +82,8 @@ by_test false x y same = refl
 block_again : (u : List ℕ) (k : ℕ) → length u ≡ 2112 + 192 * block_count u → k < block_count u → with_block k (block_in u k) u ≡ u
 block_again u k size below =
     let n = block_count u in
-    let put = put_block u (block_in u k) k n size (block_len u k n size below) below in
-    same_image (with_block k (block_in u k) u) u n put.size size put.head
+    let put = put_block 2112 u (block_in u k) k n size (block_len u k n size below) below in
+    same_image (with_block k (block_in u k) u) u n put.size size put.front
     (λ j less. ⊎_elim
     (λ (same : j ≡ k). ap (block_in (with_block k (block_in u k) u)) same ∙ put.here ∙ ap (block_in u) (sym same))
     (λ (other : j ≢ k). put.others j less other) (cases_eq j k))
@@ -141,7 +142,7 @@ moving image r m id f e k refit =
     let size = bare_len image r m refit.holds in
     let n = block_count u in
     let len = block_len u k n size h.entry.below in
-    let put = put_block u (with_fields e (block_in u k)) k n size (length-with_fields e (block_in u k) len refit.is.fields.name_len)
+    let put = put_block 2112 u (with_fields e (block_in u k)) k n size (length-with_fields e (block_in u k) len refit.is.fields.name_len)
     h.entry.below in
     let count : block_count v ≡ n = omega (arith, put.size) in
     let pairs = pairs_fitted image r m id f e k refit in

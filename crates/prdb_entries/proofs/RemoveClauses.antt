@@ -1,5 +1,5 @@
 -- What a removal says of a draft, where its bytes are told.
-use Rattle.std.proofs.Common.{◌≡◌, ℕ, ℤ, ◌+◌, ◌-◌, ◌≤◌, true, false, List, Option, Some, None, IfSome, Result, Ok, Err, OnOk, refl, sym, ap, subst, ◌∙◌, arith}
+use Rattle.std.proofs.Common.{◌≡◌, ℕ, ℤ, ◌+◌, ◌-◌, true, false, List, Option, Some, None, IfSome, Result, Ok, Err, OnOk, refl, sym, ap, subst, ◌∙◌, arith}
 use Rattle.std.specs.Prelude.{IsSomeAnd}
 use Rattle.std.specs.Option.{option_map}
 use Rattle.db_image.specs.declared.faults.RecordFault.{RecordFault}
@@ -9,7 +9,6 @@ use Rattle.db_chains.specs.declared.walks.Link.{Link}
 use Rattle.db_chains.specs.Changes.{without}
 use Rattle.db_chains.specs.Ends.{HasSome, HasWord}
 use Rattle.db_chains.specs.Free.{free_links, with_freed}
-use Rattle.db_chains.specs.Links.{block_of}
 use Rattle.db_chains.specs.Walks.{IsFound, stop_place}
 use Rattle.db_chains.proofs.Results.{cause_so, cause_at}
 use Rattle.prdb_layout.specs.Records.{block_in, entry_in, has_id}
@@ -20,7 +19,6 @@ use Rattle.prdb_finds.specs.Keys.{id_chain, name_chain}
 use Rattle.prdb_finds.specs.Places.{free_blocks, id_links, name_links, owned_links, owned_place}
 use Rattle.prdb_finds.specs.Records.{Holds, whole}
 use Rattle.prdb_finds.specs.Unchained.{unchained}
-use Rattle.prdb_finds.proofs.Lookups.{same_block}
 use Rattle.prdb_entries.specs.Changes.{after_remove, is_owned, left, number_of, owner_without, unnamed}
 use Rattle.prdb_entries.specs.Ends.{HasLink, IsOwnedBy, MayGo, StandsInChains}
 use Rattle.prdb_entries.proofs.InsertClauses.{on_false, on_true}
@@ -101,7 +99,7 @@ IsLinkOf id image f =
 
 pub block_of_link : (image : List ℕ) (id : ℤ) (f : Link) → IsLinkOf id image f → f.block ≡ block_in image (f.word - 1)
 block_of_link image id f found =
-    found.0.block ∙ same_block image (block_of id_links f.word) ∙ ap (block_in image) (block_of_word f.word)
+    found.0.block ∙ ap (block_in image) (block_of_word f.word)
 
 pub link_at : (a b : Option (List ℕ)) (image : List ℕ) (id : ℤ) (f : Link) → b ≡ option_map whole a → a ≡ Some image
     → IfSome b (λ i. IsLinkOf id i f) → IsLinkOf id (whole image) f

@@ -16,9 +16,8 @@ use Rattle.db_chains.proofs.Leaving.{all_of}
 use Rattle.prdb_layout.specs.Records.{after_remove as entries_after, block_in, entry_in, first_block, has_id, with_block}
 use Rattle.prdb_layout.specs.Registry.{MayBeRemoved, Registry, without_entry}
 use Rattle.prdb_layout.specs.State.{PrEntry}
-use Rattle.prdb_layout.proofs.BlockPlaces.{put_block}
 use Rattle.prdb_layout.proofs.LaidOut.{whole_same as entries_same, zero_kind}
-use Rattle.prdb_layout.proofs.Lookups.{id_parts}
+use Rattle.prdb_layout.proofs.Lookups.{id_from, id_parts}
 use Rattle.prdb_lists.specs.Layout.{HoldsPairs}
 use Rattle.prdb_lists.specs.Members.{Members}
 use Rattle.prdb_lists.proofs.RecordsKeep.{remove_keep, zeros_len}
@@ -26,7 +25,6 @@ use Rattle.prdb_finds.specs.Keys.{id_key}
 use Rattle.prdb_finds.specs.Places.{free_blocks, id_place, name_place}
 use Rattle.prdb_finds.specs.Records.{AreChains, HasIdKey, HasNameKey, Holds, IsEntryAt, IsGroupOf, IsOwned, whole}
 use Rattle.prdb_finds.specs.Unchained.{unchained}
-use Rattle.prdb_finds.proofs.Lookups.{id_has, same_block}
 use Rattle.prdb_finds.proofs.Taken.{free_all, not_free}
 use Rattle.prdb_finds.proofs.Told.{laid_without, whole_same}
 use Rattle.prdb_finds.proofs.Without.{unchained_entry, unchained_len}
@@ -38,6 +36,7 @@ use Rattle.prdb_entries.proofs.Inserted.{some_of}
 use Rattle.prdb_entries.proofs.Leaving.{IsLeaving, IsOfRegistry, Others, entry_of, linked_left, one_block, some_word, stands_in}
 use Rattle.prdb_entries.proofs.Linked.{ById, ByName, Chain, IsChain, IsEntry, IsLinked, Owned, entry_here, high, linked_count, links_of, low, next_of, place_of}
 use Rattle.prdb_entries.proofs.Numbers.{IsAmong, IsOf, has_link, number_is}
+use Rattle.db_blocks.proofs.BlockPlaces.{put_block}
 
 -- ---- the block of an id
 
@@ -97,7 +96,7 @@ first_of u r id f k h =
     let p = id_parts id (block_in u j) met in
     let same = of.one j record { below = omega (arith, below, h.entry.below); kind = p.0 } p.1 in
     omega (arith, same, below)))
-    (id_has id (block_in u k) h.entry.kind of.id_is)
+    (id_from id (block_in u k) h.entry.kind of.id_is)
 
 -- ---- an image without an entry
 
@@ -181,7 +180,7 @@ word_of_block c w n some_w some_n same =
     omega (arith, one, same)
 
 entry_mark : (image : List ℕ) (k : ℕ) → IsEntry image k → any_word image (2112 + 192 * k) ≡ 1
-entry_mark image k entry = sym (block_mark 2112 k image) ∙ ap kind_of (same_block image k) ∙ entry.kind
+entry_mark image k entry = sym (block_mark 2112 k image) ∙ entry.kind
 
 -- ---- the block is freed
 
@@ -262,7 +261,7 @@ chains_freed image u k fs ready =
     let size_u : length u ≡ 2112 + 192 * block_count u =
     ap length (sym l.same) ∙ unchained_len image l.whole
     ∙ ap (λ (m : ℕ). 2112 + 192 * m) (sym (linked_count image u (Others u n) (IsUnowned u) fs l)) in
-    let put = put_block u (zeros 192) k (block_count u) size_u zeros_len ready.entry.below in
+    let put = put_block 2112 u (zeros 192) k (block_count u) size_u zeros_len ready.entry.below in
     let gone : IsWithout u v k = record {
       count = omega (arith, put.size);
       kind = ap kind_of put.here ∙ zero_kind;

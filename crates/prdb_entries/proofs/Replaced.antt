@@ -10,7 +10,7 @@ use Rattle.db_blocks.specs.Bytes.{filled, word, words}
 use Rattle.db_chains.proofs.Bytes.{blanked_stays}
 use Rattle.prdb_layout.specs.Records.{block_in, field_numbers, with_block, with_fields}
 use Rattle.prdb_layout.specs.State.{PrEntry}
-use Rattle.prdb_layout.proofs.BlockPlaces.{block_len, put_block}
+use Rattle.prdb_layout.proofs.BlockPlaces.{block_len}
 use Rattle.prdb_layout.proofs.EntryFields.{behind_name, length-with_fields, name_field}
 use Rattle.prdb_finds.specs.Unchained.{unchained, unlinked, unlinked_head}
 use Rattle.prdb_finds.proofs.Beside.{inside_same}
@@ -18,6 +18,7 @@ use Rattle.prdb_finds.proofs.Fields.{entry_unlinked, unlinked_len}
 use Rattle.prdb_finds.proofs.Laid.{same_image}
 use Rattle.prdb_finds.proofs.Without.{unchained_block, unchained_count, unchained_head, unchained_len}
 use Rattle.prdb_entries.proofs.Refilled.{IsRefilled}
+use Rattle.db_blocks.proofs.BlockPlaces.{put_block}
 
 -- ---- the bytes of a block with other fields
 
@@ -201,11 +202,11 @@ refilled_form image new u e f given k whole same below r len short kind spelled 
     let block = with_fields e (block_in bare k) in
     let block_len_is : length block ≡ 192 =
     length-with_fields e (block_in bare k) (ap length own ∙ unlinked_len (block_in image k) own_len) short in
-    let put = put_block bare block k n len_bare block_len_is below in
+    let put = put_block 2112 bare block k n len_bare block_len_is below in
     let front : take 24 (unlinked (block_in image k)) ≡ words (field_numbers f) =
     ap (take 24) (sym own) ∙ ap (λ (i : List ℕ). take 24 (block_in i k)) same ∙ spelled in
     same_image (unchained new) (with_block k block bare) n (omega (arith, unchained_len new whole_new, count)) put.size
-    (unchained_head new whole_new ∙ ap unlinked_head r.front ∙ sym (unchained_head image whole) ∙ sym put.head)
+    (unchained_head new whole_new ∙ ap unlinked_head r.front ∙ sym (unchained_head image whole) ∙ sym put.front)
     (λ j less.
     unchained_block new j whole_new (omega (arith, less, count))
     ∙ ⊎_elim

@@ -9,7 +9,8 @@ ghost use Rattle.entry_scans.specs.Views.{viewed};
 ghost use Rattle.prdb_finds.specs.Ends.{HasCauseWhere, Makes};
 ghost use Rattle.prdb_finds.specs.Keys.{id_chain, name_chain};
 ghost use Rattle.prdb_finds.specs.Places.{id_links, name_links};
-ghost use Rattle.prdb_finds.specs.declared.places.TheConstants.{FIRST_LEN, HEAD_LEN};
+ghost use Rattle.prdb_layout.specs.declared.blocks.TheConstants.{HEAD_LEN};
+ghost use Rattle.prdb_finds.specs.declared.places.TheConstants.{FIRST_LEN};
 ghost use Rattle.prdb_entries.specs.Changes.{after_remove, is_owned, leave_cost, left, named_out_cost, owner_out_cost, owner_without, remove_cost};
 ghost use Rattle.prdb_entries.specs.Ends.{IsOwnedBy, MayGo, StandsInChains};
 

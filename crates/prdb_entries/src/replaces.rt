@@ -1,5 +1,5 @@
 //! An entry's other fields: its word goes to the chains of its other name and owner, and then its block gets the fields.
-ghost use Rattle.std.specs.Prelude.{◌≡◌, ◌-◌, ◌<◌, ◌≤◌, ◌^◌, IfErr, IfOk, IsErrOf, OnOk, List, [], ℕ, drop, length, max, take};
+ghost use Rattle.std.specs.Prelude.{◌≡◌, ◌-◌, ◌<◌, ◌≤◌, ◌^◌, IfErr, IfOk, IsErrOf, OnOk, List, ℕ, drop, length, max, take};
 ghost use Rattle.db_image.specs.Images.{IsOfImage};
 ghost use Rattle.db_blocks.specs.Ends.{Becomes, HasCause};
 ghost use Rattle.db_chains.specs.Ends.{DraftsAtMost, HasWord};
@@ -19,10 +19,10 @@ use crate::inserts::{enter_owned, is_owned, new_block};
 use crate::removes::{is_owned as is_view_owned, leave_owned};
 use db_blocks::{Block, block_place};
 use db_chains::{put_first, take_out};
-use db_image::{Draft, ImageRead, RecordFault, VecImage};
+use db_image::{Draft, ImageRead, RecordFault};
 use entry_scans::{EntryView, entry_in};
-use prdb_finds::{HEAD_LEN, find_link, make_whole, name_chain, name_links};
-use prdb_layout::{PrEntry, draft_over, find_id};
+use prdb_finds::{HEAD_LEN, find_id, find_link, first_draft, make_whole, name_chain, name_links};
+use prdb_layout::PrEntry;
 use std::alloc::Global;
 
 /// Takes a word out of the chain of a name, and puts it in front of that of another name. Where it is the same name, nothing is changed.
@@ -166,21 +166,12 @@ fn is_same(e: &PrEntry, other: &PrEntry) -> bool
         && e.quota == other.quota
 }
 
-/// A draft over no bytes, which are read as the first image.
-fn empty_draft(alloc: Global) -> Result<Draft<VecImage>, RecordFault>
-    ensures bytes { IfOk result (λ d. d.bytes ≡ Some []) }
-    ensures len { IfOk result (λ d. d.len ≡ 0) }
-    ensures fault { IfErr result (λ fault. fault ≡ RecordFault.NoMemory) }
-{
-    Ok(draft_over(alloc, VecImage::new(alloc, &[])?))
-}
-
 /// Whether the first registry has an entry under an id.
 fn is_first(alloc: Global, id: i32, e: &PrEntry) -> Result<bool, RecordFault>
     ensures value { IfOk result (λ is. is ≡ is_this (first_registry.entry id) (seen e.now)) }
     ensures fault { IfErr result (λ fault. fault ≡ RecordFault.NoMemory) }
 {
-    let Some(found) = find_id(alloc, &mut empty_draft(alloc)?, id)? else {
+    let Some(found) = find_id(alloc, &mut first_draft(alloc)?, id)? else {
         return Ok(false);
     };
     Ok(is_same(&found, e))

@@ -19,7 +19,6 @@ use Rattle.prdb_layout.proofs.BlockPlaces.{block_len}
 use Rattle.prdb_finds.specs.Places.{IsEntryPlace, IsInEntry, entry_links}
 use Rattle.prdb_finds.specs.Unchained.{unchained, unlinked, unlinked_head}
 use Rattle.prdb_finds.proofs.Fields.{entry_unlinked, free_unlinked}
-use Rattle.prdb_finds.proofs.Lookups.{same_block}
 
 -- ---- blanked bytes
 
@@ -88,7 +87,7 @@ image_same old new size head blocks =
 other_block : (old new : List ℕ) (p k : ℕ) → IsWhole 2112 old → StaysBut p 4 old new → k < block_count old
     → (block_place k + 192 ≤ p) ⊎ (p + 4 ≤ block_place k) → block_in new k ≡ block_in old k
 other_block old new p k whole stays below apart =
-    sym (same_block new k) ∙ block_stays 2112 p 4 k old new stays (omega (arith, whole)) apart ∙ same_block old k
+    block_stays 2112 p 4 k old new stays (omega (arith, whole)) apart
 
 -- ---- a word of the head
 
@@ -177,9 +176,9 @@ kind_stays image k offset n whole below from fits =
     let p = block_place k + offset in
     let new = put_word p n image in
     let stays : StaysBut p 4 image new = word_put image p n (omega (arith, whole)) in
-    ap kind_of (sym (same_block new k)) ∙ in_block 2112 new k 0 192 refl (omega arith)
+    in_block 2112 new k 0 192 refl (omega arith)
     ∙ word_stays p 4 (block_place k + 0) image new stays (omega (arith, whole)) (inl (omega arith))
-    ∙ sym (in_block 2112 image k 0 192 refl (omega arith)) ∙ ap kind_of (same_block image k)
+    ∙ sym (in_block 2112 image k 0 192 refl (omega arith))
 
 block_same : (image : List ℕ) (k offset n at len : ℕ) → IsWhole 2112 image → k < block_count image → at ≤ offset → offset + 4 ≤ at + len
     → at + len ≤ 192
@@ -194,10 +193,8 @@ block_same image k offset n at len whole below from fits within =
     let old_len : length (block_in image k) ≡ 192 = block_len image k (block_count image) whole below in
     blank_same at len (block_in new k) (block_in image k) (new_len ∙ sym old_len) (omega (arith, old_len))
     (λ i less beside.
-    ap (λ (b : List ℕ). slice_index b i) (sym (same_block new k))
-    ∙ byte_stays 2112 p 4 k i image new stays (omega (arith, whole)) (omega (arith, less, old_len)) (⊎_elim
-    (λ (front : i < at). inl (omega arith)) (λ (behind : at + len ≤ i). inr (omega arith)) beside)
-    ∙ ap (λ (b : List ℕ). slice_index b i) (same_block image k))
+    byte_stays 2112 p 4 k i image new stays (omega (arith, whole)) (omega (arith, less, old_len)) (⊎_elim
+    (λ (front : i < at). inl (omega arith)) (λ (behind : at + len ≤ i). inr (omega arith)) beside))
 
 pub entry_beside : (image : List ℕ) (k offset n : ℕ) → IsWhole 2112 image → k < block_count image → kind_of (block_in image k) ≡ 1
     → 96 ≤ offset
@@ -304,7 +301,7 @@ next_is next image w from fits is =
     let below : k < block_count image = omega (arith, n.some, n.block) in
     let rest : w % 1 ≡ 0 = omega arith in
     let mark : kind_of (block_in image k) ≡ 1 =
-    ap kind_of (sym (same_block image k)) ∙ in_block 2112 image k 0 192 refl (omega arith)
+    in_block 2112 image k 0 192 refl (omega arith)
     ∙ ap (word_at image) (omega arith) ∙ (right (entry_links next) image w is).mark in
     inr (
       k,

@@ -1,13 +1,11 @@
 -- What the steps of a look-up give together.
-use Rattle.std.proofs.Common.{◌≡◌, ℕ, ℤ, zero, suc, ◌+◌, ◌-◌, ◌*◌, ◌/◌, Bool, List, [], Option, Some, None, IfSome, Result, Ok, Err, IfOk, IfErr, length, take, drop, refl, sym, ap, subst, ◌∙◌, arith}
+use Rattle.std.proofs.Common.{◌≡◌, ℕ, zero, suc, ◌+◌, ◌-◌, ◌*◌, ◌/◌, Bool, List, [], Option, Some, None, IfSome, Result, Ok, Err, IfOk, length, take, drop, refl, sym, ap, subst, ◌∙◌, arith}
 use Rattle.std.specs.Int.{w32, from_be_bytes}
 use Rattle.std.specs.Option.{option_map}
 use Rattle.db_image.specs.Asked.{AsksAtMost}
 use Rattle.db_image.specs.Draft.{Drafted}
-use Rattle.db_image.specs.Images.{IsOfImage}
 use Rattle.db_image.specs.declared.images.ImageRead.{Ghosts}
 use Rattle.db_image.specs.declared.faults.RecordFault.{RecordFault}
-use Rattle.db_image.specs.declared.faults.RecordFault.TheVariants.{DiskFault, BadRecord, NoMemory}
 use Rattle.db_image.proofs.ReadSteps.{asks_none}
 use Rattle.db_blocks.specs.Blocks.{word_at}
 use Rattle.db_blocks.specs.Ends.{OnlyLooks}
@@ -19,19 +17,11 @@ use Rattle.db_chains.specs.Free.{IsNumber}
 use Rattle.db_chains.specs.Ends.{CostsAtMost}
 use Rattle.db_chains.specs.Sought.{EndsChain}
 use Rattle.db_chains.specs.Walks.{IsFound, first_met, meets, most_words, passed, place_behind, stop_place}
-use Rattle.prdb_layout.specs.RecordEnds.{HasCause as HasEntryCause, HoldNone, seen}
-use Rattle.prdb_layout.specs.Records.{Holds as HoldsEntries, IsLaidOut, entry_in}
-use Rattle.prdb_layout.specs.Registry.{IsNamed, Registry, first_registry}
+use Rattle.prdb_layout.specs.Records.{entry_in}
 use Rattle.prdb_layout.specs.State.{PrEntry}
-use Rattle.prdb_layout.specs.declared.records.PrEntry.{PrEntry as CodeEntry}
-use Rattle.prdb_layout.proofs.FirstImage.{empty_holds}
-use Rattle.prdb_lists.specs.Members.{Members}
-use Rattle.prdb_lists.proofs.ListFound.{whole_none}
 use Rattle.prdb_finds.specs.Places.{free_blocks, id_links}
-use Rattle.prdb_finds.specs.Records.{Holds}
 use Rattle.prdb_finds.specs.Sought.{IsRead}
-use Rattle.prdb_finds.proofs.FirstChains.{first_unchained}
-use Rattle.prdb_finds.proofs.Told.{empty_is, laid_without}
+use Rattle.prdb_finds.proofs.Told.{empty_is}
 
 -- ---- a walk
 
@@ -99,47 +89,6 @@ costs_free g None l at a b same = tt
 costs_free g (Some image) l at a b same = λ ws chain.
     subst (λ i. AsksAtMost (4 + 192 * length ws) (g.asked a.image) (g.asked i)) (sym same)
     (asks_none (4 + 192 * length ws) (g.asked a.image))
-
--- ---- the empty image
-
-pub first_held : (image : List ℕ) (r : Registry) (m : Members) → length image ≡ 0 → Holds image r m → HoldsEntries [] r
-first_held image r m none holds =
-    let first : Holds [] r m = subst (λ (i : List ℕ). Holds i r m) (empty_is image none) holds in record {
-      valid = first.pairs.holds.valid;
-      laid = subst (λ (i : List ℕ). IsLaidOut i r) (first_unchained ∙ sym whole_none) (laid_without [] r m first);
-    }
-
-pub empty_named : (res : Result (Option CodeEntry) RecordFault) (bytes first : Option (List ℕ)) (len : ℕ) (name : List ℕ)
-    → IfSome bytes (λ image. length image ≡ len) → len ≡ 0 → first ≡ Some []
-    → IfOk res (λ found. IfSome first (λ image. (r : Registry) → HoldsEntries image r → IsNamed r name (option_map seen found)))
-    → IfOk res (λ found. IfSome bytes (λ image. (r : Registry) (m : Members) → Holds image r m → IsNamed r name (option_map seen found)))
-empty_named (Err fault) bytes first len name told none here is = tt
-empty_named (Ok found) None first len name told none here is = tt
-empty_named (Ok found) (Some image) first len name told none here is = λ r m holds.
-    (subst (λ (b : Option (List ℕ)). IfSome b (λ i. (q : Registry) → HoldsEntries i q → IsNamed q name (option_map seen found))) here is)
-    r (first_held image r m (told ∙ none) holds)
-
-pub empty_of_id : (res : Result (Option CodeEntry) RecordFault) (bytes first : Option (List ℕ)) (len : ℕ) (id : ℤ)
-    → IfSome bytes (λ image. length image ≡ len) → len ≡ 0 → first ≡ Some []
-    → IfOk res (λ found. IfSome first (λ image. (r : Registry) → HoldsEntries image r → option_map seen found ≡ r.entry id))
-    → IfOk res (λ found. IfSome bytes (λ image. (r : Registry) (m : Members) → Holds image r m → option_map seen found ≡ r.entry id))
-empty_of_id (Err fault) bytes first len id told none here is = tt
-empty_of_id (Ok found) None first len id told none here is = tt
-empty_of_id (Ok found) (Some image) first len id told none here is = λ r m holds.
-    (subst (λ (b : Option (List ℕ)). IfSome b (λ i. (q : Registry) → HoldsEntries i q → option_map seen found ≡ q.entry id)) here is)
-    r (first_held image r m (told ∙ none) holds)
-
--- it holds a registry, so that there is no bad record
-pub of_first : (first : Option (List ℕ)) (fault : RecordFault) → first ≡ Some [] → HasEntryCause first HoldsEntries fault → IsOfImage fault
-of_first first DiskFault here cause = tt
-of_first first NoMemory here cause = tt
-of_first first (BadRecord at) here cause =
-    (subst (λ (b : Option (List ℕ)). HoldNone b HoldsEntries) here cause) first_registry empty_holds
-
-pub err_first : {T : Type 0} (res : Result T RecordFault) (first : Option (List ℕ)) → first ≡ Some []
-    → IfErr res (HasEntryCause first HoldsEntries) → IfErr res IsOfImage
-err_first (Ok x) first here cause = tt
-err_first (Err fault) first here cause = of_first first fault here cause
 
 -- ---- the word of an entry
 

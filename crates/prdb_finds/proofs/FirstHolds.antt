@@ -6,7 +6,7 @@ use Rattle.std.specs.List.{Contains}
 use Rattle.std.proofs.lemmas.Bool.{and_parts, cases_eq, eqb-true, ne_eqb}
 use Rattle.std.proofs.lemmas.Int.{ints}
 use Rattle.std.proofs.lemmas.List.{drop-drop}
-use Rattle.db_blocks.specs.Blocks.{IsWhole, word_at, kind_of}
+use Rattle.db_blocks.specs.Blocks.{block_in as any_block, IsWhole, word_at, kind_of}
 use Rattle.db_chains.specs.declared.links.Links.{Links}
 use Rattle.db_chains.specs.Chains.{HasChain}
 use Rattle.db_chains.specs.Changes.{put_in, put_word}
@@ -25,17 +25,20 @@ use Rattle.prdb_lists.specs.Layout.{AreLists, HoldsPairs}
 use Rattle.prdb_lists.specs.Members.{Members, no_members}
 use Rattle.prdb_lists.proofs.FirstPairs.{holds_none}
 use Rattle.prdb_lists.proofs.ListFound.{whole_none}
+use Rattle.prdb_finds.specs.Ends.{HoldsSome}
 use Rattle.prdb_finds.specs.First.{first_image}
 use Rattle.prdb_finds.specs.Keys.{id_key}
 use Rattle.prdb_finds.specs.Places.{id_links, id_place, name_links, name_place, owned_links, owned_place}
 use Rattle.prdb_finds.specs.Records.{AreChains, HasIdKey, HasNameKey, Holds, IsEntryAt, IsGroupOf, IsOwned, whole}
+use Rattle.prdb_finds.specs.Unchained.{unchained}
 use Rattle.prdb_finds.proofs.FirstChains.{first_len, first_unchained}
+use Rattle.prdb_finds.proofs.Told.{empty_is, whole_same as image_same}
 use Rattle.prdb_finds.proofs.Without.{unchained_entry, unchained_kind}
 
 -- ---- its entries
 
 kind_at : (k : ℕ) → k < 6 → kind_of (block_in (layout initial_state) k) ≡ 1
-unfolding block_in layout head_of words zeros fixed_entries block_of numbers_of
+unfolding any_block layout head_of words zeros fixed_entries block_of numbers_of
 kind_at zero below = refl
 kind_at (suc zero) below = refl
 kind_at (suc (suc zero)) below = refl
@@ -54,7 +57,7 @@ own : ℕ → ℤ
 own k = get_or (negsuc 100 ∷ negsuc 101 ∷ negsuc 202 ∷ negsuc 203 ∷ negsuc 204 ∷ pos 32766 ∷ []) k (pos 0)
 
 name_at : (k : ℕ) → k < 6 → name_key (entry_in (block_in (layout initial_state) k)).name ≡ get_or names k 0
-unfolding names block_name block_in layout head_of words zeros fixed_entries block_of numbers_of
+unfolding names block_name any_block layout head_of words zeros fixed_entries block_of numbers_of
 name_at zero below = refl
 name_at (suc zero) below = refl
 name_at (suc (suc zero)) below = refl
@@ -64,7 +67,7 @@ name_at (suc (suc (suc (suc (suc zero))))) below = refl
 name_at (suc (suc (suc (suc (suc (suc k)))))) below = absurd (omega arith)
 
 own_at : (k : ℕ) → k < 6 → (entry_in (block_in (layout initial_state) k)).id ≡ own k
-unfolding own block_in layout head_of words zeros fixed_entries block_of numbers_of
+unfolding own any_block layout head_of words zeros fixed_entries block_of numbers_of
 own_at zero below = refl
 own_at (suc zero) below = refl
 own_at (suc (suc zero)) below = refl
@@ -84,7 +87,7 @@ id_at (suc (suc (suc (suc (suc zero))))) below = refl
 id_at (suc (suc (suc (suc (suc (suc k)))))) below = absurd (omega arith)
 
 owner_at : (k : ℕ) → k < 6 → (entry_in (block_in (layout initial_state) k)).owner ≡ negsuc 203
-unfolding block_in layout head_of words zeros fixed_entries block_of numbers_of
+unfolding any_block layout head_of words zeros fixed_entries block_of numbers_of
 owner_at zero below = refl
 owner_at (suc zero) below = refl
 owner_at (suc (suc zero)) below = refl
@@ -197,11 +200,11 @@ first_at keys at key is less =
     ∙ fits_word keys 0 256 key (drop at (whole [])) is less ∙ ap (seat 0 keys) same
 
 names_fit : fits names 0 256 (drop 64 (whole [])) ≡ true
-unfolding fits seat names whole first_image put_in put_word layout head_of words zeros fixed_entries block_of numbers_of block_in
+unfolding fits seat names whole first_image put_in put_word layout head_of words zeros fixed_entries block_of numbers_of any_block
 names_fit = refl
 
 ids_fit : fits ids 0 256 (drop 1088 (whole [])) ≡ true
-unfolding fits seat ids whole first_image put_in put_word layout head_of words zeros fixed_entries block_of numbers_of block_in
+unfolding fits seat ids whole first_image put_in put_word layout head_of words zeros fixed_entries block_of numbers_of any_block
 ids_fit = refl
 
 name_seat : (k : ℕ) → k < 6 → seat 0 names (get_or names k 0) ≡ k + 1
@@ -227,7 +230,7 @@ id_seat (suc (suc (suc (suc (suc (suc k)))))) below = absurd (omega arith)
 -- ---- the words of its blocks
 
 right : (next k : ℕ) → k < 6 → is_right (record { head = 2112; mark = 1; next = next; step = 1; kinds = 1 }) (whole []) (k + 1) ≡ true
-unfolding is_right whole first_image put_in put_word layout head_of words zeros fixed_entries block_of numbers_of block_in
+unfolding is_right whole first_image put_in put_word layout head_of words zeros fixed_entries block_of numbers_of any_block
 right next zero below = refl
 right next (suc zero) below = refl
 right next (suc (suc zero)) below = refl
@@ -237,7 +240,7 @@ right next (suc (suc (suc (suc (suc zero))))) below = refl
 right next (suc (suc (suc (suc (suc (suc k)))))) below = absurd (omega arith)
 
 name_next : (k : ℕ) → k < 6 → word_at (whole []) (next_place name_links (k + 1)) ≡ 0
-unfolding whole first_image put_in put_word layout head_of words zeros fixed_entries block_of numbers_of block_in
+unfolding whole first_image put_in put_word layout head_of words zeros fixed_entries block_of numbers_of any_block
 name_next zero below = refl
 name_next (suc zero) below = refl
 name_next (suc (suc zero)) below = refl
@@ -247,7 +250,7 @@ name_next (suc (suc (suc (suc (suc zero))))) below = refl
 name_next (suc (suc (suc (suc (suc (suc k)))))) below = absurd (omega arith)
 
 id_next : (k : ℕ) → k < 6 → word_at (whole []) (next_place id_links (k + 1)) ≡ 0
-unfolding whole first_image put_in put_word layout head_of words zeros fixed_entries block_of numbers_of block_in
+unfolding whole first_image put_in put_word layout head_of words zeros fixed_entries block_of numbers_of any_block
 id_next zero below = refl
 id_next (suc zero) below = refl
 id_next (suc (suc zero)) below = refl
@@ -258,7 +261,7 @@ id_next (suc (suc (suc (suc (suc (suc k)))))) below = absurd (omega arith)
 
 -- where the groups of an entry begin: those of one stand one behind the other, and no other one has any
 owned_first : (k : ℕ) → k < 6 → word_at (whole []) (owned_place k) ≡ cond (eqb k 3) 5 0
-unfolding whole first_image put_in put_word layout head_of words zeros fixed_entries block_of numbers_of block_in
+unfolding whole first_image put_in put_word layout head_of words zeros fixed_entries block_of numbers_of any_block
 owned_first zero below = refl
 owned_first (suc zero) below = refl
 owned_first (suc (suc zero)) below = refl
@@ -268,7 +271,7 @@ owned_first (suc (suc (suc (suc (suc zero))))) below = refl
 owned_first (suc (suc (suc (suc (suc (suc k)))))) below = absurd (omega arith)
 
 owned_next : (k : ℕ) → k < 5 → word_at (whole []) (next_place owned_links (k + 1)) ≡ k
-unfolding whole first_image put_in put_word layout head_of words zeros fixed_entries block_of numbers_of block_in
+unfolding whole first_image put_in put_word layout head_of words zeros fixed_entries block_of numbers_of any_block
 owned_next zero below = refl
 owned_next (suc zero) below = refl
 owned_next (suc (suc zero)) below = refl
@@ -277,11 +280,11 @@ owned_next (suc (suc (suc (suc zero)))) below = refl
 owned_next (suc (suc (suc (suc (suc k))))) below = absurd (omega arith)
 
 user_next : word_at (block_in (whole []) 5) 104 ≡ 0
-unfolding whole first_image put_in put_word layout head_of words zeros fixed_entries block_of numbers_of block_in
+unfolding whole first_image put_in put_word layout head_of words zeros fixed_entries block_of numbers_of any_block
 user_next = refl
 
 no_free : word_at (whole []) 20 ≡ 0
-unfolding whole first_image put_in put_word layout head_of words zeros fixed_entries block_of numbers_of block_in
+unfolding whole first_image put_in put_word layout head_of words zeros fixed_entries block_of numbers_of any_block
 no_free = refl
 
 -- ---- chains of names and ids
@@ -477,3 +480,21 @@ empty_holds = record {
       holds_none);
   chains = chains;
 }
+
+-- ---- what the empty image holds, the first one holds
+
+pub first_held : (image : List ℕ) (r : Registry) (m : Members) → length image ≡ 0 → Holds image r m → Holds (whole []) r m
+first_held image r m none holds =
+    let here : whole image ≡ whole (whole []) =
+    ap whole (empty_is image none) ∙ sym (image_same (whole []) (omega (arith, first_len))) in
+    record {
+      size = subst (λ (i : List ℕ). IsWhole 2112 i) here holds.size;
+      pairs = subst (λ (i : List ℕ). HoldsPairs (unchained i) r m) here holds.pairs;
+      chains = subst AreChains here holds.chains;
+    }
+
+pub first_holds : Holds (whole []) first_registry no_members
+first_holds = first_held [] first_registry no_members refl empty_holds
+
+pub first_some : HoldsSome (whole [])
+first_some = (first_registry, no_members, first_holds)

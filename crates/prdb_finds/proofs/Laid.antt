@@ -5,22 +5,20 @@ use Rattle.std.proofs.lemmas.Grind.{same_number_lists}
 use Rattle.std.proofs.lemmas.List.{get_or-drop, get_or-take, length-take-le}
 use Rattle.ubik_types.specs.Image.{changed}
 use Rattle.ubik_types.specs.declared.images.Change.TheVariants.{Put}
-use Rattle.db_blocks.specs.Blocks.{IsWhole, blanked}
-use Rattle.db_blocks.proofs.BlockPlaces.{head_put as any_head_put, laid, laid_out, laid_in, laid_len}
+use Rattle.db_blocks.specs.Blocks.{block_in as any_block, IsWhole, blanked}
+use Rattle.db_blocks.proofs.BlockPlaces.{head_put as any_head_put, laid, laid_out, laid_in, laid_len, IsPut, add_block, put_block}
 use Rattle.db_chains.proofs.Bytes.{blanked_len, blanked_stays}
 use Rattle.prdb_layout.specs.Blocks.{block_count}
 use Rattle.prdb_layout.specs.Records.{block_in, with_block}
-use Rattle.prdb_layout.proofs.BlockPlaces.{IsPut, add_block, put_block}
 use Rattle.prdb_finds.specs.Unchained.{unchained, unlinked, unlinked_head}
 use Rattle.prdb_finds.proofs.Beside.{inside_same}
 use Rattle.prdb_finds.proofs.Fields.{unlinked_len}
-use Rattle.prdb_finds.proofs.Lookups.{same_block}
 use Rattle.prdb_finds.proofs.Without.{unchained_block, unchained_count, unchained_head, unchained_len}
 
 -- an image is its head and its blocks
 pub same_image : (u v : List ℕ) (n : ℕ) → length u ≡ 2112 + 192 * n → length v ≡ 2112 + 192 * n → take 2112 u ≡ take 2112 v
     → ((k : ℕ) → k < n → block_in u k ≡ block_in v k) → u ≡ v
-unfolding block_in
+unfolding any_block
 same_image u v n len_u len_v head blocks =
     same_number_lists u v (len_u ∙ sym len_v)
     (λ i below.
@@ -128,21 +126,21 @@ head_laid image b p whole within =
     ∙ ap (λ (h : List ℕ). laid h p b) (sym (unchained_head image whole)) ∙ sym also.front)
     (λ k below.
     unchained_block new k whole_new (omega (arith, below, count))
-    ∙ ap unlinked (sym (same_block new k) ∙ put.others k below ∙ same_block image k)
-    ∙ sym (unchained_block image k whole below) ∙ sym (same_block u k)
-    ∙ sym (also.others k (omega (arith, below, unchained_count image whole))) ∙ same_block (changed u (Put p b)) k)
+    ∙ ap unlinked (put.others k below)
+    ∙ sym (unchained_block image k whole below)
+    ∙ sym (also.others k (omega (arith, below, unchained_count image whole))))
 
 -- ---- a block
 
 -- a block in its place, or one more
 put_both : (image block new v : List ℕ) (k n : ℕ) → IsWhole 2112 image → length block ≡ 192 → k < n → n ≤ block_count image + 1
-    → ((j : ℕ) → j < n → j ≢ k → j < block_count image) → IsPut k block image new n → IsPut k (unlinked block) (unchained image) v n
+    → ((j : ℕ) → j < n → j ≢ k → j < block_count image) → IsPut 2112 k block image new n → IsPut 2112 k (unlinked block) (unchained image) v n
     → unchained new ≡ v
 put_both image block new v k n whole len within most only put also =
     let whole_new : IsWhole 2112 new = omega (arith, put.size) in
     let count : block_count new ≡ n = omega (arith, put.size) in
     same_image (unchained new) v n (omega (arith, unchained_len new whole_new, count)) also.size
-    (unchained_head new whole_new ∙ ap unlinked_head put.head ∙ sym (unchained_head image whole) ∙ sym also.head)
+    (unchained_head new whole_new ∙ ap unlinked_head put.front ∙ sym (unchained_head image whole) ∙ sym also.front)
     (λ j below.
     unchained_block new j whole_new (omega (arith, below, count))
     ∙ ⊎_elim
@@ -159,8 +157,8 @@ pub block_laid : (image block : List ℕ) (k : ℕ) → IsWhole 2112 image → l
 block_laid image block k whole len below =
     let n = block_count image in
     put_both image block (with_block k block image) (with_block k (unlinked block) (unchained image)) k n whole len below (omega arith)
-    (λ j less other. less) (put_block image block k n whole len below)
-    (put_block (unchained image) (unlinked block) k n (unchained_len image whole) (unlinked_len block len) below)
+    (λ j less other. less) (put_block 2112 image block k n whole len below)
+    (put_block 2112 (unchained image) (unlinked block) k n (unchained_len image whole) (unlinked_len block len) below)
 
 pub block_added : (image block : List ℕ) → IsWhole 2112 image → length block ≡ 192
     → unchained (with_block (block_count image) block image) ≡ with_block (block_count image) (unlinked block) (unchained image)
@@ -168,5 +166,5 @@ block_added image block whole len =
     let n = block_count image in
     put_both image block (with_block n block image) (with_block n (unlinked block) (unchained image)) n (n + 1) whole len (omega arith)
     (omega arith)
-    (λ j less other. omega (arith, less, other)) (add_block image block n whole len)
-    (add_block (unchained image) (unlinked block) n (unchained_len image whole) (unlinked_len block len))
+    (λ j less other. omega (arith, less, other)) (add_block 2112 image block n whole len)
+    (add_block 2112 (unchained image) (unlinked block) n (unchained_len image whole) (unlinked_len block len))

@@ -37,7 +37,6 @@ use Rattle.prdb_finds.specs.Records.{AreChains, HasIdKey, HasNameKey, Holds, IsE
 use Rattle.prdb_finds.specs.Unchained.{unchained}
 use Rattle.prdb_finds.proofs.HeadTold.{told_maxima}
 use Rattle.prdb_finds.proofs.Laid.{head_laid}
-use Rattle.prdb_finds.proofs.Lookups.{same_block}
 use Rattle.prdb_finds.proofs.Taken.{free_all, not_free}
 use Rattle.prdb_finds.proofs.Told.{laid_without, whole_same}
 use Rattle.prdb_finds.proofs.Without.{unchained_len}
@@ -57,7 +56,7 @@ named_same l old new at (w ∷ ws) head set chain =
     let k = block_of l w in
     let count = ap (λ (h : ℕ). (length old - h) / 192) head in (
       subst (λ (h : ℕ). any_block h new k ≡ any_block h old k) (sym head)
-          (same_block new k ∙ set.blocks k (omega (arith, n.some, n.block, count)) ∙ sym (same_block old k)),
+          (set.blocks k (omega (arith, n.some, n.block, count))),
       named_same l old new (next_place l w) ws head set chain.2,
     )
 
@@ -102,7 +101,7 @@ chains_same old new set are =
           let same = set.blocks k (less k below) in
           subst (λ (b : List ℕ). Visits (entry_links 104) new (owned_place k) (IsEntryAt new (IsGroupOf (entry_in b).id))) (sym same)
           (visits_same 104 old new (owned_place k) (IsGroupOf (entry_in (block_in old k)).id) (omega arith) (omega arith) set
-          (block_word 2112 k 108 old new (omega arith) (same_block new k ∙ same ∙ sym (same_block old k)))
+          (block_word 2112 k 108 old new (omega arith) same)
           (are.owned k (less k below) (ap kind_of (sym same) ∙ kind)));
       unused = λ k below kind not.
           let same = set.blocks k (less k below) in
@@ -127,8 +126,7 @@ head_set image bytes p whole within =
     record {
       size = put_len image bytes p (omega (arith, whole));
       blocks = λ k below.
-          sym (same_block new k) ∙ block_stays 2112 p (length bytes) k image new stays (omega (arith, whole)) (inr (omega arith))
-          ∙ same_block image k;
+          block_stays 2112 p (length bytes) k image new stays (omega (arith, whole)) (inr (omega arith));
       words = λ q from below. word_stays p (length bytes) q image new stays (omega (arith, whole)) (inr (omega arith));
     }
 

@@ -1,6 +1,6 @@
 -- The groups of an owner are those of the blocks of its own chain.
-use Rattle.std.proofs.Common.{◌≡◌, ℕ, ℤ, pos, zero, suc, ◌+◌, ◌-◌, ◌*◌, ◌<◌, true, false, inl, inr, List, [], ◌∷◌, Option, Some, None, IfSome, Result, Ok, Err, IfOk, IfErr, length, get_or, map, refl, sym, ap, subst, ◌∙◌, arith}
-use Rattle.std.specs.Prelude.{◌<ℤ◌, ◌↔◌, IsSome, IsSomeAnd, is_some}
+use Rattle.std.proofs.Common.{◌≡◌, ℕ, ℤ, pos, zero, suc, ◌+◌, ◌-◌, ◌*◌, ◌<◌, true, inl, inr, List, [], ◌∷◌, Option, Some, None, IfSome, Result, Ok, Err, IfOk, length, get_or, map, refl, sym, ap, subst, ◌∙◌, arith}
+use Rattle.std.specs.Prelude.{◌<ℤ◌, ◌↔◌, IsSome, IsSomeAnd}
 use Rattle.std.specs.Int.{w32, cast_signed}
 use Rattle.std.specs.List.{Contains}
 use Rattle.std.specs.Option.{option_map}
@@ -8,7 +8,8 @@ use Rattle.db_image.specs.Draft.{Drafted}
 use Rattle.db_image.specs.declared.faults.RecordFault.{RecordFault}
 use Rattle.db_image.specs.declared.faults.RecordFault.TheVariants.{DiskFault, BadRecord, NoMemory}
 use Rattle.db_image.specs.declared.images.ImageRead.{Ghosts}
-use Rattle.db_image.proofs.ReadSteps.{asks_then}
+use Rattle.db_image.specs.Asked.{AsksAtMost}
+use Rattle.db_image.proofs.ReadSteps.{asks_none, asks_then}
 use Rattle.db_blocks.specs.Blocks.{block_in as any_block, word_at, kind_of}
 use Rattle.db_blocks.specs.Ends.{HasCause}
 use Rattle.db_chains.specs.declared.walks.Link.{Link}
@@ -21,22 +22,23 @@ use Rattle.db_chains.specs.Walks.{IsBad, IsFound, first_met, meets, stop_place}
 use Rattle.db_chains.proofs.Counted.{chain_unique}
 use Rattle.db_chains.proofs.Words.{right_names}
 use Rattle.prdb_layout.specs.Blocks.{block_count}
-use Rattle.prdb_layout.specs.RecordEnds.{HasCause as HasEntryCause, seen}
-use Rattle.prdb_layout.specs.Records.{Holds as HoldsEntries, block_in, entry_in, has_id}
+use Rattle.prdb_layout.specs.Records.{block_in, entry_in, has_id}
 use Rattle.prdb_layout.specs.Registry.{Registry}
 use Rattle.prdb_layout.specs.State.{PrEntry}
-use Rattle.prdb_layout.specs.declared.records.PrEntry.{PrEntry as CodeEntry}
 use Rattle.prdb_layout.proofs.Lookups.{id_parts}
-use Rattle.entry_scans.specs.Lists.{IsAscending, IsListOf}
-use Rattle.prdb_lists.specs.Members.{IsOwned, Members}
+use Rattle.entry_scans.specs.Lists.{IsAscending}
+use Rattle.prdb_lists.specs.Members.{Members}
 use Rattle.prdb_finds.specs.Ends.{HoldsSome}
 use Rattle.prdb_finds.specs.Keys.{id_chain}
 use Rattle.prdb_finds.specs.Owned.{AreIdsOf, AreInOwned, AreOwned, AreWalked, HasOwned, IsBadOwned}
 use Rattle.prdb_finds.specs.Places.{id_links, owned_links, owned_place}
+use Rattle.prdb_finds.specs.Sought.{IsRead}
 use Rattle.prdb_finds.specs.Records.{Holds, IsEntryAt, IsGroupOf, whole}
-use Rattle.prdb_finds.proofs.Ended.{first_held, of_first, read_none}
-use Rattle.prdb_finds.proofs.Lookups.{of_id, same_block, whole_now}
-use Rattle.prdb_finds.proofs.Told.{empty_is, told_only, told_there, whole_same}
+use Rattle.prdb_finds.proofs.FirstChains.{first_len}
+use Rattle.prdb_finds.proofs.FirstHolds.{first_held}
+use Rattle.prdb_finds.proofs.Ended.{read_none}
+use Rattle.prdb_finds.proofs.Lookups.{of_id, whole_now}
+use Rattle.prdb_finds.proofs.Told.{told_only, told_there, whole_same}
 
 -- ---- the ids in the blocks of a chain
 
@@ -64,7 +66,7 @@ id_of : (image : List ℕ) (w : ℕ) → cast_signed w32 (at_word image w) ≡ (
 unfolding at_word
 id_of image w =
     let here : any_block 2112 image (block_of owned_links w) ≡ block_in image (w - 1) =
-    ap (any_block 2112 image) (omega arith) ∙ same_block image (w - 1) in
+    ap (any_block 2112 image) (omega arith) in
     ap (λ (b : List ℕ). cast_signed w32 (word_at b 8)) here
 
 ids_of : (image words : List ℕ) → AreIdsOf image words (map (cast_signed w32) (map (at_word image) words))
@@ -108,7 +110,7 @@ block_met : (image : List ℕ) (owner : ℤ) (at k : ℕ) (f : Link) → IsFound
 block_met image owner at k f found is =
     let n = right_names id_links image f.word found.0.right in
     let here : f.block ≡ block_in image k =
-    found.0.block ∙ ap (any_block 2112 image) (omega (arith, is)) ∙ same_block image k in record {
+    found.0.block ∙ ap (any_block 2112 image) (omega (arith, is)) in record {
       below = omega (arith, n.some, n.block, is);
       has = ap (has_id owner) (sym here) ∙ found.1;
     }
@@ -191,9 +193,9 @@ owned_found (Some image) now len k at owner ids told some same is read ascending
     ascending
 
 pub owned_walked : (bytes now : Option (List ℕ)) (k at : ℕ) (owner : ℤ) (ids : List ℤ) → now ≡ bytes → IsMet bytes owner k at
-    → IfSome now (λ image. AreInOwned image at ids) → IfSome bytes (λ image. 0 < length image → AreWalked owner ids image)
+    → IfSome now (λ image. AreInOwned image at ids) → IfSome bytes (AreWalked owner ids)
 owned_walked None now k at owner ids same is read = tt
-owned_walked (Some image) now k at owner ids same is read = λ some.
+owned_walked (Some image) now k at owner ids same is read =
     let here : AreInOwned image at ids = subst (λ (b : Option (List ℕ)). IfSome b (λ image. AreInOwned image at ids)) same read in
     (k, is.block.below, is.block.has, subst (λ (p : ℕ). AreInOwned image p ids) is.place here)
 
@@ -204,66 +206,25 @@ pub owned_none : (bytes : Option (List ℕ)) (len : ℕ) (owner : ℤ) (link : O
     → IfSome bytes (λ image. (r : Registry) (m : Members) → Holds image r m → AreOwned r owner None)
 owned_none None len owner link told some none found = tt
 owned_none (Some image) len owner link told some none found = λ r m holds.
-    sym (of_id (Some image) len owner None told some
-    (read_none (Some image) id_links (λ w block. has_id owner block) (id_chain owner) link none found) r m holds)
+    sym (of_id (Some image) owner None
+    (subst (λ (i : List ℕ). IsRead id_links (λ w block. has_id owner block) (id_chain owner) i None) (sym (whole_same image (omega arith)))
+    (read_none (Some image) id_links (λ w block. has_id owner block) (id_chain owner) link none found)) r m holds)
 
 -- ---- the empty image
 
-first_none : (owner : ℤ) (found : Option CodeEntry) → is_some found ≡ false
-    → ((r : Registry) → HoldsEntries [] r → option_map seen found ≡ r.entry owner)
-    → (r : Registry) (m : Members) → Holds [] r m → AreOwned r owner None
-first_none owner None lacks found = λ r m holds. sym (found r (first_held [] r m refl holds))
-first_none owner (Some e) lacks found = absurd cc
+pub first_told : (first : Option (List ℕ)) (len : ℕ) → first ≡ Some (whole []) → len ≡ 3264 → IfSome first (λ image. length image ≡ len)
+first_told first len here long =
+    subst (λ (b : Option (List ℕ)). IfSome b (λ image. length image ≡ len)) (sym here) (first_len ∙ sym long)
 
-pub none_first : (first : Option (List ℕ)) (owner : ℤ) (found : Option CodeEntry) → first ≡ Some [] → is_some found ≡ false
-    → IfSome first (λ image. (r : Registry) → HoldsEntries image r → option_map seen found ≡ r.entry owner)
-    → (r : Registry) (m : Members) → Holds [] r m → AreOwned r owner None
-none_first first owner found here lacks is =
-    first_none owner found lacks
-    (subst (λ (b : Option (List ℕ)). IfSome b (λ image. (r : Registry) → HoldsEntries image r → option_map seen found ≡ r.entry owner))
-    here is)
-
-first_some : (owner : ℤ) (found : Option CodeEntry) → is_some found ≡ true
-    → ((r : Registry) → HoldsEntries [] r → option_map seen found ≡ r.entry owner)
-    → (r : Registry) → HoldsEntries [] r → IsSome (r.entry owner)
-first_some owner None lacks found = absurd cc
-first_some owner (Some e) some found = λ r holds. subst (λ (o : Option PrEntry). IsSome o) (found r holds) refl
-
-pub list_first : (first next : Option (List ℕ)) (owner : ℤ) (found : Option CodeEntry) (ids items : List ℤ) → first ≡ Some []
-    → next ≡ first → is_some found ≡ true
-    → IfSome first (λ image. (r : Registry) → HoldsEntries image r → option_map seen found ≡ r.entry owner)
-    → IfSome next (λ image. (r : Registry) → HoldsEntries image r → IsListOf (IsOwned r owner) ids) → items ≡ ids
-    → (r : Registry) (m : Members) → Holds [] r m → AreOwned r owner (Some items)
-list_first first next owner found ids items here same some is list made = λ r m holds.
-    let held = first_held [] r m refl holds in (
-      first_some owner found some (subst (λ (b : Option (List ℕ)). IfSome b
-          (λ image. (r : Registry) → HoldsEntries image r → option_map seen found ≡ r.entry owner)) here is) r held,
-      subst (λ (l : List ℤ). IsListOf (IsOwned r owner) l) (sym made)
-          ((subst (λ (b : Option (List ℕ)). IfSome b (λ image. (r : Registry) → HoldsEntries image r → IsListOf (IsOwned r owner) ids))
-          (same ∙ here) list) r held),
-    )
-
--- a fault there is want of memory alone
-pub only_memory : (first : Option (List ℕ)) (fault : RecordFault) → first ≡ Some [] → HasEntryCause first HoldsEntries fault
-    → (fault ≡ DiskFault → ⊥) → fault ≡ NoMemory
-only_memory first DiskFault here cause never = absurd (never refl)
-only_memory first NoMemory here cause never = refl
-only_memory first (BadRecord at) here cause never = absurd (of_first first (BadRecord at) here cause)
-
-pub never_disk : {T : Type 0} (res : Result T RecordFault) → IfErr res (λ fault. fault ≡ NoMemory) → res ≡ Err DiskFault → ⊥
-never_disk (Ok x) is other = cc
-never_disk (Err fault) is other = cc
-
-empty_held : (image : List ℕ) (r : Registry) (m : Members) → length image ≡ 0 → Holds image r m → Holds [] r m
-empty_held image r m none holds = subst (λ (i : List ℕ). Holds i r m) (empty_is image none) holds
-
-pub empty_owned : {T : Type 0} (P : Registry → T → Type 0) (res : Result T RecordFault) (bytes : Option (List ℕ)) (len : ℕ)
-    → IfSome bytes (λ image. length image ≡ len) → len ≡ 0
-    → IfOk res (λ found. (r : Registry) (m : Members) → Holds [] r m → P r found)
-    → IfOk res (λ found. IfSome bytes (λ image. (r : Registry) (m : Members) → Holds image r m → P r found))
-empty_owned P (Err fault) bytes len told none is = tt
-empty_owned P (Ok found) None len told none is = tt
-empty_owned P (Ok found) (Some image) len told none is = λ r m holds. is r m (empty_held image r m (told ∙ none) holds)
+pub empty_owned : {X : Type 0} (P : Registry → X → Type 0) (res : Result X RecordFault) (bytes first : Option (List ℕ)) (len : ℕ)
+    → IfSome bytes (λ image. length image ≡ len) → len ≡ 0 → first ≡ Some (whole [])
+    → IfOk res (λ x. IfSome first (λ image. (r : Registry) (m : Members) → Holds image r m → P r x))
+    → IfOk res (λ x. IfSome bytes (λ image. (r : Registry) (m : Members) → Holds image r m → P r x))
+empty_owned P (Err fault) bytes first len told none here is = tt
+empty_owned P (Ok x) None first len told none here is = tt
+empty_owned P (Ok x) (Some image) first len told none here is = λ r m holds.
+    (subst (λ (b : Option (List ℕ)). IfSome b (λ image. (r : Registry) (m : Members) → Holds image r m → P r x)) here is) r m
+    (first_held image r m (told ∙ none) holds)
 
 none_walked : {T : Type 0} (P : T → List ℕ → Type 0) (found : Option T) (bytes : Option (List ℕ)) (len : ℕ)
     → IfSome bytes (λ image. length image ≡ len) → len ≡ 0 → IfSome found (λ x. IfSome bytes (λ image. 0 < length image → P x image))
@@ -276,6 +237,18 @@ pub empty_walked : {T : Type 0} (P : T → List ℕ → Type 0) (res : Result (O
     → IfOk res (λ found. IfSome found (λ x. IfSome bytes (λ image. 0 < length image → P x image)))
 empty_walked P (Err fault) bytes len told none = tt
 empty_walked P (Ok found) bytes len told none = none_walked P found bytes len told none
+
+walked_so : {T : Type 0} (P : T → List ℕ → Type 0) (found : Option T) (bytes : Option (List ℕ))
+    → IfSome found (λ x. IfSome bytes (P x)) → IfSome found (λ x. IfSome bytes (λ image. 0 < length image → P x image))
+walked_so P None bytes is = tt
+walked_so P (Some x) None is = tt
+walked_so P (Some x) (Some image) is = λ some. is
+
+pub ok_walked : {T : Type 0} (P : T → List ℕ → Type 0) (res : Result (Option T) RecordFault) (bytes : Option (List ℕ))
+    → IfOk res (λ found. IfSome found (λ x. IfSome bytes (P x)))
+    → IfOk res (λ found. IfSome found (λ x. IfSome bytes (λ image. 0 < length image → P x image)))
+ok_walked P (Err fault) bytes is = tt
+ok_walked P (Ok found) bytes is = walked_so P found bytes is
 
 -- ---- a fault
 
@@ -332,3 +305,11 @@ costs_both g (Some image) now k at owner a b c same is one two = λ ws vs chain 
     → CostsAtMost g (4 + 192 * length us) b c)) same two vs there in
     asks_then (4 + 192 * length ws) (4 + 192 * length vs) (8 + 192 * (length ws + length vs)) (g.asked a.image) (g.asked b.image)
     (g.asked c.image) first second (omega arith)
+
+pub costs_none : {I : Type 0} (g : Ghosts I) (bytes : Option (List ℕ)) (owner : ℤ) (a b : Drafted I) → b.image ≡ a.image
+    → IfSome bytes (λ image. (ws vs : List ℕ) → HasChain id_links image (id_chain owner) ws → HasOwned image owner vs
+    → CostsAtMost g (8 + 192 * (length ws + length vs)) a b)
+costs_none g None owner a b same = tt
+costs_none g (Some image) owner a b same = λ ws vs chain owned.
+    subst (λ i. AsksAtMost (8 + 192 * (length ws + length vs)) (g.asked a.image) (g.asked i)) (sym same)
+    (asks_none (8 + 192 * (length ws + length vs)) (g.asked a.image))

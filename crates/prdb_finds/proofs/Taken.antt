@@ -1,5 +1,5 @@
 -- A block that is taken: the first of the free ones, which is the lowest, or one more; and the image without the words of chains.
-use Rattle.std.proofs.Common.{◌≡◌, ◌≢◌, ℕ, ◌+◌, ◌-◌, ◌*◌, ◌/◌, ◌^◌, ◌<◌, ◌≤◌, ◌⊎◌, inl, inr, ⊎_elim, Bool, false, cond, List, [], ◌∷◌, length, drop, refl, sym, ap, subst, ◌∙◌, arith}
+use Rattle.std.proofs.Common.{◌≡◌, ◌≢◌, ℕ, ◌+◌, ◌-◌, ◌*◌, ◌/◌, ◌<◌, ◌≤◌, ◌⊎◌, inl, inr, ⊎_elim, Bool, false, cond, List, [], ◌∷◌, length, drop, refl, sym, ap, subst, ◌∙◌, arith}
 use Rattle.std.specs.List.{Contains}
 use Rattle.std.proofs.lemmas.Bool.{cases_eq, eq-eqb, ne_eqb}
 use Rattle.db_blocks.specs.Blocks.{IsWhole, with_block as any_with, word_at, kind_of}
@@ -16,15 +16,14 @@ use Rattle.db_chains.proofs.Free.{IsOut, is_out, taken_first, taken_new}
 use Rattle.db_chains.proofs.Words.{right, right_names, right_some}
 use Rattle.prdb_layout.specs.Blocks.{block_count}
 use Rattle.prdb_layout.specs.Records.{block_in, is_free, next_block, with_block, with_count}
-use Rattle.prdb_layout.proofs.BlockPlaces.{add_block}
 use Rattle.prdb_finds.specs.Places.{entry_links, free_blocks}
 use Rattle.prdb_finds.specs.Records.{HasFree}
 use Rattle.prdb_finds.specs.Unchained.{unchained, unlinked}
 use Rattle.prdb_finds.proofs.Beside.{free_beside, head_beside, put_whole}
 use Rattle.prdb_finds.proofs.Laid.{block_added, block_laid, head_laid}
 use Rattle.prdb_finds.proofs.Lists.{each_of, first_or_rest}
-use Rattle.prdb_finds.proofs.Lookups.{same_block}
 use Rattle.prdb_finds.proofs.Without.{unchained_count, unchained_kind}
+use Rattle.db_blocks.proofs.BlockPlaces.{add_block}
 
 -- The block of a number was taken, which is the lowest free one, or one more at the end. Without the words of chains the image has these
 -- bytes there, without theirs.
@@ -98,7 +97,7 @@ free_word old at v back chain =
     let place : mark_place l v ≡ 2112 + 192 * (v - 1) = omega (arith, one) in (
       omega (arith, names.some),
       omega (arith, names.block),
-      ap kind_of (sym (same_block old (v - 1))) ∙ block_mark 2112 (v - 1) old ∙ ap (word_at old) (sym place)
+      block_mark 2112 (v - 1) old ∙ ap (word_at old) (sym place)
           ∙ (right l old v chain.1).mark,
     )
 
@@ -116,7 +115,7 @@ unfolding with_new put_word
 new_form old block whole len =
     let n = block_count old in
     let mid = with_block n block old in
-    let put = add_block old block n whole len in
+    let put = add_block 2112 old block n whole len in
     let whole_mid : IsWhole 2112 mid = omega (arith, put.size) in
     head_laid mid (number_word (n + 1)) 16 whole_mid (omega arith)
     ∙ ap (with_count (n + 1)) (block_added old block whole len)
@@ -155,8 +154,7 @@ out_form old w whole is some within kind =
     let whole_mid = put_whole old 20 n whole (omega (arith, whole)) in
     let size = word_len old 20 n (omega (arith, whole)) in
     let same : block_in mid (w - 1) ≡ block_in old (w - 1) =
-    sym (same_block mid (w - 1)) ∙ block_stays 2112 20 4 (w - 1) old mid stays (omega (arith, whole, within, some)) (inr (omega arith))
-    ∙ same_block old (w - 1) in
+    block_stays 2112 20 4 (w - 1) old mid stays (omega (arith, whole, within, some)) (inr (omega arith)) in
     subst (λ (v : ℕ). unchained (put_word (next_place l v) 0 (put_word 20 (word_at old (next_place l v)) old)) ≡ unchained old) (sym is)
     (ap (λ (p : ℕ). unchained (put_word p 0 mid)) q
     ∙ free_beside mid (w - 1) 0 whole_mid (omega (arith, size, some, within)) (ap kind_of same ∙ kind)

@@ -1,6 +1,10 @@
 -- What an image that holds a registry tells of its entries, and an image that is read whole.
-use Rattle.std.proofs.Common.{◌≡◌, ℕ, ℤ, ◌<◌, List, [], ◌∷◌, Some, length, sym, ap, subst, ◌∙◌, refl, arith}
+use Rattle.std.proofs.Common.{◌≡◌, ℕ, ℤ, ◌<◌, List, [], ◌∷◌, Option, Some, None, IfSome, Result, Ok, Err, IfOk, IfErr, length, sym, ap, subst, ◌∙◌, refl, arith}
+use Rattle.db_image.specs.Images.{IsOfImage}
+use Rattle.db_image.specs.declared.faults.RecordFault.{RecordFault}
+use Rattle.db_image.specs.declared.faults.RecordFault.TheVariants.{DiskFault, BadRecord, NoMemory}
 use Rattle.db_blocks.specs.Blocks.{kind_of}
+use Rattle.db_blocks.specs.Ends.{HasCause}
 use Rattle.prdb_layout.specs.Blocks.{block_count}
 use Rattle.prdb_layout.specs.Records.{block_in, entry_in, IsLaidOut, registry_in}
 use Rattle.prdb_layout.specs.Registry.{Registry}
@@ -20,6 +24,46 @@ whole_same (b ∷ bytes) some = refl
 pub empty_is : (image : List ℕ) → length image ≡ 0 → image ≡ []
 empty_is [] none = refl
 empty_is (b ∷ image) none = absurd (omega arith)
+
+-- what is said of an image that is not empty is said of it read whole
+pub ok_whole : {X : Type 0} (res : Result X RecordFault) (bytes : Option (List ℕ)) (len : ℕ) (P : X → List ℕ → Type 0)
+    → IfSome bytes (λ image. length image ≡ len) → 0 < len → IfOk res (λ x. IfSome bytes (P x))
+    → IfOk res (λ x. IfSome bytes (λ image. P x (whole image)))
+ok_whole (Err fault) bytes len P told some is = tt
+ok_whole (Ok x) None len P told some is = tt
+ok_whole (Ok x) (Some image) len P told some is = subst (P x) (sym (whole_same image (omega arith))) is
+
+pub err_whole : {X : Type 0} (res : Result X RecordFault) (bytes : Option (List ℕ)) (len : ℕ) (P : List ℕ → Type 0)
+    → IfSome bytes (λ image. length image ≡ len) → 0 < len → IfErr res (HasCause bytes P)
+    → IfErr res (HasCause bytes (λ image. P (whole image)))
+err_whole (Ok x) bytes len P told some cause = tt
+err_whole (Err DiskFault) bytes len P told some cause = tt
+err_whole (Err NoMemory) bytes len P told some cause = tt
+err_whole (Err (BadRecord at)) None len P told some cause = tt
+err_whole (Err (BadRecord at)) (Some image) len P told some cause = λ has. cause (subst P (whole_same image (omega arith)) has)
+
+-- and what is said of the first image is said of the empty one
+pub ok_first : {X : Type 0} (res : Result X RecordFault) (bytes first : Option (List ℕ)) (len : ℕ) (P : X → List ℕ → Type 0)
+    → IfSome bytes (λ image. length image ≡ len) → len ≡ 0 → first ≡ Some (whole []) → IfOk res (λ x. IfSome first (P x))
+    → IfOk res (λ x. IfSome bytes (λ image. P x (whole image)))
+ok_first (Err fault) bytes first len P told none here is = tt
+ok_first (Ok x) None first len P told none here is = tt
+ok_first (Ok x) (Some image) first len P told none here is =
+    subst (λ (i : List ℕ). P x (whole i)) (sym (empty_is image (told ∙ none)))
+    (subst (λ (b : Option (List ℕ)). IfSome b (P x)) here is)
+
+-- of which there is no bad record, where it fits
+pub of_first : (first : Option (List ℕ)) (P : List ℕ → Type 0) (fault : RecordFault) → first ≡ Some (whole []) → P (whole [])
+    → HasCause first P fault → IsOfImage fault
+of_first first P DiskFault here fits cause = tt
+of_first first P NoMemory here fits cause = tt
+of_first first P (BadRecord at) here fits cause =
+    (subst (λ (b : Option (List ℕ)). IfSome b (λ image. P image → ⊥)) here cause) fits
+
+pub err_first : {X : Type 0} (res : Result X RecordFault) (first : Option (List ℕ)) (P : List ℕ → Type 0) → first ≡ Some (whole [])
+    → P (whole []) → IfErr res (HasCause first P) → IfErr res IsOfImage
+err_first (Ok x) first P here fits cause = tt
+err_first (Err fault) first P here fits cause = of_first first P fault here fits cause
 
 -- without the words of chains it is laid out for the registry
 pub laid_without : (image : List ℕ) (r : Registry) (m : Members) → Holds image r m → IsLaidOut (unchained (whole image)) r

@@ -2,7 +2,7 @@
 use Rattle.std.proofs.Common.{◌≡◌, ℕ, zero, suc, ◌+◌, ◌*◌, ◌<◌, ◌≤◌, List, ◌++◌, length, take, drop, refl, sym, ap, ◌∙◌, arith}
 use Rattle.std.specs.List.{flat_map, range_with_len}
 use Rattle.std.proofs.lemmas.List.{drop-drop, drop_at, length-append, length-take-le, take_at}
-use Rattle.db_blocks.specs.Blocks.{IsWhole, kind_of, blanked}
+use Rattle.db_blocks.specs.Blocks.{block_in as any_block, IsWhole, kind_of, blanked}
 use Rattle.db_chains.proofs.Bytes.{blanked_len}
 use Rattle.prdb_layout.specs.Blocks.{block_count}
 use Rattle.prdb_layout.specs.Records.{block_in, entry_in}
@@ -80,7 +80,7 @@ blocks_behind head blocks k size =
     ∙ ap (λ (x : List ℕ). take 192 (drop (192 * k) x)) (drop_at head blocks 2112 size)
 
 taken_block : (image : List ℕ) (k : ℕ) → block_in image k ≡ take 192 (drop (2112 + 192 * k) image)
-unfolding block_in
+unfolding any_block
 taken_block image k = refl
 
 pub unchained_block : (image : List ℕ) (k : ℕ) → IsWhole 2112 image → k < block_count image

@@ -15,8 +15,9 @@ ghost use Rattle.prdb_finds.specs.Records.{whole};
 ghost use Rattle.prdb_finds.specs.declared.places.TheConstants.{FIRST_LEN};
 
 use crate::first::first_bytes;
-use crate::heads::{MAX_USER_AT, maxima};
+use crate::heads::maxima;
 use db_image::{Draft, ImageRead, RecordFault};
+use prdb_layout::MAX_USER_AT;
 use std::alloc::{AllocError, Global};
 use ubik_types::WORD_LEN;
 
@@ -90,5 +91,5 @@ pub fn set_maxima<I: ImageRead>(
         return Ok(());
     }
     let words = maxima_words(alloc, user, group)?;
-    put_whole(alloc, d, MAX_USER_AT, &words)
+    put_whole(alloc, d, MAX_USER_AT as u32, &words)
 }

@@ -16,16 +16,17 @@ ghost use Rattle.prdb_lists.specs.Members.{Members};
 ghost use Rattle.prdb_finds.specs.Ends.{HasItsCause};
 ghost use Rattle.prdb_finds.specs.Keys.{id_chain, name_chain};
 ghost use Rattle.prdb_finds.specs.Places.{free_blocks, id_links, name_links};
-ghost use Rattle.prdb_finds.specs.Records.{Holds};
+ghost use Rattle.prdb_finds.specs.Records.{Holds, whole};
 ghost use Rattle.prdb_finds.specs.Sought.{IsRead, is_sought};
 
-use crate::places::{HEAD_LEN, id_chain, id_links, name_chain, name_links};
+use crate::first::first_draft;
+use crate::places::{id_chain, id_links, name_chain, name_links};
 use crate::sought::Sought;
 use db_blocks::{Block, block_count};
 use db_chains::{Link, Links, find};
-use db_image::{Draft, ImageRead, RecordFault, VecImage};
+use db_image::{Draft, ImageRead, RecordFault};
 use entry_scans::entry_in;
-use prdb_layout::{PrEntry, draft_over};
+use prdb_layout::{HEAD_LEN, PrEntry};
 use std::alloc::Global;
 use ubik_types::{NoMemory, WORD_LEN, bytes_of};
 
@@ -44,17 +45,8 @@ fn read_entry(alloc: Global, block: &Block) -> Result<PrEntry, NoMemory>
     })
 }
 
-/// A draft over the empty image, in which the entries are the fixed ones.
-pub(crate) fn empty_draft(alloc: Global) -> Result<Draft<VecImage>, RecordFault>
-    ensures bytes { IfOk result (λ d. d.bytes ≡ Some []) }
-    ensures len { IfOk result (λ d. d.len ≡ 0) }
-    ensures fault { IfErr result (λ fault. fault ≡ RecordFault.NoMemory) }
-{
-    Ok(draft_over(alloc, VecImage::new(alloc, &[])?))
-}
-
 /// The entry of the first block of a chain that is what is looked for, in an image that is not empty.
-fn find_entry<I: ImageRead>(
+fn walk_to<I: ImageRead>(
     alloc: Global,
     d: &mut Draft<I>,
     links: Links,
@@ -81,6 +73,34 @@ fn find_entry<I: ImageRead>(
     Ok(Some(read_entry(alloc, &link.block)?))
 }
 
+/// The entry of the first block of a chain that is what is looked for; an empty draft is read as the first image.
+fn find_entry<I: ImageRead>(
+    alloc: Global,
+    d: &mut Draft<I>,
+    links: Links,
+    at: u32,
+    sought: Sought<'_>,
+) -> Result<Option<PrEntry>, RecordFault>
+    requires links { AreLinks links }
+    requires head { links.head ≡ HEAD_LEN }
+    requires at { at + WORD_LEN ≤ HEAD_LEN }
+    requires first { HasSome links at (whole []) }
+    requires len { d.old.len < 2 ^ 31 }
+    ensures found { IfOk result (λ found. IfSome d.old.bytes (λ image.
+        IsRead links (is_sought sought.entry) at (whole image) (option_map seen found))) }
+    ensures ended { IfOk result (λ found. found ≡ None → IfSome d.old.bytes (EndsChain links (is_sought sought.entry) at)) }
+    ensures bad { IfErr result (IsBadWhere d.old.bytes (IsBad links (is_sought sought.entry) at)) }
+    ensures fault { IfErr result (HasCause d.old.bytes (λ image. HasSome links at (whole image))) }
+    ensures frame { OnlyLooks I.ImageRead d.old d.new (IsErrOf result RecordFault.DiskFault) }
+    ensures cost { IfSome d.old.bytes (λ image. (ws : List ℕ) → HasChain links image at ws
+        → CostsAtMost I.ImageRead (WORD_LEN + BLOCK_LEN * length ws) d.old d.new) }
+{
+    if d.len() == 0 {
+        return walk_to(alloc, &mut first_draft(alloc)?, links, at, sought);
+    }
+    walk_to(alloc, d, links, at, sought)
+}
+
 /// The entry of a name. Where the image has the one chain of the name, it asks for a word and each block of that chain at most; of the
 /// empty image it asks for nothing.
 pub fn find_name<I: ImageRead>(
@@ -99,9 +119,6 @@ pub fn find_name<I: ImageRead>(
     ensures cost { IfSome d.old.bytes (λ image. (ws : List ℕ) → HasChain name_links image (name_chain name.now) ws
         → CostsAtMost I.ImageRead (WORD_LEN + BLOCK_LEN * length ws) d.old d.new) }
 {
-    if d.len() == 0 {
-        return prdb_layout::find_name(alloc, &mut empty_draft(alloc)?, name);
-    }
     find_entry(alloc, d, name_links(), name_chain(name), Sought::Name(name))
 }
 
@@ -123,9 +140,6 @@ pub fn find_id<I: ImageRead>(
     ensures cost { IfSome d.old.bytes (λ image. (ws : List ℕ) → HasChain id_links image (id_chain id) ws
         → CostsAtMost I.ImageRead (WORD_LEN + BLOCK_LEN * length ws) d.old d.new) }
 {
-    if d.len() == 0 {
-        return prdb_layout::find_id(alloc, &mut empty_draft(alloc)?, id);
-    }
     find_entry(alloc, d, id_links(), id_chain(id), Sought::Id(id))
 }
 

@@ -1,10 +1,12 @@
 //! The first image: that of the fixed entries, in their chains.
-ghost use Rattle.std.specs.Prelude.{◌≡◌, true, IfOk, length};
+ghost use Rattle.std.specs.Prelude.{◌≡◌, [], Some, true, IfErr, IfOk, length};
 ghost use Rattle.prdb_finds.specs.First.{first_image};
 ghost use Rattle.prdb_finds.specs.FirstWords.{are_within, with_words};
+ghost use Rattle.prdb_finds.specs.Records.{whole};
 ghost use Rattle.prdb_finds.specs.declared.places.TheConstants.{FIRST_LEN};
 
-use prdb_layout::initial_image;
+use db_image::{Draft, RecordFault, VecImage};
+use prdb_layout::{draft_over, initial_image};
 use std::alloc::{AllocError, Global};
 use ubik_types::WORD_LEN;
 
@@ -53,4 +55,15 @@ pub(crate) fn first_bytes(alloc: Global) -> Result<Vec<u8>, AllocError>
     let mut image = initial_image(alloc)?;
     put_words(&mut image, &FIRST_WORDS);
     Ok(image)
+}
+
+/// The first image, as a draft of its own: an empty draft is read as it.
+#[tactic(auto, unfolding(crate::specs::Records::whole))]
+pub fn first_draft(alloc: Global) -> Result<Draft<VecImage>, RecordFault>
+    ensures bytes { IfOk result (λ d. d.bytes ≡ Some (whole [])) }
+    ensures len { IfOk result (λ d. d.len ≡ FIRST_LEN) }
+    ensures fault { IfErr result (λ fault. fault ≡ RecordFault.NoMemory) }
+{
+    let image = VecImage::new(alloc, &first_bytes(alloc)?)?;
+    Ok(draft_over(alloc, image))
 }

@@ -1,30 +1,17 @@
 //! The head of the protection database's image: the two maxima.
-ghost use Rattle.std.specs.Prelude.{◌≡◌, ◌+◌, ◌*◌, ◌<◌, ◌≤◌, ◌^◌, ◌↔◌, IsTrue, IfSome, IfOk, IfErr, IsErrOf, length};
+ghost use Rattle.std.specs.Prelude.{◌≡◌, ◌*◌, ◌<◌, ◌^◌, ◌↔◌, IsTrue, IfSome, IfOk, IfErr, IsErrOf};
 ghost use Rattle.db_chains.specs.Ends.{LooksAtMost};
-ghost use Rattle.prdb_layout.specs.Records.{maxima_in, signed_at};
+ghost use Rattle.prdb_layout.specs.Records.{maxima_in};
 ghost use Rattle.prdb_layout.specs.Registry.{AreMaxima, Registry};
 ghost use Rattle.prdb_lists.specs.Members.{Members};
 ghost use Rattle.prdb_finds.specs.Ends.{HasItsCause};
 ghost use Rattle.prdb_finds.specs.Records.{Holds, whole};
 
-use crate::places::HEAD_LEN;
-use db_blocks::{block_count, word_at};
+use db_blocks::block_count;
 use db_image::{Draft, ImageRead, RecordFault};
+use entry_scans::signed_at;
+use prdb_layout::{HEAD_LEN, MAX_GROUP, MAX_USER_AT};
 use ubik_types::WORD_LEN;
-
-/// Where the greatest user id that was given stands in the head, and behind it the least group id.
-pub(crate) const MAX_USER_AT: u32 = 8;
-
-/// The least group id of the first entries.
-const MAX_GROUP: i32 = -205;
-
-/// The signed number at a place.
-fn signed_at(bytes: &[u8], at: usize) -> i32
-    requires { at + WORD_LEN ≤ length bytes.now }
-    ensures { result ≡ signed_at bytes.now at }
-{
-    word_at(bytes, at).cast_signed()
-}
 
 /// Whether these are maxima that a registry may have.
 fn are_maxima(user: i32, group: i32) -> bool
@@ -48,11 +35,13 @@ pub fn maxima<I: ImageRead>(d: &mut Draft<I>) -> Result<(i32, i32), RecordFault>
     }
     block_count(HEAD_LEN, d.len())?;
     let mut words = [0; 2 * WORD_LEN];
-    d.read(MAX_USER_AT, &mut words).done()?;
+    d.read(MAX_USER_AT as u32, &mut words).done()?;
     let user = signed_at(&words, 0);
     let group = signed_at(&words, WORD_LEN);
     if !are_maxima(user, group) {
-        return Err(RecordFault::BadRecord { at: MAX_USER_AT });
+        return Err(RecordFault::BadRecord {
+            at: MAX_USER_AT as u32,
+        });
     }
     Ok((user, group))
 }

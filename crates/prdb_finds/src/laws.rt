@@ -13,7 +13,8 @@ ghost use Rattle.prdb_finds.specs.Keys.{id_chain, name_chain};
 ghost use Rattle.prdb_finds.specs.Places.{IsEntryPlace, entry_links, free_blocks, id_links, name_links, owned_links, owned_place};
 ghost use Rattle.prdb_finds.specs.Records.{Holds, whole};
 ghost use Rattle.prdb_finds.specs.Unchained.{unchained};
-ghost use Rattle.prdb_layout.specs.declared.blocks.TheConstants.{BLOCK_LEN, HEAD_LEN};
+ghost use Rattle.db_blocks.specs.declared.blocks.TheConstants.{BLOCK_LEN};
+ghost use Rattle.prdb_layout.specs.declared.blocks.TheConstants.{HEAD_LEN};
 
 /// The empty image holds the first registry, and no pairs.
 pub fn law_empty_image_holds_the_first()

@@ -13,6 +13,7 @@ mod sought;
 
 pub use changes::{make_whole, set_maxima};
 pub use finds::{find_id, find_link, find_name};
+pub use first::first_draft;
 pub use heads::maxima;
 pub use laws::{
     law_changes_of_chains_stand_apart, law_empty_image_holds_the_first,
@@ -20,6 +21,6 @@ pub use laws::{
 };
 pub use owned::owned_ids;
 pub use places::{
-    FIRST_LEN, HEAD_LEN, free_blocks, id_chain, id_links, name_chain, name_links, owned_links,
-    owned_place,
+    FIRST_LEN, free_blocks, id_chain, id_links, name_chain, name_links, owned_links, owned_place,
 };
+pub use prdb_layout::HEAD_LEN;

@@ -1,7 +1,6 @@
 //! The groups that an entry owns, found by their own chain.
-ghost use Rattle.std.specs.Prelude.{◌≡◌, ◌+◌, ◌*◌, ◌<◌, ◌≤◌, ◌^◌, ◌↔◌, ℕ, ℤ, List, [], None, IfSome, IfOk, IfErr, IsErrOf, length, map};
+ghost use Rattle.std.specs.Prelude.{◌≡◌, ◌+◌, ◌*◌, ◌<◌, ◌≤◌, ◌^◌, ℕ, List, None, IfSome, IfOk, IfErr, IsErrOf, length, map};
 ghost use Rattle.std.specs.Int.{w32, cast_signed};
-ghost use Rattle.std.specs.List.{Contains};
 ghost use Rattle.std.specs.Option.{option_map};
 ghost use Rattle.db_blocks.specs.Ends.{HasCause, OnlyLooks};
 ghost use Rattle.db_blocks.specs.declared.blocks.TheConstants.{BLOCK_LEN};
@@ -20,30 +19,21 @@ ghost use Rattle.prdb_finds.specs.Owned.{AreInOwned, AreOwned, AreWalked, HasOwn
 ghost use Rattle.prdb_finds.specs.Places.{id_links, owned_links};
 ghost use Rattle.prdb_finds.specs.Records.{Holds};
 
-use crate::finds::{empty_draft, find_link};
+use crate::finds::find_link;
+use crate::first::first_draft;
 use crate::places::{owned_links, owned_place};
 use db_chains::read_along;
 use db_image::{Draft, ImageRead, RecordFault};
+use entry_scans::put_in_order;
+use prdb_layout::ID_AT;
 use std::alloc::{AllocError, Global};
 use ubik_types::WORD_LEN;
-
-/// Where an entry's id stands in its block.
-const ID_AT: u32 = 8;
 
 /// Words as numbers with a sign.
 fn signed(alloc: Global, words: &[u32]) -> Result<Vec<i32>, AllocError>
     ensures { IfOk result (λ ids. ids.items ≡ map (cast_signed w32) words.now) }
 {
     words.iter().map(|word| word.cast_signed()).collect(alloc)
-}
-
-/// Puts ids into their order, each once.
-fn put_in_order(ids: &mut Vec<i32>)
-    ensures ascending { IsAscending ids.new.items }
-    ensures same { (id : ℤ) → Contains ids.new.items id ↔ Contains ids.old.items id }
-{
-    ids.sort_unstable();
-    ids.dedup();
 }
 
 /// The ids of the groups in the owned chain whose first word stands at a place, ascending, each once.
@@ -62,25 +52,38 @@ fn ids_along<I: ImageRead>(
     ensures cost { IfSome d.old.bytes (λ image. (ws : List ℕ) → HasChain owned_links image at ws
         → CostsAtMost I.ImageRead (WORD_LEN + BLOCK_LEN * length ws) d.old d.new) }
 {
-    let words = read_along(alloc, d, owned_links(), at, ID_AT)?;
+    let words = read_along(alloc, d, owned_links(), at, ID_AT as u32)?;
     let mut ids = signed(alloc, &words)?;
     put_in_order(&mut ids);
     Ok(ids)
 }
 
-/// The groups that an entry of the empty image owns.
-fn first_owned(alloc: Global, owner: i32) -> Result<Option<Vec<i32>>, RecordFault>
-    ensures found { IfOk result (λ found. (r : Registry) (m : Members) → Holds [] r m
-        → AreOwned r owner (option_map (λ ids. ids.items) found)) }
+/// The ids of the groups that an entry owns, in an image that is not empty.
+fn owned_in<I: ImageRead>(
+    alloc: Global,
+    d: &mut Draft<I>,
+    owner: i32,
+) -> Result<Option<Vec<i32>>, RecordFault>
+    requires len { d.old.len < 2 ^ 31 }
+    requires told { IfSome d.old.bytes (λ image. length image ≡ d.old.len) }
+    requires some { 0 < d.old.len }
+    ensures found { IfOk result (λ found. IfSome d.old.bytes (λ image. (r : Registry) (m : Members) → Holds image r m
+        → AreOwned r owner (option_map (λ ids. ids.items) found))) }
     ensures ascending { IfOk result (λ found. IfSome found (λ ids. IsAscending ids.items)) }
-    ensures fault { IfErr result (λ fault. fault ≡ RecordFault.NoMemory) }
+    ensures walked { IfOk result (λ found. IfSome found (λ ids. IfSome d.old.bytes (AreWalked owner ids.items))) }
+    ensures ended { IfOk result (λ found. found ≡ None
+        → IfSome d.old.bytes (EndsChain id_links (λ w block. has_id owner block) (id_chain owner))) }
+    ensures bad { IfErr result (IsBadWhere d.old.bytes (IsBadOwned owner)) }
+    ensures fault { IfErr result (HasItsCause d.old.bytes) }
+    ensures frame { OnlyLooks I.ImageRead d.old d.new (IsErrOf result RecordFault.DiskFault) }
+    ensures cost { IfSome d.old.bytes (λ image. (ws vs : List ℕ) → HasChain id_links image (id_chain owner) ws → HasOwned image owner vs
+        → CostsAtMost I.ImageRead (2 * WORD_LEN + BLOCK_LEN * (length ws + length vs)) d.old d.new) }
 {
-    let mut d = empty_draft(alloc)?;
-    if prdb_layout::find_id(alloc, &mut d, owner)?.is_none() {
+    let Some(link) = find_link(d, owner)? else {
         return Ok(None);
-    }
-    let ids = prdb_lists::owned(alloc, &mut d, owner)?;
-    Ok(Some(ids.into_vec()))
+    };
+    let ids = ids_along(alloc, d, owned_place(link.word - 1))?;
+    Ok(Some(ids))
 }
 
 /// The ids of the groups that an entry owns, ascending; none where no entry has the id, as none has 0. Where the image has the one chain of
@@ -106,11 +109,7 @@ pub fn owned_ids<I: ImageRead>(
         → CostsAtMost I.ImageRead (2 * WORD_LEN + BLOCK_LEN * (length ws + length vs)) d.old d.new) }
 {
     if d.len() == 0 {
-        return first_owned(alloc, owner);
+        return owned_in(alloc, &mut first_draft(alloc)?, owner);
     }
-    let Some(link) = find_link(d, owner)? else {
-        return Ok(None);
-    };
-    let ids = ids_along(alloc, d, owned_place(link.word - 1))?;
-    Ok(Some(ids))
+    owned_in(alloc, d, owner)
 }

@@ -9,15 +9,10 @@ ghost use Rattle.prdb_finds.specs.Places.{free_blocks, id_links, name_links, own
 use crate::keys::{id_key, name_key};
 use db_blocks::block_place;
 use db_chains::{FreeBlocks, Links};
-
-/// The length of the head, in bytes.
-pub const HEAD_LEN: u32 = 2112;
+use prdb_layout::{ENTRY, HEAD_LEN};
 
 /// The length of the first image, in bytes.
 pub const FIRST_LEN: u32 = 3264;
-
-/// The first word of an entry's block.
-pub const ENTRY: u32 = 1;
 
 /// Where the first words of the name chains begin in the head, four bytes each.
 const NAME_CHAINS_AT: u32 = 64;

@@ -1,9 +1,9 @@
 //! What a walk along a chain looks for.
 
-use crate::places::ENTRY;
-use db_blocks::{Block, word_at};
+use db_blocks::Block;
 use db_chains::StopAt;
-use entry_scans::entry_in;
+use entry_scans::{entry_in, kind_of};
+use prdb_layout::ENTRY;
 
 /// What a walk along a chain looks for.
 #[derive(Clone, Copy)]
@@ -21,8 +21,8 @@ impl<'a> StopAt for Sought<'a> {
 
     fn stops(&self, _word: u32, block: &Block) -> bool {
         match *self {
-            Sought::Name(name) => word_at(block, 0) == ENTRY && entry_in(block).name == name,
-            Sought::Id(id) => word_at(block, 0) == ENTRY && entry_in(block).id == id,
+            Sought::Name(name) => kind_of(block) == ENTRY && entry_in(block).name == name,
+            Sought::Id(id) => kind_of(block) == ENTRY && entry_in(block).id == id,
         }
     }
 }

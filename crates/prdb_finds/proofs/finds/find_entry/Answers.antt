@@ -1,34 +1,44 @@
-use Rattle.std.proofs.Common.{◌≡◌, IfSome, length}
-use Rattle.std.proofs.lemmas.Result.{err_from_is_err_and}
-use Rattle.db_chains.proofs.Ended.{bad_cause, bad_count}
+use Rattle.std.proofs.Common.{refl, arith}
+use Rattle.std.specs.Option.{option_map}
+use Rattle.db_chains.specs.Ends.{HasSome}
+use Rattle.db_chains.proofs.Results.{err_so, image_cause, of_image}
 use Rattle.prdb_layout.specs.RecordEnds.{seen}
-use Rattle.prdb_finds.specs.Sought.{is_sought}
-use Rattle.prdb_finds.proofs.Ended.{ended, looks_well, read_some}
+use Rattle.prdb_finds.specs.Sought.{IsRead, is_sought}
+use Rattle.prdb_finds.proofs.Ended.{costs_free, empty_ended, ok_ended}
+use Rattle.prdb_finds.proofs.Told.{err_first, err_whole, ok_first, ok_whole}
 use Rattle.prdb_finds.proofs.finds.find_entry.Goals as goal
 
-pub returns-in_err-block_count-clause-bad : goal.returns-in_err-block_count-clause-bad
-returns-in_err-block_count-clause-bad g c =
-    let p = err_from_is_err_and c.from_residual.result c.from_residual.ensures.1 in
-    let told : IfSome c.args.d.now.bytes (λ image. length image ≡ c.len.result) = rw c.len.ensures.size c.len.ensures.told in
-    rw (p.1, p.2) (bad_count c.args.d.now.bytes c.args.links (is_sought c.args.sought) c.args.at c.len.result
-    c.in_err-block_count.field-0.0 c.in_err-block_count.ensures.fault.0 told c.in_err-block_count.ensures.fault.1)
+pub returns-then-len-eq0-clause-found : goal.returns-then-len-eq0-clause-found
+returns-then-len-eq0-clause-found g c =
+    ok_first c.walk_to.result c.args.d.now.bytes c.in_ok-first_draft.field-0.bytes c.len.result
+    (λ found image. IsRead c.args.links (is_sought c.args.sought) c.args.at image (option_map seen found))
+    (rw c.len.ensures.size c.len.ensures.told) c.if-len-eq0.true c.in_ok-first_draft.ensures.bytes c.walk_to.ensures.found
 
-pub returns-in_err-block_count-clause-fault : goal.returns-in_err-block_count-clause-fault
-returns-in_err-block_count-clause-fault g c =
-    let p = err_from_is_err_and c.from_residual.result c.from_residual.ensures.1 in
-    let told : IfSome c.args.d.now.bytes (λ image. length image ≡ c.len.result) = rw c.len.ensures.size c.len.ensures.told in
-    rw (p.1, p.2) (bad_cause c.args.d.now.bytes c.args.links (is_sought c.args.sought) c.args.at c.in_err-block_count.field-0.0
-    c.requires.links.step (bad_count c.args.d.now.bytes c.args.links (is_sought c.args.sought) c.args.at c.len.result
-    c.in_err-block_count.field-0.0 c.in_err-block_count.ensures.fault.0 told c.in_err-block_count.ensures.fault.1))
+pub returns-then-len-eq0-clause-ended : goal.returns-then-len-eq0-clause-ended
+returns-then-len-eq0-clause-ended g c =
+    ok_ended c.walk_to.result _
+    (empty_ended c.args.d.now.bytes c.len.result _ _ _ (rw c.len.ensures.size c.len.ensures.told) c.if-len-eq0.true)
+
+pub returns-then-len-eq0-clause-bad : goal.returns-then-len-eq0-clause-bad
+returns-then-len-eq0-clause-bad g c =
+    err_so c.walk_to.result _ _ (err_first c.walk_to.result c.in_ok-first_draft.field-0.bytes (HasSome c.args.links c.args.at)
+    c.in_ok-first_draft.ensures.bytes c.requires.first c.walk_to.ensures.fault) (of_image c.args.d.now.bytes _)
+
+pub returns-then-len-eq0-clause-fault : goal.returns-then-len-eq0-clause-fault
+returns-then-len-eq0-clause-fault g c =
+    err_so c.walk_to.result _ _ (err_first c.walk_to.result c.in_ok-first_draft.field-0.bytes (HasSome c.args.links c.args.at)
+    c.in_ok-first_draft.ensures.bytes c.requires.first c.walk_to.ensures.fault) (image_cause c.args.d.now.bytes _)
+
+pub returns-then-len-eq0-clause-cost : goal.returns-then-len-eq0-clause-cost
+returns-then-len-eq0-clause-cost g c = costs_free g.I.ImageRead c.args.d.now.bytes _ _ c.args.d.now c.args.d.now refl
 
 pub returns-clause-found : goal.returns-clause-found
 returns-clause-found g c =
-    read_some c.args.d.now.bytes c.args.links (is_sought c.args.sought) c.args.at c.in_ok-link.field-0 c.in-Some.link
-    (seen c.in_ok-read_entry.field-0) c.in-Some.is c.in_ok-link.ensures.exact c.in_ok-read_entry.ensures
+    ok_whole c.walk_to-2.result c.args.d.now.bytes c.len.result
+    (λ found image. IsRead c.args.links (is_sought c.args.sought) c.args.at image (option_map seen found))
+    (rw c.len.ensures.size c.len.ensures.told) (omega arith) c.walk_to-2.ensures.found
 
-pub returns-clause-frame : goal.returns-clause-frame
-returns-clause-frame g c = looks_well g.I.ImageRead c.args.d.now c.find.new.d _ _ c.find.ensures.frame.looks (λ e. cc)
-
-pub returns-in_default-clause-ended : goal.returns-in_default-clause-ended
-returns-in_default-clause-ended g c = λ none.
-    ended c.args.d.now.bytes c.args.links (is_sought c.args.sought) c.args.at c.in_ok-link.field-0 c.in_default.is c.in_ok-link.ensures.exact
+pub returns-clause-fault : goal.returns-clause-fault
+returns-clause-fault g c =
+    err_whole c.walk_to-2.result c.args.d.now.bytes c.len.result (HasSome c.args.links c.args.at)
+    (rw c.len.ensures.size c.len.ensures.told) (omega arith) c.walk_to-2.ensures.fault

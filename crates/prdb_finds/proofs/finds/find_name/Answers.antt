@@ -1,31 +1,14 @@
-use Rattle.std.proofs.Common.{refl, arith}
-use Rattle.db_chains.proofs.Results.{err_so, image_cause, of_image}
-use Rattle.prdb_finds.proofs.Ended.{costs_free, empty_ended, empty_named, err_first, ok_ended}
-use Rattle.prdb_finds.proofs.Lookups.{name_fault, ok_named}
+use Rattle.db_chains.proofs.Results.{err_so}
+use Rattle.prdb_finds.proofs.Lookups.{name_cause, name_first, ok_named}
 use Rattle.prdb_finds.proofs.finds.find_name.Goals as goal
-
-pub returns-then-len-eq0-clause-found : goal.returns-then-len-eq0-clause-found
-returns-then-len-eq0-clause-found g c =
-    empty_named c.find_name.result c.args.d.now.bytes c.in_ok-empty_draft.field-0.bytes c.len.result c.args.name.now
-    (rw c.len.ensures.size c.len.ensures.told) c.if-len-eq0.true c.in_ok-empty_draft.ensures.bytes c.find_name.ensures.found
-
-pub returns-then-len-eq0-clause-bad : goal.returns-then-len-eq0-clause-bad
-returns-then-len-eq0-clause-bad g c =
-    err_so c.find_name.result _ _ (err_first c.find_name.result c.in_ok-empty_draft.field-0.bytes c.in_ok-empty_draft.ensures.bytes
-    c.find_name.ensures.fault) (of_image c.args.d.now.bytes _)
-
-pub returns-then-len-eq0-clause-fault : goal.returns-then-len-eq0-clause-fault
-returns-then-len-eq0-clause-fault g c =
-    err_so c.find_name.result _ _ (err_first c.find_name.result c.in_ok-empty_draft.field-0.bytes c.in_ok-empty_draft.ensures.bytes
-    c.find_name.ensures.fault) (image_cause c.args.d.now.bytes _)
-
-pub returns-then-len-eq0-clause-cost : goal.returns-then-len-eq0-clause-cost
-returns-then-len-eq0-clause-cost g c = costs_free g.I.ImageRead c.args.d.now.bytes _ _ c.args.d.now c.args.d.now refl
 
 pub returns-clause-found : goal.returns-clause-found
 returns-clause-found g c =
-    ok_named c.find_entry.result c.args.d.now.bytes c.len.result c.args.name.now (rw c.len.ensures.size c.len.ensures.told) (omega arith)
+    ok_named c.find_entry.result c.args.d.now.bytes c.args.name.now
     (rw (c.name_links.ensures.is, c.name_chain.ensures.place) at c.find_entry.ensures.found)
+
+pub returns-clause-ended : goal.returns-clause-ended
+returns-clause-ended g c = rw (c.name_links.ensures.is, c.name_chain.ensures.place) at c.find_entry.ensures.ended
 
 pub returns-clause-bad : goal.returns-clause-bad
 returns-clause-bad g c = rw (c.name_links.ensures.is, c.name_chain.ensures.place) at c.find_entry.ensures.bad
@@ -33,15 +16,10 @@ returns-clause-bad g c = rw (c.name_links.ensures.is, c.name_chain.ensures.place
 pub returns-clause-fault : goal.returns-clause-fault
 returns-clause-fault g c =
     err_so c.find_entry.result _ _ (rw (c.name_links.ensures.is, c.name_chain.ensures.place) at c.find_entry.ensures.fault)
-    (λ e. name_fault c.args.d.now.bytes c.len.result c.args.name.now e (rw c.len.ensures.size c.len.ensures.told) (omega arith))
+    (name_cause c.args.d.now.bytes c.args.name.now)
 
 pub returns-clause-cost : goal.returns-clause-cost
 returns-clause-cost g c = rw (c.name_links.ensures.is, c.name_chain.ensures.place) at c.find_entry.ensures.cost
 
-pub returns-then-len-eq0-clause-ended : goal.returns-then-len-eq0-clause-ended
-returns-then-len-eq0-clause-ended g c =
-    ok_ended c.find_name.result _
-    (empty_ended c.args.d.now.bytes c.len.result _ _ _ (rw c.len.ensures.size c.len.ensures.told) c.if-len-eq0.true)
-
-pub returns-clause-ended : goal.returns-clause-ended
-returns-clause-ended g c = rw (c.name_links.ensures.is, c.name_chain.ensures.place) at c.find_entry.ensures.ended
+pub find_entry-requires-clause-first : goal.find_entry-requires-clause-first
+find_entry-requires-clause-first g c = rw (c.name_links.ensures.is, c.name_chain.ensures.place) (name_first c.args.name.now)

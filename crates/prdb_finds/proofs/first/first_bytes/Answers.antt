@@ -3,7 +3,7 @@ use Rattle.std.proofs.lemmas.List.{take_at}
 use Rattle.db_chains.specs.Changes.{put_in, put_word}
 use Rattle.db_blocks.specs.Bytes.{words, zeros}
 use Rattle.prdb_layout.specs.Layout.{block_of, head_of, layout, numbers_of}
-use Rattle.prdb_layout.specs.Records.{block_in}
+use Rattle.db_blocks.specs.Blocks.{block_in as any_block}
 use Rattle.prdb_layout.specs.State.{fixed_entries, initial_state}
 use Rattle.prdb_finds.specs.First.{first_image}
 use Rattle.prdb_finds.specs.FirstWords.{with_words}
@@ -11,7 +11,7 @@ use Rattle.prdb_finds.specs.declared.first.TheConstants.{FIRST_WORDS}
 use Rattle.prdb_finds.proofs.first.first_bytes.Goals as goal
 
 first_words : with_words FIRST_WORDS (layout initial_state) ≡ first_image
-unfolding first_image put_in put_word layout head_of words zeros fixed_entries block_of numbers_of block_in
+unfolding first_image put_in put_word layout head_of words zeros fixed_entries block_of numbers_of any_block
 first_words = refl
 
 pub returns-clause-value : goal.returns-clause-value

@@ -1,106 +1,56 @@
-use Rattle.std.proofs.Common.{◌-◌, refl, arith}
+use Rattle.std.proofs.Common.{refl}
 use Rattle.std.specs.Int.{w32}
+use Rattle.std.specs.Option.{option_map}
 use Rattle.std.proofs.lemmas.Int.{to_z-of_z}
-use Rattle.std.proofs.lemmas.Result.{err_from_is_err_and}
-use Rattle.db_blocks.proofs.Scanned.{looks_none}
-use Rattle.prdb_layout.specs.Records.{has_id}
-use Rattle.prdb_finds.specs.Keys.{id_chain}
-use Rattle.prdb_finds.specs.Places.{id_links}
-use Rattle.prdb_finds.proofs.Ended.{ended}
-use Rattle.prdb_finds.proofs.Lookups.{id_fault}
-use Rattle.prdb_finds.proofs.OwnedLists.{bad_first, bad_second, costs_both, empty_owned, empty_walked, fault_second, met, never_disk, owned_found, owned_none, owned_walked}
+use Rattle.db_chains.proofs.Results.{err_so, image_cause, of_image}
+use Rattle.prdb_finds.specs.Ends.{HoldsSome}
+use Rattle.prdb_finds.specs.Owned.{AreOwned, AreWalked}
+use Rattle.prdb_finds.proofs.Ended.{empty_ended, ok_ended}
+use Rattle.prdb_finds.proofs.FirstHolds.{first_some}
+use Rattle.prdb_finds.proofs.OwnedLists.{costs_none, empty_owned, empty_walked, first_told, ok_walked}
+use Rattle.prdb_finds.proofs.Told.{err_first}
 use Rattle.prdb_finds.proofs.owned.owned_ids.Goals as goal
 
 pub returns-then-len-eq0-clause-found : goal.returns-then-len-eq0-clause-found
 returns-then-len-eq0-clause-found g c =
-    let fits = to_z-of_z w32 c.args.owner c.ranges.owner in
-    empty_owned _ c.first_owned.result c.args.d.now.bytes c.len.result (rw c.len.ensures.size c.len.ensures.told) c.if-len-eq0.true
-    (rw fits at c.first_owned.ensures.found)
-
-pub returns-then-len-eq0-clause-frame : goal.returns-then-len-eq0-clause-frame
-returns-then-len-eq0-clause-frame g c =
-    looks_none g.I.ImageRead c.args.d.now _ (never_disk c.first_owned.result c.first_owned.ensures.fault)
+    empty_owned (λ r found. AreOwned r c.args.owner (option_map (λ ids. ids.items) found)) c.owned_in.result c.args.d.now.bytes
+    c.in_ok-first_draft.field-0.bytes c.len.result (rw c.len.ensures.size c.len.ensures.told) c.if-len-eq0.true
+    c.in_ok-first_draft.ensures.bytes (rw (to_z-of_z w32 c.args.owner c.ranges.owner) at c.owned_in.ensures.found)
 
 pub returns-then-len-eq0-clause-walked : goal.returns-then-len-eq0-clause-walked
 returns-then-len-eq0-clause-walked g c =
-    empty_walked _ c.first_owned.result c.args.d.now.bytes c.len.result (rw c.len.ensures.size c.len.ensures.told) c.if-len-eq0.true
+    empty_walked _ c.owned_in.result c.args.d.now.bytes c.len.result (rw c.len.ensures.size c.len.ensures.told) c.if-len-eq0.true
 
-pub returns-in_err-link-clause-bad : goal.returns-in_err-link-clause-bad
-returns-in_err-link-clause-bad g c =
-    let fits = to_z-of_z w32 c.args.owner c.ranges.owner in
-    let p = err_from_is_err_and c.from_residual.result c.from_residual.ensures.1 in
-    rw (p.1, p.2) (bad_first c.args.d.now.bytes c.args.owner c.in_err-link.field-0.0 (rw fits at c.in_err-link.ensures.bad))
+pub returns-then-len-eq0-clause-ended : goal.returns-then-len-eq0-clause-ended
+returns-then-len-eq0-clause-ended g c =
+    ok_ended c.owned_in.result _
+    (empty_ended c.args.d.now.bytes c.len.result _ _ _ (rw c.len.ensures.size c.len.ensures.told) c.if-len-eq0.true)
 
-pub returns-in_err-link-clause-fault : goal.returns-in_err-link-clause-fault
-returns-in_err-link-clause-fault g c =
-    let fits = to_z-of_z w32 c.args.owner c.ranges.owner in
-    let p = err_from_is_err_and c.from_residual.result c.from_residual.ensures.1 in
-    rw (p.1, p.2) (id_fault c.args.d.now.bytes c.len.result c.args.owner c.in_err-link.field-0.0
-    (rw c.len.ensures.size c.len.ensures.told) (omega arith)
-    (rw fits at c.in_err-link.ensures.fault))
+pub returns-then-len-eq0-clause-bad : goal.returns-then-len-eq0-clause-bad
+returns-then-len-eq0-clause-bad g c =
+    err_so c.owned_in.result _ _ (err_first c.owned_in.result c.in_ok-first_draft.field-0.bytes HoldsSome
+    c.in_ok-first_draft.ensures.bytes first_some c.owned_in.ensures.fault) (of_image c.args.d.now.bytes _)
 
-pub returns-in_default-clause-found : goal.returns-in_default-clause-found
-returns-in_default-clause-found g c =
-    let fits = to_z-of_z w32 c.args.owner c.ranges.owner in
-    owned_none c.args.d.now.bytes c.len.result c.args.owner c.in_ok-link.field-0 (rw c.len.ensures.size c.len.ensures.told) (omega arith)
-    c.in_default.is (rw fits at c.in_ok-link.ensures.found)
+pub returns-then-len-eq0-clause-fault : goal.returns-then-len-eq0-clause-fault
+returns-then-len-eq0-clause-fault g c =
+    err_so c.owned_in.result _ _ (err_first c.owned_in.result c.in_ok-first_draft.field-0.bytes HoldsSome
+    c.in_ok-first_draft.ensures.bytes first_some c.owned_in.ensures.fault) (image_cause c.args.d.now.bytes _)
 
-pub returns-in_default-clause-ended : goal.returns-in_default-clause-ended
-returns-in_default-clause-ended g c = λ none.
-    let fits = to_z-of_z w32 c.args.owner c.ranges.owner in
-    ended c.args.d.now.bytes id_links (λ w block. has_id c.args.owner block) (id_chain c.args.owner) c.in_ok-link.field-0 c.in_default.is
-    (rw fits at c.in_ok-link.ensures.exact)
-
-pub returns-in_err-ids-clause-bad : goal.returns-in_err-ids-clause-bad
-returns-in_err-ids-clause-bad g c =
-    let fits = to_z-of_z w32 c.args.owner c.ranges.owner in
-    let p = err_from_is_err_and c.from_residual-in_err-ids.result c.from_residual-in_err-ids.ensures.1 in
-    let is = met c.args.d.now.bytes c.args.owner c.in_ok-link.field-0 c.in-Some.link (c.in-Some.link.word - 1) c.owned_place.result
-    c.in-Some.is (rw fits at c.in_ok-link.ensures.exact) refl c.owned_place.ensures.place in
-    rw (p.1, p.2) (bad_second c.args.d.now.bytes c.find_link.new.d.bytes (c.in-Some.link.word - 1) c.owned_place.result c.args.owner
-    c.in_err-ids.field-0.0 c.find_link.ensures.frame.looks.same.bytes is c.in_err-ids.ensures.bad)
-
-pub returns-in_err-ids-clause-fault : goal.returns-in_err-ids-clause-fault
-returns-in_err-ids-clause-fault g c =
-    let fits = to_z-of_z w32 c.args.owner c.ranges.owner in
-    let p = err_from_is_err_and c.from_residual-in_err-ids.result c.from_residual-in_err-ids.ensures.1 in
-    let is = met c.args.d.now.bytes c.args.owner c.in_ok-link.field-0 c.in-Some.link (c.in-Some.link.word - 1) c.owned_place.result
-    c.in-Some.is (rw fits at c.in_ok-link.ensures.exact) refl c.owned_place.ensures.place in
-    rw (p.1, p.2) (fault_second c.args.d.now.bytes c.find_link.new.d.bytes c.len.result (c.in-Some.link.word - 1) c.owned_place.result
-    c.args.owner c.in_err-ids.field-0.0 (rw c.len.ensures.size c.len.ensures.told) (omega arith)
-    c.find_link.ensures.frame.looks.same.bytes is c.in_err-ids.ensures.fault)
-
-pub returns-in_err-ids-clause-cost : goal.returns-in_err-ids-clause-cost
-returns-in_err-ids-clause-cost g c =
-    let fits = to_z-of_z w32 c.args.owner c.ranges.owner in
-    let is = met c.args.d.now.bytes c.args.owner c.in_ok-link.field-0 c.in-Some.link (c.in-Some.link.word - 1) c.owned_place.result
-    c.in-Some.is (rw fits at c.in_ok-link.ensures.exact) refl c.owned_place.ensures.place in
-    costs_both g.I.ImageRead c.args.d.now.bytes c.find_link.new.d.bytes (c.in-Some.link.word - 1) c.owned_place.result c.args.owner
-    c.args.d.now c.find_link.new.d c.ids_along.new.d c.find_link.ensures.frame.looks.same.bytes is
-    (rw fits at c.find_link.ensures.cost) c.ids_along.ensures.cost
-
-pub returns-clause-found : goal.returns-clause-found
-returns-clause-found g c =
-    let fits = to_z-of_z w32 c.args.owner c.ranges.owner in
-    let is = met c.args.d.now.bytes c.args.owner c.in_ok-link.field-0 c.in-Some.link (c.in-Some.link.word - 1) c.owned_place.result
-    c.in-Some.is (rw fits at c.in_ok-link.ensures.exact) refl c.owned_place.ensures.place in
-    owned_found c.args.d.now.bytes c.find_link.new.d.bytes c.len.result (c.in-Some.link.word - 1) c.owned_place.result c.args.owner
-    c.in_ok-ids.ids.items (rw c.len.ensures.size c.len.ensures.told) (omega arith) c.find_link.ensures.frame.looks.same.bytes is
-    c.in_ok-ids.ensures.found c.in_ok-ids.ensures.ascending
+pub returns-then-len-eq0-clause-cost : goal.returns-then-len-eq0-clause-cost
+returns-then-len-eq0-clause-cost g c = costs_none g.I.ImageRead c.args.d.now.bytes c.args.owner c.args.d.now c.args.d.now refl
 
 pub returns-clause-walked : goal.returns-clause-walked
 returns-clause-walked g c =
-    let fits = to_z-of_z w32 c.args.owner c.ranges.owner in
-    let is = met c.args.d.now.bytes c.args.owner c.in_ok-link.field-0 c.in-Some.link (c.in-Some.link.word - 1) c.owned_place.result
-    c.in-Some.is (rw fits at c.in_ok-link.ensures.exact) refl c.owned_place.ensures.place in
-    owned_walked c.args.d.now.bytes c.find_link.new.d.bytes (c.in-Some.link.word - 1) c.owned_place.result c.args.owner
-    c.in_ok-ids.ids.items c.find_link.ensures.frame.looks.same.bytes is c.in_ok-ids.ensures.found
+    ok_walked (λ ids. AreWalked c.args.owner ids.items) c.owned_in-2.result c.args.d.now.bytes
+    (rw (to_z-of_z w32 c.args.owner c.ranges.owner) at c.owned_in-2.ensures.walked)
 
-pub returns-clause-cost : goal.returns-clause-cost
-returns-clause-cost g c =
-    let fits = to_z-of_z w32 c.args.owner c.ranges.owner in
-    let is = met c.args.d.now.bytes c.args.owner c.in_ok-link.field-0 c.in-Some.link (c.in-Some.link.word - 1) c.owned_place.result
-    c.in-Some.is (rw fits at c.in_ok-link.ensures.exact) refl c.owned_place.ensures.place in
-    costs_both g.I.ImageRead c.args.d.now.bytes c.find_link.new.d.bytes (c.in-Some.link.word - 1) c.owned_place.result c.args.owner
-    c.args.d.now c.find_link.new.d c.ids_along.new.d c.find_link.ensures.frame.looks.same.bytes is
-    (rw fits at c.find_link.ensures.cost) c.ids_along.ensures.cost
+pub returns-clause-found : goal.returns-clause-found
+returns-clause-found g c = rw (to_z-of_z w32 c.args.owner c.ranges.owner) at c.owned_in-2.ensures.found
+
+pub returns-clause-ended : goal.returns-clause-ended
+returns-clause-ended g c = rw (to_z-of_z w32 c.args.owner c.ranges.owner) at c.owned_in-2.ensures.ended
+
+pub owned_in-requires-clause-told : goal.owned_in-requires-clause-told
+owned_in-requires-clause-told g c =
+    first_told c.in_ok-first_draft.field-0.bytes c.in_ok-first_draft.field-0.len c.in_ok-first_draft.ensures.bytes
+    c.in_ok-first_draft.ensures.len
