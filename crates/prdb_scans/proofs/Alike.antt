@@ -23,7 +23,7 @@ use Rattle.prdb_finds.proofs.Without.{unchained_block, unchained_count, unchaine
 -- ---- a block
 
 no_block : (image : List ℕ) (k : ℕ) → IsWhole 2112 image → block_count image ≤ k → block_in image k ≡ []
-unfolding block_in
+unfolding any_block
 no_block image k size behind = ap (take 192) (drop_all (block_place k) image (omega (arith, size)))
 
 choice_id : (b c : Bool) (x y z : List ℕ) (n : ℕ) → word_at x 8 ≡ n → word_at y 8 ≡ n → word_at z 8 ≡ n

@@ -2,16 +2,16 @@
 use Rattle.std.proofs.Common.{◌≡◌, ℕ, ℤ, ◌+◌, ◌*◌, ◌<◌, Bool, true, false, List, [], ◌∷◌, ◌++◌, Option, Some, None, IfSome, Result, Ok, Err, IfOk, length, sym, ap, subst, ◌∙◌, ⊎_elim, arith}
 use Rattle.std.specs.Prelude.{◌↔◌}
 use Rattle.std.specs.List.{Contains}
-use Rattle.std.proofs.lemmas.Bool.{cases_eq, leb-true}
+use Rattle.std.proofs.lemmas.Bool.{cases_eq}
 use Rattle.std.proofs.lemmas.List.Elements.{Contains-append_left, Contains-push, Contains-push_cases}
 use Rattle.db_image.specs.Asked.{AsksAtMost}
 use Rattle.db_image.specs.Draft.{Drafted}
 use Rattle.db_image.specs.declared.faults.RecordFault.{RecordFault}
-use Rattle.db_image.specs.declared.faults.RecordFault.TheVariants.{BadRecord}
+use Rattle.db_image.specs.declared.faults.RecordFault.TheVariants.{DiskFault, BadRecord, NoMemory}
 use Rattle.db_image.specs.declared.images.ImageRead.{Ghosts}
 use Rattle.db_image.proofs.ReadSteps.{asks_none, asks_then}
 use Rattle.db_blocks.specs.Ascending.{AreGood}
-use Rattle.db_blocks.specs.Blocks.{block_in as any_block, block_place, kind_of}
+use Rattle.db_blocks.specs.Blocks.{block_in as any_block, block_place}
 use Rattle.db_blocks.specs.Ends.{HasCause, OnlyLooks}
 use Rattle.db_blocks.proofs.Scanned.{count_is, looks_none, looks_so, looks_then}
 use Rattle.prdb_layout.specs.Records.{block_in, entry_in}
@@ -121,23 +121,22 @@ taking_next g first now next test ids after count done block b failed t looks co
 }
 
 -- a block of no kind stands in no image that is good
-bad_so : (bytes now : Option (List ℕ)) (count done at : ℕ) (block : List ℕ) → now ≡ bytes
+bad_so : (bytes now : Option (List ℕ)) (count done : ℕ) (fault : RecordFault) → now ≡ bytes
     → IfSome bytes (λ image. length image ≡ block_place 2112 count) → done < count
-    → IfSome now (λ image. block ≡ any_block 2112 image done) → 2 < kind_of block → HasCause bytes (AreGood 2112 is_kind) (BadRecord at)
-bad_so None now count done at block stays told below is high = tt
-bad_so (Some image) now count done at block stays told below is high = λ good.
-    let here : block ≡ any_block 2112 image done =
-    subst (λ (o : Option (List ℕ)). IfSome o (λ i. block ≡ any_block 2112 i done)) stays is in
+    → HasCause now (λ image. is_kind (any_block 2112 image done) ≡ true) fault → HasCause bytes (AreGood 2112 is_kind) fault
+bad_so bytes now count done DiskFault stays told below cause = tt
+bad_so bytes now count done NoMemory stays told below cause = tt
+bad_so None now count done (BadRecord at) stays told below cause = tt
+bad_so (Some image) now count done (BadRecord at) stays told below cause = λ good.
+    let here = subst (λ (o : Option (List ℕ)). HasCause o (λ i. is_kind (any_block 2112 i done) ≡ true) (BadRecord at)) stays cause in
     let n = count_is 2112 image count told in
-    let small = leb-true (kind_of block) 2 (ap is_kind here ∙ good.each done (omega arith)) in
-    omega (arith, small, high)
+    here (good.each done (omega (arith, n, below)))
 
-pub taking_bad : {I : Type 0} (g : Ghosts I) (first now : Drafted I) (test : PrEntry → Bool) (ids : List ℤ) (count done at : ℕ)
-    (block : List ℕ)
-    → Taking g first now test ids count done → done < count → IfSome now.bytes (λ image. block ≡ any_block 2112 image done)
-    → 2 < kind_of block → HasCause first.bytes (AreGood 2112 is_kind) (BadRecord at)
-taking_bad g first now test ids count done at block t below is high =
-    bad_so first.bytes now.bytes count done at block t.frame.same.bytes t.told below is high
+pub taking_bad : {I : Type 0} (g : Ghosts I) (first now : Drafted I) (test : PrEntry → Bool) (ids : List ℤ) (count done : ℕ)
+    (fault : RecordFault) → Taking g first now test ids count done → done < count
+    → HasCause now.bytes (λ image. is_kind (any_block 2112 image done) ≡ true) fault → HasCause first.bytes (AreGood 2112 is_kind) fault
+taking_bad g first now test ids count done fault t below cause =
+    bad_so first.bytes now.bytes count done fault t.frame.same.bytes t.told below cause
 
 -- all blocks were passed, and the ids put into their order
 all_so : (bytes : Option (List ℕ)) (test : PrEntry → Bool) (ids after : List ℤ) (count : ℕ)

@@ -1,63 +1,55 @@
 -- Whether a pass found an entry that is looked for, and whether the registry has one.
-use Rattle.std.proofs.Common.{◌≡◌, ℕ, ◌<◌, ◌≤◌, Bool, true, false, cond, List, Option, Some, None, IfSome, Result, Ok, Err, IfOk, ap, subst, ◌∙◌, inl, inr, arith}
-use Rattle.std.proofs.lemmas.Bool.{cases_Bool, le-leb, leb-true}
+use Rattle.std.proofs.Common.{◌≡◌, ℕ, ℤ, ◌<◌, Bool, true, false, List, [], length, Option, Some, None, IfSome, Result, Ok, Err, IfOk, refl, ap, subst, ◌∙◌, inl, inr, arith}
+use Rattle.std.proofs.lemmas.Bool.{cases_Bool, false_from_ne_true}
+use Rattle.db_image.specs.Draft.{Drafted}
 use Rattle.db_image.specs.declared.faults.RecordFault.{RecordFault}
-use Rattle.db_image.specs.declared.faults.RecordFault.TheVariants.{BadRecord}
-use Rattle.db_blocks.specs.Ascending.{AreGood}
-use Rattle.db_blocks.specs.Blocks.{IsFirst, block_in as any_block, kind_of}
-use Rattle.db_blocks.specs.Ends.{HasCause}
-use Rattle.db_blocks.specs.declared.scans.Found.{Found}
-use Rattle.db_blocks.proofs.FoundBlocks.{found_meets, none_meets}
+use Rattle.db_image.specs.declared.images.ImageRead.{Ghosts}
+use Rattle.db_blocks.specs.Blocks.{block_in as any_block, block_place}
+use Rattle.db_blocks.proofs.Scanned.{count_is}
+use Rattle.prdb_layout.specs.Blocks.{block_count}
 use Rattle.prdb_layout.specs.Records.{block_in, entry_in}
 use Rattle.prdb_layout.specs.Registry.{Registry}
 use Rattle.prdb_layout.specs.State.{PrEntry}
 use Rattle.prdb_lists.specs.Members.{Members}
 use Rattle.entry_scans.specs.Found.{TellsWhether}
-use Rattle.entry_scans.specs.Pages.{is_kind}
 use Rattle.entry_scans.specs.Sought.{is_sought}
 use Rattle.entry_scans.proofs.Told.{sought_from, sought_parts}
 use Rattle.prdb_finds.specs.Records.{Holds, whole}
 use Rattle.prdb_finds.proofs.Lookups.{is_false, same_block}
 use Rattle.prdb_finds.proofs.Told.{told_only, told_there}
-use Rattle.prdb_scans.specs.Passes.{HasSought, ends}
+use Rattle.prdb_scans.specs.Passes.{AreIds, HasSought}
+use Rattle.prdb_scans.proofs.Ids.{Taking}
 
 -- ---- the blocks
 
-not_sought : (b s : Bool) → cond b s true ≡ false → s ≡ false
-not_sought true s is = is
-not_sought false s is = absurd cc
+-- where the ids of all that meet the test are none, none meets it
+none_there : (test : PrEntry → Bool) (image : List ℕ) (k : ℕ) → AreIds test [] image → k < block_count image
+    → is_sought test (block_in image k) ≡ false
+none_there test image k are below =
+    let block = block_in image k in
+    false_from_ne_true (is_sought test block)
+    (λ met. let has = (are (entry_in block).id).1 (k, below, (met, refl)) in absurd (omega (arith, has.1)))
 
-sought_if : (b s : Bool) → b ≡ true → cond b s true ≡ true → s ≡ true
-sought_if true s kind is = is
-sought_if false s kind is = absurd cc
+pub none_sought : (bytes : Option (List ℕ)) (test : PrEntry → Bool) → IfSome bytes (AreIds test []) → IfSome bytes (HasSought test false)
+none_sought None test are = tt
+none_sought (Some image) test are = λ k below. none_there test image k are below
 
-pub none_sought : (bytes : Option (List ℕ)) (test : PrEntry → Bool) (found : Option Found) → found ≡ None
-    → IfSome bytes (λ image. IsFirst 2112 (ends test) image found) → IfSome bytes (HasSought test false)
-none_sought None test found none is = tt
-none_sought (Some image) test found none is = λ k below.
-    let first : IsFirst 2112 (ends test) image None = subst (IsFirst 2112 (ends test) image) none is in
-    let block = any_block 2112 image k in
-    subst (λ (b : List ℕ). is_sought test b ≡ false) (same_block image k)
-    (not_sought (is_kind block) (is_sought test block) (none_meets 2112 (ends test) image k first below))
+some_so : (bytes now : Option (List ℕ)) (test : PrEntry → Bool) (count done : ℕ) (block : List ℕ) → now ≡ bytes
+    → IfSome bytes (λ image. length image ≡ block_place 2112 count) → done < count
+    → IfSome now (λ image. block ≡ any_block 2112 image done) → is_sought test block ≡ true → IfSome bytes (HasSought test true)
+some_so None now test count done block stays told below is met = tt
+some_so (Some image) now test count done block stays told below is met =
+    let here : block ≡ any_block 2112 image done =
+    subst (λ (o : Option (List ℕ)). IfSome o (λ i. block ≡ any_block 2112 i done)) stays is in
+    let n = count_is 2112 image count told in
+    (done, omega (arith, n, below), subst (λ (b : List ℕ). is_sought test b ≡ true) (here ∙ same_block image done) met)
 
-pub some_sought : (bytes : Option (List ℕ)) (test : PrEntry → Bool) (found : Option Found) (f : Found) → found ≡ Some f
-    → kind_of f.block ≤ 2 → IfSome bytes (λ image. IsFirst 2112 (ends test) image found) → IfSome bytes (HasSought test true)
-some_sought None test found f some small is = tt
-some_sought (Some image) test found f some small is =
-    let first : IsFirst 2112 (ends test) image (Some f) = subst (IsFirst 2112 (ends test) image) some is in
-    let met = sought_if (is_kind f.block) (is_sought test f.block) (le-leb (kind_of f.block) 2 small)
-    (found_meets 2112 (ends test) image f first) in
-    (f.number, first.0, subst (λ (b : List ℕ). is_sought test b ≡ true) (first.2 ∙ same_block image f.number) met)
-
--- a block of no kind stands in no image that is good
-pub bad_kind : (bytes : Option (List ℕ)) (test : PrEntry → Bool) (found : Option Found) (f : Found) (at : ℕ) → found ≡ Some f
-    → 2 < kind_of f.block → IfSome bytes (λ image. IsFirst 2112 (ends test) image found)
-    → HasCause bytes (AreGood 2112 is_kind) (BadRecord at)
-bad_kind None test found f at some high is = tt
-bad_kind (Some image) test found f at some high is = λ good.
-    let first : IsFirst 2112 (ends test) image (Some f) = subst (IsFirst 2112 (ends test) image) some is in
-    let small = leb-true (kind_of f.block) 2 (ap is_kind first.2 ∙ good.each f.number first.0) in
-    absurd (omega (arith, small, high))
+pub some_sought : {I : Type 0} (g : Ghosts I) (first now : Drafted I) (test : PrEntry → Bool) (ids : List ℤ) (count done : ℕ)
+    (block : List ℕ) → Taking g first now test ids count done → done < count
+    → IfSome now.bytes (λ image. block ≡ any_block 2112 image done) → is_sought test block ≡ true
+    → IfSome first.bytes (HasSought test true)
+some_sought g first now test ids count done block t below is met =
+    some_so first.bytes now.bytes test count done block t.frame.same.bytes t.told below is met
 
 -- ---- the registry
 

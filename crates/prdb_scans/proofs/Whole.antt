@@ -1,9 +1,8 @@
 -- A pass over a draft, or over the first image in place of an empty one, is one over the image that is read whole.
-use Rattle.std.proofs.Common.{◌≡◌, ℕ, ◌<◌, List, [], Option, Some, None, IfSome, Result, Ok, Err, IfOk, IfErr, length, refl, sym, ap, subst, ◌∙◌, arith}
+use Rattle.std.proofs.Common.{◌≡◌, ℕ, ◌<◌, List, [], Option, Some, None, IfSome, Result, Ok, Err, IfErr, length, ap, subst, ◌∙◌, arith}
 use Rattle.std.proofs.lemmas.Bool.{le-leb}
 use Rattle.db_image.specs.declared.faults.RecordFault.{RecordFault}
 use Rattle.db_image.specs.declared.faults.RecordFault.TheVariants.{DiskFault, BadRecord, NoMemory}
-use Rattle.db_image.specs.Images.{IsOfImage}
 use Rattle.db_blocks.specs.Ascending.{AreGood}
 use Rattle.db_blocks.specs.Blocks.{block_in as any_block, kind_of}
 use Rattle.db_blocks.specs.Ends.{HasCause}
@@ -18,24 +17,6 @@ use Rattle.prdb_finds.specs.Unchained.{unchained}
 use Rattle.prdb_finds.proofs.Lookups.{same_block}
 use Rattle.prdb_finds.proofs.Told.{empty_is, laid_without, whole_same}
 use Rattle.prdb_finds.proofs.Without.{unchained_count, unchained_kind}
-
--- ---- what it finds
-
-pub ok_whole : {X : Type 0} (res : Result X RecordFault) (bytes : Option (List ℕ)) (len : ℕ) (P : X → List ℕ → Type 0)
-    → IfSome bytes (λ image. length image ≡ len) → 0 < len → IfOk res (λ x. IfSome bytes (P x))
-    → IfOk res (λ x. IfSome bytes (λ image. P x (whole image)))
-ok_whole (Err fault) bytes len P told some is = tt
-ok_whole (Ok x) None len P told some is = tt
-ok_whole (Ok x) (Some image) len P told some is = subst (P x) (sym (whole_same image (omega arith))) is
-
-pub ok_first : {X : Type 0} (res : Result X RecordFault) (bytes first : Option (List ℕ)) (len : ℕ) (P : X → List ℕ → Type 0)
-    → IfSome bytes (λ image. length image ≡ len) → len ≡ 0 → first ≡ Some (whole []) → IfOk res (λ x. IfSome first (P x))
-    → IfOk res (λ x. IfSome bytes (λ image. P x (whole image)))
-ok_first (Err fault) bytes first len P told none here is = tt
-ok_first (Ok x) None first len P told none here is = tt
-ok_first (Ok x) (Some image) first len P told none here is =
-    subst (λ (i : List ℕ). P x (whole i)) (sym (empty_is image (told ∙ none)))
-    (subst (λ (b : Option (List ℕ)). IfSome b (P x)) here is)
 
 -- ---- when it answers a bad record
 
@@ -71,9 +52,3 @@ err_first (Err (BadRecord at)) None first len told none here is = tt
 err_first (Err (BadRecord at)) (Some image) first len told none here is = λ held.
     let not = subst (λ (b : Option (List ℕ)). HasCause b (AreGood 2112 is_kind) (BadRecord at)) here is in
     not (subst (λ (i : List ℕ). AreGood 2112 is_kind (whole i)) (empty_is image (told ∙ none)) (good image held.0 held.1 held.2))
-
--- the first image is written but for want of memory
-pub no_memory : (fault : RecordFault) → IsOfImage fault → (fault ≡ DiskFault → ⊥) → fault ≡ NoMemory
-no_memory DiskFault of reads = absurd (reads refl)
-no_memory (BadRecord at) of reads = absurd of
-no_memory NoMemory of reads = refl

@@ -1,15 +1,10 @@
--- What ends a pass over the blocks, and what it tells.
-use Rattle.std.specs.Prelude.{ℕ, ℤ, ◌≡◌, ◌<◌, ◌↔◌, Bool, true, false, List, if◌then◌else◌}
+-- What a pass over the blocks tells.
+use Rattle.std.specs.Prelude.{ℕ, ℤ, ◌≡◌, ◌<◌, ◌↔◌, Bool, true, false, List}
 use Rattle.std.specs.List.{Contains}
 use Rattle.prdb_layout.specs.Blocks.{block_count}
 use Rattle.prdb_layout.specs.Records.{block_in, entry_in}
 use Rattle.prdb_layout.specs.State.{PrEntry}
-use Rattle.entry_scans.specs.Pages.{is_kind}
 use Rattle.entry_scans.specs.Sought.{is_sought}
-
--- a block ends a pass where it is that of an entry which meets a test, or of no kind
-abbrev pub ends : (PrEntry → Bool) → List ℕ → Bool
-ends test block = if is_kind block then is_sought test block else true
 
 -- whether the block of some entry meets a test
 abbrev pub HasSought : (PrEntry → Bool) → Bool → List ℕ → Type 0

@@ -1,7 +1,6 @@
 //! Passes over the blocks of the protection database's image, for what stands in no chain, and what an image tells.
 #![tactic(auto)]
 
-mod first;
 mod laws;
 mod pages;
 mod scans;

@@ -11,13 +11,12 @@ ghost use Rattle.entry_scans.specs.Pages.{AreFirst, IsOfEntry, least_id, rank_in
 ghost use Rattle.entry_scans.specs.Sought.{is_sought};
 ghost use Rattle.prdb_finds.specs.Ends.{HasItsCause};
 ghost use Rattle.prdb_finds.specs.Records.{Holds, whole};
-ghost use Rattle.prdb_finds.specs.declared.places.TheConstants.{HEAD_LEN};
+ghost use Rattle.prdb_layout.specs.declared.blocks.TheConstants.{HEAD_LEN};
 
-use crate::first::first_draft;
 use db_blocks::{BLOCK_LEN, Block, Keyed, scan_first};
 use db_image::{Draft, ImageRead, RecordFault};
 use entry_scans::{MORE, Sought, entry_in, is_sought, kind_of};
-use prdb_finds::HEAD_LEN;
+use prdb_finds::{HEAD_LEN, first_draft};
 use std::alloc::Global;
 
 /// A number that ascends with the id.

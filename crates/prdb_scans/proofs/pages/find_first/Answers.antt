@@ -1,5 +1,6 @@
 use Rattle.std.proofs.Common.{arith}
-use Rattle.prdb_scans.proofs.Whole.{err_first, err_whole, ok_first, ok_whole}
+use Rattle.prdb_finds.proofs.Told.{ok_first, ok_whole}
+use Rattle.prdb_scans.proofs.Whole.{err_first, err_whole}
 use Rattle.prdb_scans.proofs.pages.find_first.Goals as goal
 
 pub returns-then-len-gt0-clause-found : goal.returns-then-len-gt0-clause-found

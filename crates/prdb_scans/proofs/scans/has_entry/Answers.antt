@@ -1,6 +1,7 @@
 use Rattle.std.proofs.Common.{arith}
 use Rattle.prdb_scans.proofs.Passed.{ok_tells}
-use Rattle.prdb_scans.proofs.Whole.{err_first, err_whole, ok_first, ok_whole}
+use Rattle.prdb_finds.proofs.Told.{ok_first, ok_whole}
+use Rattle.prdb_scans.proofs.Whole.{err_first, err_whole}
 use Rattle.prdb_scans.proofs.scans.has_entry.Goals as goal
 
 pub returns-then-len-gt0-clause-found : goal.returns-then-len-gt0-clause-found

@@ -1,25 +1,56 @@
-use Rattle.std.proofs.Common.{arith}
+use Rattle.std.proofs.Common.{◌*◌, false, [], refl, sym, ◌∙◌, arith}
 use Rattle.std.proofs.lemmas.Result.{err_from_is_err_and}
 use Rattle.db_blocks.proofs.Keeping.{bad_so}
+use Rattle.db_image.proofs.ReadSteps.{asks_then}
+use Rattle.db_blocks.proofs.Scanned.{bad_size, looks_so, looks_then}
 use Rattle.entry_scans.specs.Pages.{is_kind}
-use Rattle.prdb_scans.proofs.Passed.{bad_kind, none_sought, some_sought}
+use Rattle.prdb_scans.proofs.Ids.{taking_all, taking_bad, taking_next, taking_none}
+use Rattle.prdb_scans.proofs.Passed.{none_sought, some_sought}
 use Rattle.prdb_scans.proofs.scans.pass.Goals as goal
 
-pub returns-in_err-found-clause-fault : goal.returns-in_err-found-clause-fault
-returns-in_err-found-clause-fault g c =
+pub returns-in_err-count-clause-fault : goal.returns-in_err-count-clause-fault
+returns-in_err-count-clause-fault g c =
     let p = err_from_is_err_and c.from_residual.result c.from_residual.ensures.1 in
-    rw (p.1, p.2) (bad_so c.args.d.now.bytes 2112 is_kind c.in_err-found.field-0.0 c.in_err-found.ensures.fault)
+    rw (p.1, p.2) (bad_so c.args.d.now.bytes 2112 is_kind c.in_err-count.field-0.0
+    (bad_size 2112 c.args.d.now.bytes c.len.result c.len.result c.in_err-count.field-0.0 c.in_err-count.ensures.fault.0
+    (rw c.len.ensures.size c.len.ensures.told) c.in_err-count.ensures.fault.1))
 
-pub returns-in_default-clause-found : goal.returns-in_default-clause-found
-returns-in_default-clause-found g c =
-    none_sought c.args.d.now.bytes (g.S.Sought.test c.args.sought.now) c.in_ok-found.field-0 c.in_default.is c.in_ok-found.ensures.found
+pub loop-number-init : goal.loop-number-init
+loop-number-init g c =
+    taking_none g.I.ImageRead c.args.d.now (g.S.Sought.test c.args.sought.now) c.in_ok-count.count
+    (rw (← c.in_ok-count.ensures.count, c.len.ensures.size) c.len.ensures.told)
 
-pub returns-then-kind_of-gt-MORE-clause-fault : goal.returns-then-kind_of-gt-MORE-clause-fault
-returns-then-kind_of-gt-MORE-clause-fault g c =
-    bad_kind c.args.d.now.bytes (g.S.Sought.test c.args.sought.now) c.in_ok-found.field-0 c.in-Some.found c.block_place-at.result
-    c.in-Some.is (omega arith) c.in_ok-found.ensures.found
+pub loop-number-preserved : goal.loop-number-preserved
+loop-number-preserved g c =
+    taking_next g.I.ImageRead c.args.d.now c.loop-number.d c.read_kind.new.d (g.S.Sought.test c.args.sought.now) [] []
+    c.in_ok-count.count c.loop-number.number c.in_ok-block.block false _ c.loop-number.invariant c.read_kind.ensures.frame
+    c.read_kind.ensures.cost c.in_ok-block.ensures.block (sym c.is_sought.ensures ∙ c.if-is_sought.false, refl)
+
+pub returns-then-is_sought-clause-found : goal.returns-then-is_sought-clause-found
+returns-then-is_sought-clause-found g c =
+    some_sought g.I.ImageRead c.args.d.now c.loop-number.d (g.S.Sought.test c.args.sought.now) [] c.in_ok-count.count
+    c.loop-number.number c.in_ok-block.block c.loop-number.invariant (omega arith) c.in_ok-block.ensures.block
+    (sym c.is_sought.ensures ∙ c.if-is_sought.true)
+
+pub returns-then-is_sought-clause-frame : goal.returns-then-is_sought-clause-frame
+returns-then-is_sought-clause-frame g c =
+    looks_then g.I.ImageRead c.args.d.now c.loop-number.d c.read_kind.new.d ⊥ _ c.loop-number.invariant.frame
+    (looks_so g.I.ImageRead c.loop-number.d c.read_kind.new.d _ _ c.read_kind.ensures.frame (λ h. absurd cc))
+
+pub returns-then-is_sought-clause-cost : goal.returns-then-is_sought-clause-cost
+returns-then-is_sought-clause-cost g c =
+    let done = c.loop-number.number in
+    asks_then (192 * done) 192 c.args.d.now.len _ _ _ c.loop-number.invariant.cost c.read_kind.ensures.cost
+    (omega (arith, c.in_ok-count.ensures.count, c.len.ensures.size, c.loop-number-test.true))
+
+pub returns-in_err-block-clause-fault : goal.returns-in_err-block-clause-fault
+returns-in_err-block-clause-fault g c =
+    let p = err_from_is_err_and c.from_residual-in_err-block.result c.from_residual-in_err-block.ensures.1 in
+    rw (p.1, p.2) (taking_bad g.I.ImageRead c.args.d.now c.loop-number.d (g.S.Sought.test c.args.sought.now) [] c.in_ok-count.count
+    c.loop-number.number c.in_err-block.field-0.0 c.loop-number.invariant (omega arith) c.in_err-block.ensures.fault)
 
 pub returns-clause-found : goal.returns-clause-found
 returns-clause-found g c =
-    some_sought c.args.d.now.bytes (g.S.Sought.test c.args.sought.now) c.in_ok-found.field-0 c.in-Some.found c.in-Some.is (omega arith)
-    c.in_ok-found.ensures.found
+    none_sought c.args.d.now.bytes (g.S.Sought.test c.args.sought.now)
+    (taking_all g.I.ImageRead c.args.d.now c.loop-number.d (g.S.Sought.test c.args.sought.now) [] [] c.in_ok-count.count
+    c.loop-number.number (omega arith) c.loop-number.invariant (λ id. (λ h. h, λ h. h)))

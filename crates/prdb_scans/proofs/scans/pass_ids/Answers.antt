@@ -31,27 +31,27 @@ loop-number-preserved g c =
           let fits : FitsSigned w32 w.entry_in.result.id = search rules in
           let pushed = w.in_ok-push.ensures.items in
           rw w.ids-is
-          (taking_next g.I.ImageRead c.args.d.now c.loop-number.d c.read_block.new.d
+          (taking_next g.I.ImageRead c.args.d.now c.loop-number.d c.read_kind.new.d
           (g.S.Sought.test c.args.sought.now) c.loop-number.ids.items w.push.new.self.items
           c.in_ok-count.count c.loop-number.number c.in_ok-block.block true _
-          c.loop-number.invariant c.read_block.ensures.frame c.read_block.ensures.cost c.in_ok-block.ensures.block (
+          c.loop-number.invariant c.read_kind.ensures.frame c.read_kind.ensures.cost c.in_ok-block.ensures.block (
             sym c.is_sought.ensures ∙ w.if-is_sought.true,
             (simp to_z-of_z at pushed) ∙ ap (λ (e : PrEntry). c.loop-number.ids.items ++ e.id ∷ []) w.entry_in.ensures,
           ))
       | else-is_sought w ↦
           rw w.ids-is
-          (taking_next g.I.ImageRead c.args.d.now c.loop-number.d c.read_block.new.d
+          (taking_next g.I.ImageRead c.args.d.now c.loop-number.d c.read_kind.new.d
           (g.S.Sought.test c.args.sought.now) c.loop-number.ids.items c.loop-number.ids.items
           c.in_ok-count.count c.loop-number.number c.in_ok-block.block false _
-          c.loop-number.invariant c.read_block.ensures.frame c.read_block.ensures.cost c.in_ok-block.ensures.block
+          c.loop-number.invariant c.read_kind.ensures.frame c.read_kind.ensures.cost c.in_ok-block.ensures.block
           (sym c.is_sought.ensures ∙ w.if-is_sought.false, refl))
     ]
 
-pub returns-then-kind_of-gt-MORE-clause-fault : goal.returns-then-kind_of-gt-MORE-clause-fault
-returns-then-kind_of-gt-MORE-clause-fault g c =
-    taking_bad g.I.ImageRead c.args.d.now c.loop-number.d (g.S.Sought.test c.args.sought.now) c.loop-number.ids.items
-    c.in_ok-count.count c.loop-number.number c.block_place-at.result c.in_ok-block.block c.loop-number.invariant (omega arith)
-    c.in_ok-block.ensures.block (omega arith)
+pub returns-in_err-block-clause-fault : goal.returns-in_err-block-clause-fault
+returns-in_err-block-clause-fault g c =
+    let p = err_from_is_err_and c.from_residual-in_err-block.result c.from_residual-in_err-block.ensures.1 in
+    rw (p.1, p.2) (taking_bad g.I.ImageRead c.args.d.now c.loop-number.d (g.S.Sought.test c.args.sought.now) c.loop-number.ids.items
+    c.in_ok-count.count c.loop-number.number c.in_err-block.field-0.0 c.loop-number.invariant (omega arith) c.in_err-block.ensures.fault)
 
 pub returns-clause-found : goal.returns-clause-found
 returns-clause-found g c =
@@ -64,11 +64,11 @@ returns-in_err-push-clause-frame g c =
     let p = err_from_is_err_and c.from_residual-in_err-push.result c.from_residual-in_err-push.ensures.1 in
     let made = p.1 in
     let from = p.2 in
-    looks_then g.I.ImageRead c.args.d.now c.loop-number.d c.read_block.new.d ⊥ _ c.loop-number.invariant.frame
-    (looks_so g.I.ImageRead c.loop-number.d c.read_block.new.d _ _ c.read_block.ensures.frame (λ h. absurd cc))
+    looks_then g.I.ImageRead c.args.d.now c.loop-number.d c.read_kind.new.d ⊥ _ c.loop-number.invariant.frame
+    (looks_so g.I.ImageRead c.loop-number.d c.read_kind.new.d _ _ c.read_kind.ensures.frame (λ h. absurd cc))
 
 pub returns-in_err-push-clause-cost : goal.returns-in_err-push-clause-cost
 returns-in_err-push-clause-cost g c =
     let done = c.loop-number.number in
-    asks_then (192 * done) 192 c.args.d.now.len _ _ _ c.loop-number.invariant.cost c.read_block.ensures.cost
+    asks_then (192 * done) 192 c.args.d.now.len _ _ _ c.loop-number.invariant.cost c.read_kind.ensures.cost
     (omega (arith, c.in_ok-count.ensures.count, c.len.ensures.size, c.loop-number-test.true))
