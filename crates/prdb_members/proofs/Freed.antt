@@ -16,8 +16,7 @@ use Rattle.db_chains.proofs.Freed.{Split, freed, split}
 use Rattle.db_chains.proofs.Stops.{above_behind}
 use Rattle.prdb_layout.specs.Blocks.{block_count}
 use Rattle.prdb_layout.specs.Records.{block_in, block_place, entry_in, with_block}
-use Rattle.prdb_layout.proofs.BlockPlaces.{IsPut, put_block}
-use Rattle.prdb_layout.proofs.LaidOut.{count_is, zero_kind}
+use Rattle.prdb_layout.proofs.LaidOut.{zero_kind}
 use Rattle.prdb_lists.proofs.RecordsKeep.{zeros_len}
 use Rattle.prdb_finds.specs.Places.{free_blocks}
 use Rattle.prdb_finds.specs.Records.{HasFree}
@@ -28,6 +27,8 @@ use Rattle.prdb_finds.proofs.Lookups.{same_block}
 use Rattle.prdb_finds.proofs.Without.{unchained_kind, unchained_len}
 use Rattle.prdb_members.proofs.Kept.{KeepsEntries, Names, names_of, word_in}
 use Rattle.prdb_members.proofs.Taken.{are_free, free_next, zeros_unlinked}
+use Rattle.db_blocks.proofs.Scanned.{count_is}
+use Rattle.db_blocks.proofs.BlockPlaces.{IsPut, put_block}
 
 -- a word that is put behind words of the free chain
 put_behind : (x image : List ℕ) (n at : ℕ) (below more : List ℕ) → HasChain (free_links free_blocks) image at (below ++ more)
@@ -68,8 +69,8 @@ freed_zero image ws f size below chain up others =
     let p = place_behind l 20 s.below in
     let place : place_above l 20 n image ≡ p = above_behind l image 20 n s.below s.above are_free.links.step old s.less s.more in
     let mid = with_block f (zeros 192) image in
-    let put : IsPut f (zeros 192) image mid c = put_block image (zeros 192) f c size zeros_len below in
-    let count : block_count mid ≡ c = count_is mid c put.size in
+    let put : IsPut 2112 f (zeros 192) image mid c = put_block 2112 image (zeros 192) f c size zeros_len below in
+    let count : block_count mid ≡ c = count_is 2112 mid c put.size in
     let whole_mid : IsWhole 2112 mid = omega (arith, put.size, count) in
     let kind : kind_of (block_in mid f) ≡ 0 = ap kind_of put.here ∙ zero_kind in
     let v = word_at mid p in
@@ -136,7 +137,7 @@ one_freed image f size below free used others =
     let zero_there = freed_zero image ws f size below free.chain free.ascending others in
     let count : block_count new ≡ c = omega (arith, is.size) in
     let whole_new : IsWhole 2112 new = omega (arith, is.size, size) in
-    let put : IsPut f (zeros 192) u (with_block f (zeros 192) u) c = put_block u (zeros 192) f c (unchained_len image size) zeros_len below in
+    let put : IsPut 2112 f (zeros 192) u (with_block f (zeros 192) u) c = put_block 2112 u (zeros 192) f c (unchained_len image size) zeros_len below in
     let plain : (j : ℕ) → j < c → kind_of (block_in new j) ≡ kind_of (block_in (with_block f (zeros 192) u) j) =
     λ j less. sym (unchained_kind new j whole_new (omega (arith, less, count))) ∙ ap (λ (i : List ℕ). kind_of (block_in i j)) zero_there in
     let kinds : (j : ℕ) → j < c → j ≢ f → kind_of (block_in new j) ≡ kind_of (block_in image j) =

@@ -1,5 +1,5 @@
 -- No change leaves a shorter image, whatever it holds.
-use Rattle.std.proofs.Common.{ℕ, ℤ, ◌+◌, ◌-◌, ◌≤◌, List, [], ◌∷◌, length, take, drop, arith}
+use Rattle.std.proofs.Common.{ℕ, ℤ, ◌+◌, ◌≤◌, List, [], ◌∷◌, length, take, drop, arith}
 use Rattle.std.specs.Prelude.{nat_lt}
 use Rattle.db_chains.specs.Changes.{put_in, without}
 use Rattle.db_chains.specs.Free.{with_taken}
@@ -13,7 +13,7 @@ use Rattle.prdb_finds.specs.Keys.{id_chain}
 use Rattle.prdb_finds.specs.Places.{free_blocks, id_links}
 use Rattle.prdb_finds.specs.Records.{whole}
 use Rattle.prdb_entries.proofs.Longer.{either, freed_longer, in_longer, put_longer, taken_longer, up, whole_longer, without_longer}
-use Rattle.prdb_members.specs.Changes.{after_join, after_part, gained, lost, more_for, taken_for, with_freed, with_id, without_id}
+use Rattle.prdb_members.specs.Changes.{after_join, after_part, after_parts, gained, lost, more_for, no_ids, taken_for, with_all_freed, with_freed, with_id, without_id, without_id_in, without_ids}
 use Rattle.prdb_members.specs.Moves.{after_move, rechained}
 
 same : (image : List ℕ) → length image ≤ length image
@@ -97,6 +97,36 @@ grows_part member group image =
     up (length image) (length mid) (length (without_id group member mid))
     (up (length image) (length (whole image)) (length mid) (whole_longer image) (grows_without member group (whole image)))
     (grows_without group member mid)
+
+grows_all_freed : (more image : List ℕ) → length image ≤ length (with_all_freed more image)
+grows_all_freed [] image = same image
+grows_all_freed (k ∷ more) image =
+    let mid = with_freed (k ∷ more) image in
+    up (length image) (length mid) (length (with_all_freed more mid)) (grows_freed (k ∷ more) image) (grows_all_freed more mid)
+
+grows_without_ids : (entry : ℤ) (image : List ℕ) → length image ≤ length (without_ids entry image)
+grows_without_ids entry image =
+    let k = place_in image entry in
+    let block = block_in image k in
+    let more = (list_in image block).more in
+    let mid = with_all_freed more image in
+    up (length image) (length mid) (length (relisted k entry block no_ids mid)) (grows_all_freed more image)
+    (grows_relisted k entry block no_ids mid)
+
+grows_without_each : (entries : List ℤ) (id : ℤ) (image : List ℕ) → length image ≤ length (without_id_in entries id image)
+grows_without_each [] id image = same image
+grows_without_each (entry ∷ entries) id image =
+    let mid = without_id entry id image in
+    up (length image) (length mid) (length (without_id_in entries id mid)) (grows_without entry id image)
+    (grows_without_each entries id mid)
+
+pub grows_parts : (id : ℤ) (others : List ℤ) (image : List ℕ) → length image ≤ length (after_parts id others image)
+unfolding after_parts
+grows_parts id [] image = same image
+grows_parts id (other ∷ others) image =
+    let mid = without_ids id image in
+    up (length image) (length mid) (length (without_id_in (other ∷ others) id mid)) (grows_without_ids id image)
+    (grows_without_each (other ∷ others) id mid)
 
 grows_relist : (old new entry : ℤ) (image : List ℕ) → length image ≤ length (after_relist old new entry image)
 grows_relist old new entry image =

@@ -1,5 +1,5 @@
 -- Both sides of a pair more.
-use Rattle.std.proofs.Common.{◌≡◌, ◌≢◌, ℕ, ℤ, ◌+◌, ◌^◌, ◌<◌, List, sym, ap, subst, ◌∙◌, arith}
+use Rattle.std.proofs.Common.{◌≡◌, ◌≢◌, ℕ, ℤ, ◌<◌, List, sym, ap, subst, ◌∙◌, arith}
 use Rattle.db_blocks.specs.Blocks.{IsWhole, kind_of}
 use Rattle.prdb_layout.specs.Blocks.{block_count}
 use Rattle.prdb_layout.specs.Records.{block_in, entry_in, whole as entries_whole}

@@ -21,3 +21,6 @@ pub mod Grown
 pub mod InList
 pub mod MoveCosts
 pub mod OwnedOrder
+pub mod Emptied
+pub mod PartedAll
+pub mod PartingEnds

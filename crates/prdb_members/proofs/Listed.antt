@@ -25,7 +25,8 @@ use Rattle.prdb_finds.specs.Places.{id_links}
 use Rattle.prdb_finds.specs.Records.{Holds, whole}
 use Rattle.prdb_finds.specs.Unchained.{unchained, unlinked}
 use Rattle.prdb_finds.proofs.Fields.{blanked_front, entry_unlinked, part_same}
-use Rattle.prdb_finds.proofs.Lookups.{id_has, is_false, not_met, same_block}
+use Rattle.prdb_layout.proofs.Lookups.{id_from as id_has}
+use Rattle.prdb_finds.proofs.Lookups.{is_false, not_met, same_block}
 use Rattle.prdb_finds.proofs.Told.{whole_same}
 use Rattle.prdb_finds.proofs.Without.{unchained_block, unchained_count, unchained_entry, unchained_kind, unchained_len}
 use Rattle.prdb_members.specs.Found.{IsBlockOf}

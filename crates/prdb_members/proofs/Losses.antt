@@ -32,7 +32,7 @@ lost_is image r lists x id k h at =
 
 -- ---- the block that is freed
 
-all_from : (P : ℕ → Type 0) (ws : List ℕ) → ((w : ℕ) → Contains ws w → P w) → AllByRecursion P ws
+pub all_from : (P : ℕ → Type 0) (ws : List ℕ) → ((w : ℕ) → Contains ws w → P w) → AllByRecursion P ws
 all_from P [] each = tt
 all_from P (w ∷ ws) each =
     (each w (0, omega arith, refl), all_from P ws (λ v has. each v (suc has.0, omega (arith, has.1), has.2)))

@@ -144,6 +144,35 @@ all_owned (Some image) now k at owner ids same is read = λ r m h there some id.
 
 -- ---- where there is none
 
+pub empty_none : (bytes : Option (List ℕ)) (ids : List ℤ) → ids ≡ [] → IfSome bytes (λ image. length image ≡ 0 → ids ≡ [])
+empty_none None ids none = tt
+empty_none (Some image) ids none = λ size. none
+
+pub unknown_none : (bytes : Option (List ℕ)) (owner : ℤ) (ids : List ℤ) → ids ≡ []
+    → IfSome bytes (λ image. (r : Registry) (m : Members) → Holds image r m → r.entry owner ≡ None → ids ≡ [])
+unknown_none None owner ids none = tt
+unknown_none (Some image) owner ids none = λ r m h gone. none
+
+pub never_empty : (bytes : Option (List ℕ)) (len : ℕ) (ids : List ℤ) → IfSome bytes (λ image. length image ≡ len) → 0 < len
+    → IfSome bytes (λ image. length image ≡ 0 → ids ≡ [])
+never_empty None len ids told some = tt
+never_empty (Some image) len ids told some = λ size. absurd (omega arith)
+
+both : (o : Option PrEntry) (e : PrEntry) → o ≡ Some e → o ≡ None → ⊥
+both None e there gone = absurd cc
+both (Some f) e there gone = absurd cc
+
+-- an entry has the id
+pub never_unknown : (bytes : Option (List ℕ)) (len k at : ℕ) (owner : ℤ) (ids : List ℤ) → IfSome bytes (λ image. length image ≡ len)
+    → 0 < len → IsMet bytes owner k at
+    → IfSome bytes (λ image. (r : Registry) (m : Members) → Holds image r m → r.entry owner ≡ None → ids ≡ [])
+never_unknown None len k at owner ids told some is = tt
+never_unknown (Some image) len k at owner ids told some is = λ r m h gone.
+    let p = id_parts owner (block_in image k) is.block.has in
+    let there = subst (λ (i : List ℕ). k < block_count i → kind_of (block_in i k) ≡ 1
+    → r.entry (entry_in (block_in i k)).id ≡ Some (entry_in (block_in i k))) (whole_same image (omega arith)) (told_there image r m k h) in
+    absurd (both (r.entry owner) (entry_in (block_in image k)) (ap r.entry (sym p.1) ∙ there is.block.below p.0) gone)
+
 empty_never : (image : List ℕ) (len : ℕ) → length image ≡ len → len ≡ 0 → 0 < length image → ⊥
 empty_never image len told none some = omega arith
 

@@ -6,15 +6,14 @@ use Rattle.std.specs.List.{Contains}
 use Rattle.std.proofs.lemmas.Bool.{cases_eq}
 use Rattle.std.proofs.lemmas.List.{drop-append-le, drop-drop, drop-take, length-append, length-take-le, take-append-drop, take_at}
 use Rattle.db_blocks.specs.Blocks.{IsWhole, word_at, kind_of, blanked}
-use Rattle.db_blocks.proofs.BlockPlaces.{changed_laid, laid}
+use Rattle.db_blocks.proofs.BlockPlaces.{changed_laid, laid, IsPut, put_block}
 use Rattle.db_chains.proofs.Framed.{head_word}
 use Rattle.prdb_layout.specs.Blocks.{block_count}
 use Rattle.db_blocks.specs.Bytes.{zeros}
 use Rattle.db_blocks.proofs.Lengths.{length-zeros}
 use Rattle.db_chains.proofs.Bytes.{blanked_len}
 use Rattle.prdb_layout.specs.Records.{block_in, entry_in, with_block}
-use Rattle.prdb_layout.proofs.BlockPlaces.{IsPut, block_len, put_block}
-use Rattle.prdb_layout.proofs.LaidOut.{count_is}
+use Rattle.prdb_layout.proofs.BlockPlaces.{block_len}
 use Rattle.prdb_lists.specs.Changes.{relisted, with_list, with_more}
 use Rattle.prdb_lists.specs.Layout.{PairList, link_to, more_block}
 use Rattle.prdb_lists.proofs.BlockIds.{kind_of_more}
@@ -25,6 +24,7 @@ use Rattle.prdb_finds.proofs.Fields.{blanked_front, entry_unlinked, part_same}
 use Rattle.prdb_finds.proofs.Laid.{block_laid}
 use Rattle.prdb_members.proofs.Kept.{KeepsEntries}
 use Rattle.prdb_members.proofs.Listed.{behind_same, more_unlinked}
+use Rattle.db_blocks.proofs.Scanned.{count_is}
 
 -- ---- continuation blocks
 
@@ -38,10 +38,10 @@ pub record IsOver (more old new : List ℕ) : Type 0 where
   pub others : (j : ℕ) → j < block_count old → (Contains more j → ⊥) → block_in new j ≡ block_in old j
   pub kinds : (j : ℕ) → Contains more j → kind_of (block_in new j) ≡ 2
 
-first_in : (k : ℕ) (more : List ℕ) → Contains (k ∷ more) k
+pub first_in : (k : ℕ) (more : List ℕ) → Contains (k ∷ more) k
 first_in k more = (0, omega arith, refl)
 
-later_in : (k : ℕ) (more : List ℕ) (j : ℕ) → Contains more j → Contains (k ∷ more) j
+pub later_in : (k : ℕ) (more : List ℕ) (j : ℕ) → Contains more j → Contains (k ∷ more) j
 later_in k more j has = (suc has.0, omega (arith, has.1), has.2)
 
 pub over : (entry : ℤ) (more : List ℕ) (ids : List ℤ) (image : List ℕ) → IsWhole 2112 image → AreBelow more (block_count image)
@@ -58,16 +58,16 @@ over entry (k ∷ more) ids image size within =
     let block = more_block entry (link_to more) (take 44 ids) in
     let mid = with_block k block image in
     let below : k < n = within k (first_in k more) in
-    let put : IsPut k block image mid n =
-    put_block image block k n size (length-more entry (link_to more) (take 44 ids) (take_few 44 ids)) below in
-    let count : block_count mid ≡ n = count_is mid n put.size in
+    let put : IsPut 2112 k block image mid n =
+    put_block 2112 image block k n size (length-more entry (link_to more) (take 44 ids) (take_few 44 ids)) below in
+    let count : block_count mid ≡ n = count_is 2112 mid n put.size in
     let rest : IsOver more mid (with_more entry more (drop 44 ids) mid) =
     over entry more (drop 44 ids) mid (omega (arith, put.size, count))
     (λ j has. omega (arith, within j (later_in k more j has), count)) in
     let here : kind_of (block_in mid k) ≡ 2 = ap kind_of put.here ∙ kind_of_more entry (link_to more) (take 44 ids) in
     record {
       size = omega (arith, rest.size, put.size, size);
-      front = rest.front ∙ put.head;
+      front = rest.front ∙ put.front;
       others = λ j less not.
           rest.others j (omega (arith, less, count)) (λ has. not (later_in k more j has))
           ∙ put.others j less (λ same. not (subst (Contains (k ∷ more)) (sym same) (first_in k more)));
@@ -99,12 +99,12 @@ relisted_is entry k block l image size below len within =
     let w : IsOver l.more image (with_more entry l.more (drop 19 l.ids) image) = over entry l.more (drop 19 l.ids) image size within in
     let full = with_more entry l.more (drop 19 l.ids) image in
     let was : length full ≡ 2112 + 192 * n = omega (arith, w.size, size) in
-    let count : block_count full ≡ n = count_is full n was in
-    let put : IsPut k (with_list block l) full (with_block k (with_list block l) full) n =
-    put_block full (with_list block l) k n was (length-with_list block l len) below in
+    let count : block_count full ≡ n = count_is 2112 full n was in
+    let put : IsPut 2112 k (with_list block l) full (with_block k (with_list block l) full) n =
+    put_block 2112 full (with_list block l) k n was (length-with_list block l len) below in
     record {
       size = omega (arith, put.size, size);
-      front = put.head ∙ w.front;
+      front = put.front ∙ w.front;
       here = put.here;
       others = λ j less other not. put.others j (omega (arith, less, count)) other ∙ w.others j less not;
       kinds = λ j less other has. ap kind_of (put.others j (omega (arith, less, count)) other) ∙ w.kinds j has;
@@ -240,8 +240,8 @@ unchained_more entry (k ∷ more) ids image size within =
     let len : length block ≡ 192 = length-more entry (link_to more) (take 44 ids) (take_few 44 ids) in
     let mid = with_block k block image in
     let below : k < n = within k (first_in k more) in
-    let put : IsPut k block image mid n = put_block image block k n size len below in
-    let count : block_count mid ≡ n = count_is mid n put.size in
+    let put : IsPut 2112 k block image mid n = put_block 2112 image block k n size len below in
+    let count : block_count mid ≡ n = count_is 2112 mid n put.size in
     unchained_more entry more (drop 44 ids) mid (omega (arith, put.size, count))
     (λ j has. omega (arith, within j (later_in k more j has), count))
     ∙ ap (with_more entry more (drop 44 ids))

@@ -1,5 +1,5 @@
 -- The block that a list takes is the lowest free one, and so it is without the words of chains.
-use Rattle.std.proofs.Common.{◌≡◌, ◌≢◌, ℕ, zero, suc, ◌+◌, ◌-◌, ◌/◌, ◌^◌, ◌<◌, ◌≤◌, inl, inr, Bool, cond, List, [], ◌∷◌, length, drop, max, refl, sym, ap, subst, ◌∙◌, ⊎_elim, arith}
+use Rattle.std.proofs.Common.{◌≡◌, ◌≢◌, ℕ, zero, suc, ◌+◌, ◌-◌, ◌<◌, ◌≤◌, inl, inr, Bool, cond, List, [], ◌∷◌, length, drop, max, refl, sym, ap, subst, ◌∙◌, ⊎_elim, arith}
 use Rattle.std.specs.Prelude.{nat_lt}
 use Rattle.std.specs.List.{AllByRecursion, Contains}
 use Rattle.std.proofs.lemmas.Bool.{cases_eq, cases_lt, eq-eqb, eqb-true, le-ltb, lt-ltb, ne_eqb}
@@ -19,8 +19,7 @@ use Rattle.db_chains.proofs.Free.{is_out, taken_first, taken_new}
 use Rattle.prdb_layout.specs.Blocks.{block_count}
 use Rattle.prdb_layout.specs.Records.{IsLaidOut, block_in, block_place, entry_in, is_free, next_block, with_block, with_count}
 use Rattle.prdb_layout.specs.Registry.{Registry}
-use Rattle.prdb_layout.proofs.BlockPlaces.{IsPut, add_block, put_block}
-use Rattle.prdb_layout.proofs.LaidOut.{count_is, zero_kind}
+use Rattle.prdb_layout.proofs.LaidOut.{zero_kind}
 use Rattle.prdb_lists.specs.Changes.{with_free}
 use Rattle.prdb_lists.proofs.FreeBlock.{free_zero}
 use Rattle.prdb_lists.proofs.RecordsKeep.{zeros_len}
@@ -32,6 +31,8 @@ use Rattle.prdb_finds.proofs.Laid.{block_added, block_laid, head_laid, same_imag
 use Rattle.prdb_finds.proofs.Lookups.{same_block}
 use Rattle.prdb_finds.proofs.Without.{unchained_count, unchained_kind}
 use Rattle.prdb_members.proofs.Kept.{KeepsEntries, Names, names_of}
+use Rattle.db_blocks.proofs.Scanned.{count_is}
+use Rattle.db_blocks.proofs.BlockPlaces.{IsPut, add_block, put_block}
 
 pub are_free : AreFree free_blocks
 are_free = record {
@@ -133,8 +134,8 @@ unfolding with_new put_word
 unchained_new image block size len =
     let n = block_count image in
     let mid = with_block n block image in
-    let put : IsPut n block image mid (n + 1) = add_block image block n size len in
-    let count : block_count mid ≡ n + 1 = count_is mid (n + 1) put.size in
+    let put : IsPut 2112 n block image mid (n + 1) = add_block 2112 image block n size len in
+    let count : block_count mid ≡ n + 1 = count_is 2112 mid (n + 1) put.size in
     head_laid mid (number_word (n + 1)) 16 (omega (arith, put.size, count)) (omega arith)
     ∙ ap (λ (i : List ℕ). changed i (Put 16 (number_word (n + 1)))) (block_added image block size len)
 
@@ -222,8 +223,8 @@ put_same : (u block : List ℕ) (k : ℕ) → IsWhole 2112 u → k < block_count
     → with_block k block u ≡ u
 put_same u block k size below len here =
     let n = block_count u in
-    let put : IsPut k block u (with_block k block u) n = put_block u block k n size len below in
-    same_image (with_block k block u) u n put.size size put.head
+    let put : IsPut 2112 k block u (with_block k block u) n = put_block 2112 u block k n size len below in
+    same_image (with_block k block u) u n put.size size put.front
     (λ j less. ⊎_elim (λ (same : j ≡ k). ap (block_in (with_block k block u)) same ∙ put.here ∙ sym here ∙ ap (block_in u) (sym same))
     (λ (other : j ≢ k). put.others j less other) (cases_eq j k))
 

@@ -1,5 +1,5 @@
 //! The block of an entry, found by the one chain of its id.
-ghost use Rattle.std.specs.Prelude.{◌≡◌, ◌+◌, ◌*◌, ◌<◌, ◌≤◌, ◌^◌, ℕ, List, IfSome, IfOk, IfErr, IsErrOf, length};
+ghost use Rattle.std.specs.Prelude.{◌+◌, ◌*◌, ◌<◌, ◌≤◌, ◌^◌, ℕ, List, IfSome, IfOk, IfErr, IsErrOf, length};
 ghost use Rattle.db_blocks.specs.Blocks.{block_place};
 ghost use Rattle.db_blocks.specs.Ends.{HasCause, OnlyLooks};
 ghost use Rattle.db_blocks.specs.declared.blocks.TheConstants.{BLOCK_LEN};
@@ -7,7 +7,7 @@ ghost use Rattle.db_chains.specs.Chains.{HasChain};
 ghost use Rattle.db_chains.specs.Ends.{CostsAtMost, HasSome};
 ghost use Rattle.prdb_finds.specs.Keys.{id_chain};
 ghost use Rattle.prdb_finds.specs.Places.{id_links};
-ghost use Rattle.prdb_finds.specs.declared.places.TheConstants.{HEAD_LEN};
+ghost use Rattle.prdb_layout.specs.declared.blocks.TheConstants.{HEAD_LEN};
 ghost use Rattle.prdb_members.specs.Found.{IsBlockOf};
 
 use db_blocks::Found;

@@ -1,5 +1,5 @@
 //! Laws of the images that the changes make.
-ghost use Rattle.std.specs.Prelude.{◌≡◌, ◌+◌, ◌<◌, ◌≤◌, ◌^◌, true, ℕ, ℤ, List, length};
+ghost use Rattle.std.specs.Prelude.{◌≡◌, ◌+◌, ◌≤◌, true, ℕ, ℤ, List, length};
 ghost use Rattle.db_blocks.specs.Blocks.{word_at};
 ghost use Rattle.prdb_layout.specs.Registry.{Registry};
 ghost use Rattle.entry_scans.specs.Lists.{IsListOf};
@@ -8,7 +8,8 @@ ghost use Rattle.prdb_lists.specs.Members.{MayJoin, MayLeave, Members, are_paire
 ghost use Rattle.prdb_lists.specs.Moves.{MayMove, moved_members, moved_registry};
 ghost use Rattle.prdb_finds.specs.Keys.{id_chain};
 ghost use Rattle.prdb_finds.specs.Records.{Holds, whole};
-ghost use Rattle.prdb_members.specs.Changes.{after_join, after_part};
+ghost use Rattle.prdb_members.specs.Changes.{after_join, after_part, after_parts};
+ghost use Rattle.prdb_members.specs.Ends.{without_pairs_of};
 ghost use Rattle.prdb_members.specs.Moves.{KeepsOrder, after_move};
 
 /// The image after a pair more holds the pair, and all others.
@@ -21,6 +22,12 @@ pub fn law_join_adds_the_pair()
 pub fn law_part_takes_the_pair()
     ensures { (image : List ℕ) (r : Registry) (m : Members) (member group : ℤ) → Holds image r m → MayLeave member group m
         → Holds (after_part member group image) r (without_pair member group m) }
+{}
+
+/// The image after all pairs of an entry went holds those of others.
+pub fn law_parts_take_all_pairs()
+    ensures { (image : List ℕ) (r : Registry) (m : Members) (id : ℤ) (others : List ℤ) → Holds image r m
+        → IsListOf (λ other. are_paired m id other ≡ true) others → Holds (after_parts id others image) r (without_pairs_of id m) }
 {}
 
 /// The image after an entry got another id, in its own blocks and in the lists of all that are paired with it, holds the entry and its
@@ -45,5 +52,6 @@ pub fn law_move_keeps_the_order()
 pub fn law_no_change_shortens()
     ensures join { (member group : ℤ) (image : List ℕ) → length image ≤ length (after_join member group image) }
     ensures part { (member group : ℤ) (image : List ℕ) → length image ≤ length (after_part member group image) }
+    ensures parts { (id : ℤ) (others : List ℤ) (image : List ℕ) → length image ≤ length (after_parts id others image) }
     ensures move_id { (old new : ℤ) (others : List ℤ) (image : List ℕ) → length image ≤ length (after_move old new others image) }
 {}

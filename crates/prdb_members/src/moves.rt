@@ -1,5 +1,5 @@
 //! An entry that gets another id, in its own blocks and in all pairs, and goes from the chain of the one id to that of the other.
-ghost use Rattle.std.specs.Prelude.{◌≡◌, ◌+◌, ◌<◌, ◌≤◌, ◌^◌, Some, IfOk, OnOk, IfErr, IfSome, IsErrOf};
+ghost use Rattle.std.specs.Prelude.{◌≡◌, ◌+◌, ◌<◌, ◌^◌, Some, IfOk, OnOk, IfErr, IfSome, IsErrOf};
 ghost use Rattle.db_blocks.specs.Ends.{Becomes, HasCause, OnlyDrafts};
 ghost use Rattle.db_chains.specs.Ends.{CostsAtMost, HasWord};
 ghost use Rattle.db_chains.specs.Free.{IsNumber};
@@ -11,7 +11,6 @@ ghost use Rattle.prdb_finds.specs.Ends.{HasCauseWhere};
 ghost use Rattle.prdb_finds.specs.Keys.{id_chain};
 ghost use Rattle.prdb_finds.specs.Places.{free_blocks, id_links};
 ghost use Rattle.prdb_finds.specs.Records.{Holds};
-ghost use Rattle.prdb_finds.specs.declared.places.TheConstants.{HEAD_LEN};
 ghost use Rattle.prdb_members.specs.Costs.{MoveCosts, RelistCosts, rechain_cost};
 ghost use Rattle.prdb_members.specs.Moves.{HasRelist, IsMoved, MakesMove, rechained};
 ghost use Rattle.prdb_members.specs.Sides.{HasEntry};

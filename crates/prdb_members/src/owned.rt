@@ -1,5 +1,5 @@
 //! What an entry owns, in the order of its owned chain.
-ghost use Rattle.std.specs.Prelude.{◌≡◌, ◌+◌, ◌*◌, ◌<◌, ◌^◌, ◌↔◌, ℕ, ℤ, List, IfOk, IfErr, IfSome, IsErrOf, IsSome, length, map};
+ghost use Rattle.std.specs.Prelude.{◌≡◌, ◌+◌, ◌*◌, ◌<◌, ◌^◌, ◌↔◌, [], ℕ, ℤ, List, None, IfOk, IfErr, IfSome, IsErrOf, IsSome, length, map};
 ghost use Rattle.std.specs.Int.{w32, cast_signed};
 ghost use Rattle.std.specs.List.{Contains};
 ghost use Rattle.db_blocks.specs.Ends.{OnlyLooks};
@@ -42,6 +42,9 @@ pub fn owned_in_order<I: ImageRead>(
         → 0 < length image → AreInOrder image owner ids.items)) }
     ensures owned { IfOk result (λ ids. IfSome d.old.bytes (λ image. (r : Registry) (m : Members) → Holds image r m → IsSome (r.entry owner)
         → 0 < length image → (id : ℤ) → Contains ids.items id ↔ IsOwned r owner id)) }
+    ensures empty { IfOk result (λ ids. IfSome d.old.bytes (λ image. length image ≡ 0 → ids.items ≡ [])) }
+    ensures unknown { IfOk result (λ ids. IfSome d.old.bytes (λ image. (r : Registry) (m : Members) → Holds image r m → r.entry owner ≡ None
+        → ids.items ≡ [])) }
     ensures fault { IfErr result (HasItsCause d.old.bytes) }
     ensures frame { OnlyLooks I.ImageRead d.old d.new (IsErrOf result RecordFault.DiskFault) }
     ensures cost { IfSome d.old.bytes (λ image. (ws vs : List ℕ) → HasChain id_links image (id_chain owner) ws → HasOwned image owner vs

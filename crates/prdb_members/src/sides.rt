@@ -1,5 +1,5 @@
 //! One side of a pair: an id that comes into the list of an entry, or goes out of it.
-ghost use Rattle.std.specs.Prelude.{◌≡◌, ◌+◌, ◌<◌, ◌≤◌, ◌^◌, ℕ, ℤ, List, IfOk, OnOk, IfErr, IfSome, IsErrOf, length};
+ghost use Rattle.std.specs.Prelude.{◌≡◌, ◌+◌, ◌<◌, ◌≤◌, ◌^◌, ℤ, IfOk, OnOk, IfErr, IfSome, IsErrOf, length};
 ghost use Rattle.std.specs.List.{Contains};
 ghost use Rattle.db_blocks.specs.Blocks.{block_place};
 ghost use Rattle.db_blocks.specs.Ends.{Becomes, HasCause, OnlyDrafts, OnlyLooks};
@@ -11,7 +11,7 @@ ghost use Rattle.prdb_lists.specs.Blocks.{AreWithin};
 ghost use Rattle.prdb_lists.specs.Layout.{PairList};
 ghost use Rattle.prdb_lists.specs.Sides.{IsPlace};
 ghost use Rattle.prdb_finds.specs.Places.{free_blocks};
-ghost use Rattle.prdb_finds.specs.declared.places.TheConstants.{HEAD_LEN};
+ghost use Rattle.prdb_layout.specs.declared.blocks.TheConstants.{HEAD_LEN};
 ghost use Rattle.prdb_members.specs.Changes.{gained, lost, more_for, taken_for, with_freed};
 ghost use Rattle.prdb_members.specs.Costs.{PlaceCosts, gain_cost, lose_cost};
 ghost use Rattle.prdb_members.specs.Sides.{HasEntry, HasFreeChain, HasLists, HoldsPlace};

@@ -4,7 +4,7 @@ use Rattle.std.proofs.lemmas.Int.{to_z-of_z}
 use Rattle.std.proofs.lemmas.Result.{err_from_is_err_and}
 use Rattle.prdb_finds.proofs.Lookups.{id_fault}
 use Rattle.prdb_finds.proofs.OwnedLists.{costs_both, fault_second, met}
-use Rattle.prdb_members.proofs.OwnedOrder.{all_owned, empty_all, empty_order, in_order, no_owner, none_all, none_order}
+use Rattle.prdb_members.proofs.OwnedOrder.{all_owned, empty_all, empty_none, empty_order, in_order, never_empty, never_unknown, no_owner, none_all, none_order, unknown_none}
 use Rattle.prdb_members.proofs.owned.owned_in_order.Goals as goal
 
 pub returns-then-len-eq0-clause-found : goal.returns-then-len-eq0-clause-found
@@ -14,6 +14,12 @@ returns-then-len-eq0-clause-found g c =
 pub returns-then-len-eq0-clause-owned : goal.returns-then-len-eq0-clause-owned
 returns-then-len-eq0-clause-owned g c =
     empty_all c.args.d.now.bytes c.len.result c.args.owner _ (rw c.len.ensures.size c.len.ensures.told) c.if-len-eq0.true
+
+pub returns-then-len-eq0-clause-empty : goal.returns-then-len-eq0-clause-empty
+returns-then-len-eq0-clause-empty g c = empty_none c.args.d.now.bytes _ c.new.ensures.items
+
+pub returns-then-len-eq0-clause-unknown : goal.returns-then-len-eq0-clause-unknown
+returns-then-len-eq0-clause-unknown g c = unknown_none c.args.d.now.bytes _ _ c.new.ensures.items
 
 pub returns-in_err-link-clause-fault : goal.returns-in_err-link-clause-fault
 returns-in_err-link-clause-fault g c =
@@ -36,6 +42,24 @@ returns-in_default-clause-owned g c =
     none_all c.args.d.now.bytes c.args.owner _
     (no_owner c.args.d.now.bytes c.len.result c.args.owner c.in_ok-link.field-0 (rw c.len.ensures.size c.len.ensures.told) (omega arith)
     c.in_default.is (rw fits at c.in_ok-link.ensures.found))
+
+pub returns-in_default-clause-empty : goal.returns-in_default-clause-empty
+returns-in_default-clause-empty g c = empty_none c.args.d.now.bytes _ c.new-in_default.ensures.items
+
+pub returns-in_default-clause-unknown : goal.returns-in_default-clause-unknown
+returns-in_default-clause-unknown g c = unknown_none c.args.d.now.bytes _ _ c.new-in_default.ensures.items
+
+pub returns-clause-empty : goal.returns-clause-empty
+returns-clause-empty g c =
+    never_empty c.args.d.now.bytes c.len.result _ (rw c.len.ensures.size c.len.ensures.told) (omega arith)
+
+pub returns-clause-unknown : goal.returns-clause-unknown
+returns-clause-unknown g c =
+    let fits = to_z-of_z w32 c.args.owner c.ranges.owner in
+    let is = met c.args.d.now.bytes c.args.owner c.in_ok-link.field-0 c.in-Some.link (c.in-Some.link.word - 1) c.owned_place.result
+    c.in-Some.is (rw fits at c.in_ok-link.ensures.exact) refl c.owned_place.ensures.place in
+    never_unknown c.args.d.now.bytes c.len.result (c.in-Some.link.word - 1) c.owned_place.result c.args.owner _
+    (rw c.len.ensures.size c.len.ensures.told) (omega arith) is
 
 pub returns-clause-found : goal.returns-clause-found
 returns-clause-found g c =
