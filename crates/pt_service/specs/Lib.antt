@@ -2,6 +2,7 @@ pub mod Costs
 pub mod Entering
 pub mod Fitting
 pub mod Meaning
+pub mod NamedAfter
 pub mod Names
 pub mod Refusals
 pub mod Standing
