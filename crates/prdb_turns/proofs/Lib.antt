@@ -2,11 +2,15 @@ pub mod Refits
 pub mod Refitting
 pub mod Given
 pub mod Giving
+pub mod Disowned
 pub mod Found
+pub mod Left
 pub mod Fronted
 pub mod Longer
+pub mod Ordered
 pub mod Owned
 pub mod Passed
 pub mod Renumbered
+pub mod Stepped
 pub mod Steps
 pub mod Turned

@@ -28,7 +28,7 @@ use Rattle.prdb_members.specs.Owned.{AreInOrder, ids_along}
 use Rattle.prdb_members.proofs.Gains.{place_is}
 use Rattle.prdb_members.proofs.Listed.{lists_here, place_of}
 use Rattle.prdb_members.proofs.OwnedOrder.{all_owned}
-use Rattle.prdb_turns.specs.Owners.{AreItsOwn, IsOwnedUser}
+use Rattle.prdb_turns.specs.Owners.{AreItsOwn, IsOwnedUser, is_property}
 use Rattle.prdb_turns.proofs.Refits.{some_met}
 
 -- ---- tests
@@ -86,16 +86,11 @@ groups_are image r m owner groups h there some order =
 
 -- ---- all that it owns
 
--- an entry has this owner
-abbrev pub is_of : (owner : ℤ) → Option PrEntry → Bool
-is_of owner None = false
-is_of owner (Some e) = int_eq e.owner owner
-
-of_some : (owner : ℤ) (o : Option PrEntry) → IsSomeAnd o (λ e. e.owner ≡ owner) → is_of owner o ≡ true
+pub of_some : (owner : ℤ) (o : Option PrEntry) → IsSomeAnd o (λ e. e.owner ≡ owner) → is_property owner o ≡ true
 of_some owner None is = absurd is
 of_some owner (Some e) is = to_id e.owner owner is
 
-some_of : (owner : ℤ) (o : Option PrEntry) → is_of owner o ≡ true → IsSomeAnd o (λ e. e.owner ≡ owner)
+pub some_of : (owner : ℤ) (o : Option PrEntry) → is_property owner o ≡ true → IsSomeAnd o (λ e. e.owner ≡ owner)
 some_of owner None is = absurd cc
 some_of owner (Some e) is = id_of e.owner owner is
 
@@ -106,8 +101,8 @@ pub record HasItsOwn (image : List ℕ) (r : Registry) (m : Members) (owner : �
   pub some : 0 < length image
   pub are : AreItsOwn image r owner its
 
-its_of : (image : List ℕ) (r : Registry) (m : Members) (owner : ℤ) (its : List ℤ) (x : ℤ) → HasItsOwn image r m owner its
-    → Contains its x → is_of owner (r.entry x) ≡ true
+pub its_of : (image : List ℕ) (r : Registry) (m : Members) (owner : ℤ) (its : List ℤ) (x : ℤ) → HasItsOwn image r m owner its
+    → Contains its x → is_property owner (r.entry x) ≡ true
 its_of image r m owner its x t has =
     let groups = t.are.0 in
     let users = t.are.1 in
@@ -118,7 +113,7 @@ its_of image r m owner its x t has =
     (Contains-append_cases groups users x (subst (λ (l : List ℤ). Contains l x) t.are.4 has))
 
 in_by : (image : List ℕ) (r : Registry) (m : Members) (owner : ℤ) (its : List ℤ) (x : ℤ) → HasItsOwn image r m owner its → IsId x
-    → is_of owner (r.entry x) ≡ true → Contains its x
+    → is_property owner (r.entry x) ≡ true → Contains its x
 in_by image r m owner its (pos n) t good is =
     subst (λ (l : List ℤ). Contains l (pos n)) (sym t.are.4)
     (Contains-append_right t.are.0 t.are.1 (pos n) (t.are.3.all (pos n) (omega (arith, ints, good.0), some_of owner (r.entry (pos n)) is)))
@@ -132,21 +127,21 @@ pub id_is : (r : Registry) (id : ℤ) (e : PrEntry) → IsRegistry r → r.entry
 id_is r id e valid at = subst IsId (valid.ids id e at) (valid.records id e at).fields.id
 
 in_its : (image : List ℕ) (r : Registry) (m : Members) (owner : ℤ) (its : List ℤ) (x : ℤ) → HasItsOwn image r m owner its
-    → is_of owner (r.entry x) ≡ true → list_any (int_eq x) its ≡ true
+    → is_property owner (r.entry x) ≡ true → list_any (int_eq x) its ≡ true
 in_its image r m owner its x t is =
     let e = some_met (r.entry x) (λ e. e.owner ≡ owner) (some_of owner (r.entry x) is) in
     list_any-from_Contains int_eq_equiv x its
     (in_by image r m owner its x t (id_is r x e.0 t.holds.pairs.holds.valid e.1) is)
 
 pub its_by : (image : List ℕ) (r : Registry) (m : Members) (owner : ℤ) (its : List ℤ) (x : ℤ) (b : Bool) → HasItsOwn image r m owner its
-    → is_of owner (r.entry x) ≡ b → list_any (int_eq x) its ≡ b
+    → is_property owner (r.entry x) ≡ b → list_any (int_eq x) its ≡ b
 its_by image r m owner its x true t is = in_its image r m owner its x t is
 its_by image r m owner its x false t is =
     false_from_ne_true (list_any (int_eq x) its)
-    (λ has. clash (is_of owner (r.entry x)) (its_of image r m owner its x t (Contains-from_any (λ a b. id_of a b) x its has)) is)
+    (λ has. clash (is_property owner (r.entry x)) (its_of image r m owner its x t (Contains-from_any (λ a b. id_of a b) x its has)) is)
 
 -- what holds of each of them holds of all
-each_then : (P : ℤ → Type 0) (xs : List ℤ) → ((x : ℤ) → Contains xs x → P x) → AllByRecursion P xs
+pub each_then : (P : ℤ → Type 0) (xs : List ℤ) → ((x : ℤ) → Contains xs x → P x) → AllByRecursion P xs
 each_then P [] each = tt
 each_then P (x ∷ xs) each = (
   each x (Contains-append_left (x ∷ []) xs x (0, omega arith, refl)),
@@ -163,7 +158,7 @@ its_all P image r m owner its t each =
 
 -- ---- one list
 
-one_order : (image : List ℕ) (owner : ℤ) (a b : List ℤ) → AreInOrder image owner a → AreInOrder image owner b → a ≡ b
+pub one_order : (image : List ℕ) (owner : ℤ) (a b : List ℤ) → AreInOrder image owner a → AreInOrder image owner b → a ≡ b
 one_order image owner a b one two =
     let same : one.0 ≡ two.0 =
     chain_unique owned_links image (owned_place (place_in image owner)) one.0 two.0 (omega arith) one.1 two.1 in

@@ -1,15 +1,14 @@
 -- The image after an entry has another id holds the registry in which owners follow it, and the pairs with it.
-use Rattle.std.proofs.Common.{◌≡◌, ◌≢◌, ℕ, ℤ, pos, negsuc, Bool, true, false, ◌||◌, cond, List, [], ◌∷◌, map, reverse, Option, Some, None, IsSome, refl, sym, ap, subst, ◌∙◌, inl, inr, arith}
+use Rattle.std.proofs.Common.{◌≡◌, ◌≢◌, ℕ, ℤ, pos, Bool, true, false, ◌||◌, cond, List, [], ◌∷◌, map, reverse, Option, Some, None, IsSome, refl, sym, ap, subst, ◌∙◌, inl, inr}
 use Rattle.std.specs.Prelude.{◌⊎◌, option_map, option_and_then}
 use Rattle.std.specs.List.{AllByRecursion, list_any}
 use Rattle.std.specs.Ordering.{int_eq}
 use Rattle.std.proofs.lemmas.Bool.{false_from_ne_true}
-use Rattle.std.proofs.lemmas.Int.{ints}
 use mathlib.Core.List.{reverse_aux}
 use mathlib.Core.Path.{fun_ext}
 use Rattle.prdb_layout.specs.Registry.{IsRegistry, Registry}
-use Rattle.prdb_layout.specs.State.{IsId, PrEntry}
-use Rattle.prdb_layout.proofs.Changed.{by_id, some_same}
+use Rattle.prdb_layout.specs.State.{PrEntry}
+use Rattle.prdb_layout.proofs.Changed.{by_id}
 use Rattle.entry_scans.specs.Lists.{IsListOf}
 use Rattle.prdb_lists.specs.Members.{Members, are_paired}
 use Rattle.prdb_lists.specs.Moves.{MayMove, before, moved_members, moved_registry, with_moved_id}
@@ -17,24 +16,25 @@ use Rattle.pt_service.specs.Turning.{moved}
 use Rattle.prdb_finds.specs.Records.{Holds, whole}
 use Rattle.prdb_members.specs.Moves.{after_move}
 use Rattle.prdb_members.proofs.MoveEnds.{move_held}
-use Rattle.prdb_turns.specs.Owners.{MayGive, after_gives, with_owner, with_owners}
+use Rattle.prdb_turns.specs.Owners.{MayGive, after_gives, is_property, with_owner, with_owners}
 use Rattle.prdb_turns.specs.Renumbering.{MayRenumber, after_renumber, moved_back, renumbered, with_new_id}
-use Rattle.prdb_turns.proofs.Given.{IsGiving, all_given, gives_may, is_there, owners_are, some_is}
-use Rattle.prdb_turns.proofs.Owned.{HasItsOwn, clash, id_is, id_of, is_of, its_all, its_by, to_id}
+use Rattle.prdb_turns.proofs.Given.{all_given, gives_may, is_there, owners_are}
+use Rattle.prdb_turns.proofs.Left.{disowned, its_there, left, left_at, left_holds, left_is, map_there, owns_nothing, still_there}
+use Rattle.prdb_turns.proofs.Owned.{HasItsOwn, id_of, its_all, its_by, to_id}
 use Rattle.prdb_turns.proofs.Refits.{refits_hold}
 
 -- ---- ids that move
 
-is_other : (a b : ℤ) → a ≢ b → int_eq a b ≡ false
+pub is_other : (a b : ℤ) → a ≢ b → int_eq a b ≡ false
 is_other a b other = false_from_ne_true (int_eq a b) (λ same. other (id_of a b same))
 
-moved_own : (old new x : ℤ) → x ≡ old → moved old new x ≡ new
+pub moved_own : (old new x : ℤ) → x ≡ old → moved old new x ≡ new
 moved_own old new x same = ap (λ (b : Bool). cond b new x) (to_id x old same)
 
-moved_other : (old new x : ℤ) → x ≢ old → moved old new x ≡ x
+pub moved_other : (old new x : ℤ) → x ≢ old → moved old new x ≡ x
 moved_other old new x other = ap (λ (b : Bool). cond b new x) (is_other x old other)
 
-before_new : (old new z : ℤ) → z ≡ new → before old new z ≡ Some old
+pub before_new : (old new z : ℤ) → z ≡ new → before old new z ≡ Some old
 before_new old new z same = ap (λ (b : Bool). cond b (Some old) (cond (int_eq z old) None (Some z))) (to_id z new same)
 
 before_old : (old new z : ℤ) → z ≢ new → z ≡ old → before old new z ≡ None
@@ -48,14 +48,14 @@ before_other old new z one two =
     ∙ ap (λ (b : Bool). cond b None (Some z)) (is_other z old two)
 
 -- where an id came from
-record CameFrom (old new z y : ℤ) : Type 0 where
+pub record CameFrom (old new z y : ℤ) : Type 0 where
   pub before_is : before old new z ≡ Some y
   pub place : ((z ≡ new) × (y ≡ old)) ⊎ ((z ≢ new) × (z ≢ old) × (y ≡ z))
 
-abbrev Origin : (old new z : ℤ) → Type 0
+abbrev pub Origin : (old new z : ℤ) → Type 0
 Origin old new z = (before old new z ≡ None) ⊎ ((y : ℤ) × CameFrom old new z y)
 
-origin : (old new z : ℤ) → Origin old new z
+pub origin : (old new z : ℤ) → Origin old new z
 origin old new z =
     by_id z new
     (λ same. inr (old, record { before_is = before_new old new z same; place = inl (same, refl) }))
@@ -114,108 +114,45 @@ all_onto P (x ∷ xs) ys all also = all_onto P xs (x ∷ ys) all.1 (all.0, also)
 
 -- ---- while it moves
 
-abbrev disowned : (old : ℤ) → PrEntry → PrEntry
-disowned old f = cond (int_eq f.owner old) (with_owner (pos 0) f) f
-
-disowned_by : (old : ℤ) (f : PrEntry) (b : Bool) → int_eq f.owner old ≡ b
-    → cond b (Some (with_owner (pos 0) f)) (Some f) ≡ Some (disowned old f)
-disowned_by old f true is = ap (λ (b : Bool). Some (cond b (with_owner (pos 0) f) f)) (sym is)
-disowned_by old f false is = ap (λ (b : Bool). Some (cond b (with_owner (pos 0) f) f)) (sym is)
-
-left_by : (old : ℤ) (o : Option PrEntry) (b : Bool) → is_of old o ≡ b
-    → cond b (option_map (with_owner (pos 0)) o) o ≡ option_map (disowned old) o
-left_by old None true is = refl
-left_by old None false is = refl
-left_by old (Some f) b is = disowned_by old f b is
-
--- what the entry owns has no owner
-abbrev pub left : Registry → List ℤ → Registry
-left r its = with_owners (pos 0) its r
-
 -- an image holds an entry that owns these and may have another id
 pub record IsMoving (image : List ℕ) (r : Registry) (m : Members) (old new : ℤ) (its : List ℤ) : Type 0 where
   pub own : HasItsOwn image r m old its
   pub may : MayRenumber old new r
 
-valid_of : (image : List ℕ) (r : Registry) (m : Members) (old new : ℤ) (its : List ℤ) → IsMoving image r m old new its → IsRegistry r
-valid_of image r m old new its t = t.own.holds.pairs.holds.valid
-
-its_there : (image : List ℕ) (r : Registry) (m : Members) (old new : ℤ) (its : List ℤ) → IsMoving image r m old new its
-    → AllByRecursion (λ id. IsSome (r.entry id)) its
-its_there image r m old new its t = its_all (λ id. IsSome (r.entry id)) image r m old its t.own (λ x e at. is_there (r.entry x) e at)
-
-pub may_leave : (image : List ℕ) (r : Registry) (m : Members) (old new : ℤ) (its : List ℤ) → IsMoving image r m old new its
-    → MayGive its (pos 0) r
-may_leave image r m old new its t = record { there = its_there image r m old new its t; owner_there = inl refl }
-
-leaving : (image : List ℕ) (r : Registry) (m : Members) (old new : ℤ) (its : List ℤ) → IsMoving image r m old new its
-    → IsGiving (pos 0) its r
-leaving image r m old new its t = record { valid = valid_of image r m old new its t; may = may_leave image r m old new its t }
-
-left_at : (image : List ℕ) (r : Registry) (m : Members) (old new : ℤ) (its : List ℤ) (z : ℤ) → IsMoving image r m old new its
-    → (left r its).entry z ≡ option_map (disowned old) (r.entry z)
-left_at image r m old new its z t =
-    ap (λ (q : Registry). q.entry z) (owners_are (pos 0) its r (leaving image r m old new its t))
-    ∙ ap (λ (b : Bool). cond b (option_map (with_owner (pos 0)) (r.entry z)) (r.entry z))
-    (its_by image r m old its z (is_of old (r.entry z)) t.own refl)
-    ∙ left_by old (r.entry z) (is_of old (r.entry z)) refl
-
-map_there : {X Y : Type 0} (f : X → Y) (o : Option X) → IsSome o → IsSome (option_map f o)
-map_there f None is = absurd cc
-map_there f (Some x) is = refl
-
 none_there : (o : Option PrEntry) → o ≡ None → IsSome o → ⊥
 none_there None none some = absurd cc
 none_there (Some f) none some = absurd cc
 
-its_not_new : (image : List ℕ) (r : Registry) (m : Members) (old new : ℤ) (its : List ℤ) → IsMoving image r m old new its
+pub its_not_new : (image : List ℕ) (r : Registry) (m : Members) (old new : ℤ) (its : List ℤ) → IsMoving image r m old new its
     → AllByRecursion (λ x. x ≢ new) its
 its_not_new image r m old new its t =
     its_all (λ x. x ≢ new) image r m old its t.own
     (λ x e at same. none_there (r.entry x) (ap r.entry same ∙ t.may.new_id) (is_there (r.entry x) e at))
 
-not_zero : (id : ℤ) → IsId id → id ≢ pos 0
-not_zero (pos n) is same = absurd (omega (arith, ints, is.0, same))
-not_zero (negsuc n) is same = absurd cc
-
-owner_apart : (old : ℤ) (g : PrEntry) (b : Bool) → int_eq g.owner old ≡ b → old ≢ pos 0 → (disowned old g).owner ≢ old
-owner_apart old g true is id same = id (sym same ∙ ap (λ (b : Bool). (cond b (with_owner (pos 0) g) g).owner) is)
-owner_apart old g false is id same =
-    clash (int_eq g.owner old) (to_id g.owner old (sym (ap (λ (b : Bool). (cond b (with_owner (pos 0) g) g).owner) is) ∙ same)) is
-
-nothing_left : (old : ℤ) (o : Option PrEntry) (f : PrEntry) → option_map (disowned old) o ≡ Some f → old ≢ pos 0 → f.owner ≢ old
-nothing_left old None f at id = absurd cc
-nothing_left old (Some g) f at id = subst (λ (x : PrEntry). x.owner ≢ old) (some_same at) (owner_apart old g (int_eq g.owner old) refl id)
-
 pub may_move : (image : List ℕ) (r : Registry) (m : Members) (old new : ℤ) (its : List ℤ) → IsMoving image r m old new its
     → MayMove old new (left r its)
-may_move image r m old new its t =
-    let e = some_is (r.entry old) t.may.there in
-    record {
-      there = subst (λ (o : Option PrEntry). IsSome o) (sym (left_at image r m old new its old t))
-          (map_there (disowned old) (r.entry old) t.may.there);
-      new_id = left_at image r m old new its new t ∙ ap (option_map (disowned old)) t.may.new_id;
-      good = t.may.good;
-      kind = t.may.kind;
-      not_fixed = t.may.not_fixed;
-      owns_nothing = λ other f at.
-          nothing_left old (r.entry other) f (sym (left_at image r m old new its other t) ∙ at)
-          (not_zero old (id_is r old e.0 (valid_of image r m old new its t) e.1));
-    }
+may_move image r m old new its t = record {
+  there = still_there image r m old its t.own;
+  new_id = left_at image r m old its new t.own ∙ ap (option_map (disowned old)) t.may.new_id;
+  good = t.may.good;
+  kind = t.may.kind;
+  not_fixed = t.may.not_fixed;
+  owns_nothing = λ other f at. owns_nothing image r m old its other f t.own at;
+}
 
 -- ---- the registry in the end
 
 abbrev pub there : Registry → (old new : ℤ) → List ℤ → Registry
 there r old new its = moved_registry old new (left r its)
 
-there_at : (image : List ℕ) (r : Registry) (m : Members) (old new : ℤ) (its : List ℤ) (z y : ℤ) → IsMoving image r m old new its
+pub there_at : (image : List ℕ) (r : Registry) (m : Members) (old new : ℤ) (its : List ℤ) (z y : ℤ) → IsMoving image r m old new its
     → before old new z ≡ Some y
     → (there r old new its).entry z ≡ option_map (with_moved_id old new) (option_map (disowned old) (r.entry y))
 there_at image r m old new its z y t is =
     ap (λ (o : Option ℤ). option_map (with_moved_id old new) (option_and_then (left r its).entry o)) is
-    ∙ ap (option_map (with_moved_id old new)) (left_at image r m old new its y t)
+    ∙ ap (option_map (with_moved_id old new)) (left_at image r m old its y t.own)
 
-there_none : (r : Registry) (old new : ℤ) (its : List ℤ) (z : ℤ) → before old new z ≡ None → (there r old new its).entry z ≡ None
+pub there_none : (r : Registry) (old new : ℤ) (its : List ℤ) (z : ℤ) → before old new z ≡ None → (there r old new its).entry z ≡ None
 there_none r old new its z is = ap (λ (o : Option ℤ). option_map (with_moved_id old new) (option_and_then (left r its).entry o)) is
 
 given_none : (b : Bool) (owner : ℤ) → cond b (option_map (with_owner owner) None) None ≡ None
@@ -238,7 +175,7 @@ given_some : (old new : ℤ) (f : PrEntry) (b : Bool) → int_eq f.owner old ≡
 given_some old new f true is = own_by old new f true is
 given_some old new f false is = own_by old new f false is
 
-given_by : (old new : ℤ) (o : Option PrEntry) (b : Bool) → is_of old o ≡ b
+given_by : (old new : ℤ) (o : Option PrEntry) (b : Bool) → is_property old o ≡ b
     → cond b (option_map (with_owner new) (option_map (with_moved_id old new) (option_map (disowned old) o)))
     (option_map (with_moved_id old new) (option_map (disowned old) o)) ≡ option_map (with_new_id old new) o
 given_by old new None b is = given_none b new
@@ -246,10 +183,10 @@ given_by old new (Some f) b is = given_some old new f b is
 
 -- what is given last to first is given to the same ones
 in_back : (image : List ℕ) (r : Registry) (m : Members) (old new : ℤ) (its : List ℤ) (z y : ℤ) → IsMoving image r m old new its
-    → CameFrom old new z y → list_any (int_eq z) (moved_back old new its) ≡ is_of old (r.entry y)
+    → CameFrom old new z y → list_any (int_eq z) (moved_back old new its) ≡ is_property old (r.entry y)
 in_back image r m old new its z y t came =
     any_back z (map (moved old new) its) ∙ moved_in old new z y its came (its_not_new image r m old new its t)
-    ∙ its_by image r m old its y (is_of old (r.entry y)) t.own refl
+    ∙ its_by image r m old its y (is_property old (r.entry y)) t.own refl
 
 end_each : (image : List ℕ) (r : Registry) (m : Members) (old new : ℤ) (its : List ℤ) (z : ℤ) → IsMoving image r m old new its
     → (all_given new (moved_back old new its) (there r old new its)).entry z ≡ (renumbered old new r).entry z
@@ -265,9 +202,9 @@ end_each image r m old new its z t =
           let came = some.1 in
           ap (λ (b : Bool). cond b (option_map (with_owner new) ((there r old new its).entry z)) ((there r old new its).entry z))
           (in_back image r m old new its z y t came)
-          ∙ ap (λ (o : Option PrEntry). cond (is_of old (r.entry y)) (option_map (with_owner new) o) o)
+          ∙ ap (λ (o : Option PrEntry). cond (is_property old (r.entry y)) (option_map (with_owner new) o) o)
           (there_at image r m old new its z y t came.before_is)
-          ∙ given_by old new (r.entry y) (is_of old (r.entry y)) refl
+          ∙ given_by old new (r.entry y) (is_property old (r.entry y)) refl
           ∙ sym (ap (λ (o : Option ℤ). option_map (with_new_id old new) (option_and_then r.entry o)) came.before_is)
     ]
 
@@ -275,18 +212,18 @@ same_maxima : (image : List ℕ) (r : Registry) (m : Members) (old new : ℤ) (i
     → there r old new its ≡ record (moved_registry old new r) { entry = (there r old new its).entry }
 same_maxima image r m old new its t =
     ap (λ (q : Registry). record q { entry = (there r old new its).entry })
-    (ap (moved_registry old new) (owners_are (pos 0) its r (leaving image r m old new its t)))
+    (ap (moved_registry old new) (left_is image r m old its t.own))
 
 -- ---- the last step may be made
 
-there_some : (image : List ℕ) (r : Registry) (m : Members) (old new : ℤ) (its : List ℤ) (z y : ℤ) → IsMoving image r m old new its
+pub there_some : (image : List ℕ) (r : Registry) (m : Members) (old new : ℤ) (its : List ℤ) (z y : ℤ) → IsMoving image r m old new its
     → before old new z ≡ Some y → IsSome (r.entry y) → IsSome ((there r old new its).entry z)
 there_some image r m old new its z y t is some =
     subst (λ (o : Option PrEntry). IsSome o) (sym (there_at image r m old new its z y t is))
     (map_there (with_moved_id old new) (option_map (disowned old) (r.entry y)) (map_there (disowned old) (r.entry y) some))
 
 -- where an id went
-went : (old new x : ℤ) → x ≢ new → before old new (moved old new x) ≡ Some x
+pub went : (old new x : ℤ) → x ≢ new → before old new (moved old new x) ≡ Some x
 went old new x not_new =
     by_id x old
     (λ is. before_new old new (moved old new x) (moved_own old new x is) ∙ ap Some (sym is))
@@ -305,7 +242,7 @@ pub may_come : (image : List ℕ) (r : Registry) (m : Members) (old new : ℤ) (
     → MayGive (moved_back old new its) new (there r old new its)
 may_come image r m old new its t = record {
   there = all_onto (λ x. IsSome ((there r old new its).entry x)) (map (moved old new) its) []
-      (moved_there image r m old new its its t (its_not_new image r m old new its t) (its_there image r m old new its t)) tt;
+      (moved_there image r m old new its its t (its_not_new image r m old new its t) (its_there image r m old its t.own)) tt;
   owner_there = inr (there_some image r m old new its new old t (before_new old new new refl) t.may.there);
 }
 
@@ -320,8 +257,7 @@ pub between : (image : List ℕ) (r : Registry) (m : Members) (old new : ℤ) (i
     → IsListOf (λ other. are_paired m old other ≡ true) others → IsBetween image r m old new its others
 between image r m old new its others t list =
     let given = after_gives (pos 0) its r image in
-    let one = refits_hold (with_owner (pos 0)) its image r m t.own.holds
-    (gives_may (pos 0) its r (leaving image r m old new its t)) in
+    let one = left_holds image r m old its t.own in
     record {
       left_holds = one;
       gone_holds = move_held given (left r its) m old new others one (may_move image r m old new its t) list;

@@ -20,7 +20,8 @@ use Rattle.prdb_turns.specs.Owners.{AreItsOwn, MayGive, after_gives, with_owners
 use Rattle.prdb_turns.specs.Renumbering.{IsRenumbered, MayRenumber, after_renumber, moved_back, renumbered}
 use Rattle.prdb_turns.proofs.Owned.{one_own}
 use Rattle.prdb_turns.proofs.Refits.{some_at}
-use Rattle.prdb_turns.proofs.Renumbered.{IsMoving, between, end_is, left, may_come, may_leave, may_move, renumber_keeps, there}
+use Rattle.prdb_turns.proofs.Left.{left, may_leave}
+use Rattle.prdb_turns.proofs.Renumbered.{IsMoving, between, end_is, may_come, may_move, renumber_keeps, there}
 
 -- ---- the first image in place of none
 
@@ -96,7 +97,7 @@ given_at : (image : List ℕ) (b c d : Option (List ℕ)) (r : Registry) (m : Me
     → IsLeft (Some image) b c d old its → IsMoving (whole image) r m old new its → d ≡ Some (after_gives (pos 0) its r (whole image))
 given_at image b c d r m old new its s t =
     some_at c (whole image) (λ i. (q : Registry) (n : Members) → Holds i q n → MayGive its (pos 0) q
-    → d ≡ Some (after_gives (pos 0) its q i)) (s.same ∙ s.made) s.gives r m t.own.holds (may_leave (whole image) r m old new its t)
+    → d ≡ Some (after_gives (pos 0) its q i)) (s.same ∙ s.made) s.gives r m t.own.holds (may_leave (whole image) r m old its t.own)
 
 -- an image in the midst
 pub record IsHeld (now : Option (List ℕ)) (r : Registry) (m : Members) : Type 0 where
@@ -114,7 +115,7 @@ left_held image b c d r m old new its s held t =
     held_of d (left r its) m
     (some_at c (whole image) (λ i. (q : Registry) (n : Members) → Holds i q n → MayGive its (pos 0) q
     → IsSomeAnd d (λ behind. Holds behind (with_owners (pos 0) its q) n)) (s.same ∙ s.made) held r m t.own.holds
-    (may_leave (whole image) r m old new its t))
+    (may_leave (whole image) r m old its t.own))
 
 gone_held : (image : List ℕ) (b c d e : Option (List ℕ)) (r : Registry) (m : Members) (old new : ℤ) (its : List ℤ)
     → IsLeft (Some image) b c d old its → GivesHeld c d its (pos 0) → MovesHeld d e old new → IsMoving (whole image) r m old new its
@@ -202,7 +203,7 @@ leave_cause None b c old new its (BadRecord at) made found same cause = tt
 leave_cause (Some image) b c old new its (BadRecord at) made found same cause = λ q.
     let t = moving_of image b q.0 q.1 old new its made found q.2 q.3 in
     some_at c (whole image) (λ i. ((r : Registry) × (m : Members) × Holds i r m × MayGive its (pos 0) r) → ⊥) (same ∙ made) cause
-    (q.0, q.1, t.own.holds, may_leave (whole image) q.0 q.1 old new its t)
+    (q.0, q.1, t.own.holds, may_leave (whole image) q.0 q.1 old its t.own)
 
 pub move_cause : (a b c d : Option (List ℕ)) (old new : ℤ) (its : List ℤ) (fault : RecordFault) → IsLeft a b c d old its
     → GivesHeld c d its (pos 0) → HasCauseWhere (λ r m. MayMove old new r) d fault → Cause a old new fault

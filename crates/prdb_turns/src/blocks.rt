@@ -7,7 +7,7 @@ ghost use Rattle.db_blocks.specs.Blocks.{kind_of};
 ghost use Rattle.entry_scans.specs.Pages.{is_kind};
 ghost use Rattle.entry_scans.specs.Sought.{is_sought};
 ghost use Rattle.prdb_finds.specs.Ends.{HasItsCause};
-ghost use Rattle.prdb_finds.specs.declared.places.TheConstants.{HEAD_LEN};
+ghost use Rattle.prdb_layout.specs.declared.blocks.TheConstants.{HEAD_LEN};
 ghost use Rattle.prdb_turns.specs.Fronts.{ids_by_block};
 
 use db_blocks::{block_count, block_place, read_block};

@@ -13,6 +13,8 @@ mod turning;
 pub use blocks::ids_by_block;
 pub use fronts::{behind_colon, give_fronts, with_front};
 pub use ids::renumber;
-pub use laws::{law_renumber_gives_the_id, law_renumber_leaves_no_shorter_image};
-pub use owners::give;
+pub use laws::{
+    law_renumber_gives_the_id, law_renumber_keeps_the_order, law_renumber_leaves_no_shorter_image,
+};
+pub use owners::{disown, give};
 pub use turning::turn;

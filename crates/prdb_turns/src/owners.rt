@@ -1,13 +1,13 @@
 //! Entries that get another owner, one after the other, and what an entry owns.
 ghost use Rattle.std.specs.Prelude.{◌<◌, ◌≤◌, ◌^◌, ◌∷◌, [], IfErr, IfOk, IfSome, IsErrOf, IsSome, OnOk, length, max};
-ghost use Rattle.db_blocks.specs.Ends.{OnlyDrafts, OnlyLooks};
+ghost use Rattle.db_blocks.specs.Ends.{HasCause, OnlyDrafts, OnlyLooks};
 ghost use Rattle.prdb_layout.specs.Registry.{Registry};
 ghost use Rattle.prdb_lists.specs.Members.{Members};
 ghost use Rattle.prdb_finds.specs.Ends.{HasCauseWhere, HasItsCause, Makes};
 ghost use Rattle.prdb_finds.specs.Records.{Holds};
 ghost use Rattle.prdb_finds.specs.declared.places.TheConstants.{FIRST_LEN};
 ghost use Rattle.prdb_turns.specs.Ends.{Leaves};
-ghost use Rattle.prdb_turns.specs.Owners.{AreItsOwn, MayGive, after_gives, with_owner, with_owners};
+ghost use Rattle.prdb_turns.specs.Owners.{AreItsOwn, Disowns, HasOwner, MayGive, after_gives, with_owner, with_owners};
 ghost use Rattle.prdb_turns.specs.Refits.{MayRefits, after_refit};
 
 use crate::entries::entry_there;
@@ -75,7 +75,8 @@ impl Sought for UsersOf {
     }
 }
 
-/// The ids of what an entry owns: the groups in the order of its owned chain, and then the users, ascending. The draft is not empty.
+/// The ids of what an entry owns: the groups in the order of its owned chain, and then the users, ascending. It says nothing of an id that no
+/// entry has, nor of an empty draft.
 pub(crate) fn its_own<I: ImageRead>(
     alloc: Global,
     d: &mut Draft<I>,
@@ -91,4 +92,35 @@ pub(crate) fn its_own<I: ImageRead>(
     let users = ids_where(alloc, d, &UsersOf(owner))?;
     its.extend_from_slice(&users)?;
     Ok(its)
+}
+
+/// What an entry owns.
+#[derive(Clone, Copy)]
+struct OwnedBy(i32);
+
+impl Sought for OwnedBy {
+    ghost use Rattle.std.specs.Ordering.{int_eq};
+
+    ghost test = { λ s e. int_eq e.owner s.0 };
+
+    fn is_met(&self, e: EntryView<'_>) -> bool {
+        e.owner == self.0
+    }
+}
+
+/// Takes the owner from all that an entry owns: from the groups first to last along its owned chain, so that each is the first in it when its
+/// turn comes, and then from what still has it, the users, ascending. After an `Err` some of them may have none in the draft. It says nothing
+/// of an id that no entry has, nor of an empty draft.
+pub fn disown<I: ImageRead>(alloc: Global, d: &mut Draft<I>, owner: i32) -> Result<(), RecordFault>
+    requires { d.old.len < 2 ^ 31 }
+    ensures bytes { OnOk result (Disowns owner d.old.bytes d.new.bytes) }
+    ensures len { OnOk result (d.new.len ≤ max d.old.len FIRST_LEN) }
+    ensures longer { d.old.len ≤ d.new.len }
+    ensures fault { IfErr result (HasCause d.old.bytes (HasOwner owner)) }
+    ensures frame { OnlyDrafts I.ImageRead d.old d.new (IsErrOf result RecordFault.DiskFault) }
+{
+    let groups = owned_in_order(alloc, d, owner)?;
+    give(alloc, d, &groups, 0)?;
+    let rest = ids_where(alloc, d, &OwnedBy(owner))?;
+    give(alloc, d, &rest, 0)
 }
