@@ -1,58 +1,19 @@
--- The number of an entry's pairs, and what is told of them.
-use Rattle.std.proofs.Common.{◌≡◌, ℕ, ℤ, pos, negsuc, zero, suc, ◌<◌, ◌≤◌, ◌+ℤ◌, Bool, true, false, cond, List, [], ◌∷◌, length, get_or, Option, Some, None, IsSome, IsSomeAnd, IfSome, refl, sym, ap, subst, ◌∙◌, inl, inr, arith}
+-- The lists of ids that calls tell: what they are, and how many ids they have.
+use Rattle.std.proofs.Common.{◌≡◌, ℕ, ℤ, pos, negsuc, ◌<◌, ◌≤◌, true, false, List, length, get_or, Option, Some, None, IsSome, IsSomeAnd, IfSome, refl, sym, subst, inl, inr, arith}
 use Rattle.std.specs.Prelude.{codes, filter, is_none}
-use Rattle.db_image.specs.declared.faults.RecordFault.TheVariants.{BadRecord}
 use Rattle.prdb_layout.specs.Registry.{Registry, IsRegistry}
 use Rattle.prdb_layout.specs.State.{PrEntry, fixed, fixed_entries, group_flags}
 use Rattle.entry_scans.specs.Lists.{IsListOf}
-use Rattle.entry_scans.specs.Pages.{least_id}
 use Rattle.prdb_lists.specs.Members.{Members, ArePairs, IsInList, are_paired}
-use Rattle.prdb_finds.specs.Ends.{HasItsCause}
 use Rattle.prdb_finds.specs.Records.{Holds}
-use Rattle.pt_service.specs.Meaning.{counts_for, told}
-use Rattle.pt_service.specs.State.{State, elements, ids, is_paired, numbers_from, pair_count}
+use Rattle.pt_service.specs.Meaning.{counts_for}
+use Rattle.pt_service.specs.State.{State, elements, ids}
 use Rattle.pt_looks.specs.Owned.{AreOwned}
 use Rattle.pt_looks.specs.States.{OfStates, members_of}
 use Rattle.pt_looks.proofs.Many.{few_ids}
 use Rattle.pt_looks.proofs.Ordered.{list_is}
 use Rattle.pt_looks.proofs.Pairs.{counts_from, counts_to, elements_are, entry_range, is_there, owned_there, paired_there}
-use Rattle.pt_looks.proofs.States.{known_some, of_map}
-
--- ---- how many pairs
-
-numbers_len : (first : ℤ) (n : ℕ) → length (numbers_from first n) ≡ n
-unfolding numbers_from
-numbers_len first zero = refl
-numbers_len first (suc n) = ap suc (numbers_len (first +ℤ pos 1) n)
-
-ids_len : length ids ≡ 4294967295
-unfolding ids
-ids_len = numbers_len least_id 4294967295
-
-one_less : {X : Type 0} (b : Bool) (x : X) (xs : List X) (n : ℕ) → length xs ≤ n → length (cond b (x ∷ xs) xs) ≤ suc n
-one_less true x xs n less = omega arith
-one_less false x xs n less = omega arith
-
-filter_len : {X : Type 0} (p : X → Bool) (xs : List X) → length (filter p xs) ≤ length xs
-filter_len p [] = omega arith
-filter_len p (x ∷ xs) = one_less (p x) x (filter p xs) (length xs) (filter_len p xs)
-
-count_fits : (s : State) (id : ℤ) → pair_count s id ≤ 4294967295
-unfolding elements
-count_fits s id = omega (arith, filter_len (is_paired s id) ids, ids_len)
-
-pub count_cause : (bytes : Option (List ℕ)) (xs : List ℤ) (id : ℤ) (n at : ℕ) → n ≡ length xs → 4294967295 < n
-    → OfStates bytes (λ s. xs ≡ elements s id) → HasItsCause bytes (BadRecord at)
-count_cause None xs id n at is many told = tt
-count_cause (Some image) xs id n at is many told = λ h.
-    let s : State = record { registry = h.0; is_in = h.1.has } in
-    let same = told s h.2 in
-    omega (arith, is, many, ap length same, count_fits s id)
-
-pub count_told : (bytes : Option (List ℕ)) (xs : List ℤ) (id : ℤ) (n : ℕ) → n ≡ length xs → OfStates bytes (λ s. xs ≡ elements s id)
-    → OfStates bytes (λ s. n ≡ pair_count s id)
-count_told bytes xs id n is told =
-    of_map bytes (λ s. xs ≡ elements s id) (λ s. n ≡ pair_count s id) (λ image s holds same. is ∙ ap length same) told
+use Rattle.pt_looks.proofs.States.{known_some}
 
 -- ---- the lists of ids that calls tell
 

@@ -1,6 +1,7 @@
 -- How calls on lists of ids and on pairs end.
 use Rattle.std.proofs.Common.{◌≡◌, ℕ, ℤ, Bool, true, false, not, ◌||◌, cond, List, Option, Some, None, Result, IfOk, refl, sym, ap, ◌∙◌}
 use Rattle.std.specs.Prelude.{is_none}
+use Rattle.std.specs.Option.{option_map}
 use Rattle.db_image.specs.Ends.{end_of}
 use Rattle.db_image.specs.declared.draft_services.CallEnd.{CallEnd}
 use Rattle.db_image.specs.declared.faults.RecordFault.{RecordFault}
@@ -13,30 +14,38 @@ use Rattle.pt_service.specs.State.{State, is_group}
 use Rattle.pt_looks.specs.Owned.{AreOwned, is_no_owner}
 use Rattle.pt_looks.specs.Pages.{page_of}
 use Rattle.pt_looks.specs.States.{IsToldOf, OfStates}
+use Rattle.pt_looks.proofs.Linked.{ToldOfId}
 use Rattle.pt_looks.proofs.Pairs.{owned_are}
-use Rattle.pt_looks.proofs.States.{ends_ok, ends_so, entry_is, known_is, no_entry_is, of_all, of_both, of_map, of_same, unknown_is}
+use Rattle.pt_looks.proofs.States.{ends_ok, ends_so, known_is, of_all, of_both, of_map, of_same, unknown_is}
 
 -- ---- an entry
 
-pub entry_refused : (bytes : Option (List ℕ)) (id : ℤ) (goes : State → PrEntry → Verdict) (ended : CallEnd)
-    → OfStates bytes (λ s. None ≡ s.registry.entry id)
-    → ended ≡ end_of (reply_by (Refuses 267268)) → IsToldOf bytes (λ s. of_entry (s.registry.entry id) (goes s)) ended
-entry_refused bytes id goes ended none told =
-    ends_so bytes (λ s. of_entry (s.registry.entry id) (goes s)) (Refuses 267268) ended told
-    (of_map bytes (λ s. None ≡ s.registry.entry id) (λ s. of_entry (s.registry.entry id) (goes s) ≡ Refuses 267268)
-    (λ image s holds is. no_entry_is (s.registry.entry id) (goes s) is) none)
+untold_is : (s : State) (o : Option PrEntry) (goes : PrEntry → Verdict) → None ≡ option_map (told_of s) o → of_entry o goes ≡ Refuses 267268
+untold_is s None goes is = refl
+untold_is s (Some e) goes is = absurd cc
 
-pub entry_ends : (bytes mid : Option (List ℕ)) (id : ℤ) (e : PrEntry) (t : PtEntry) (ended : CallEnd)
-    → OfStates bytes (λ s. Some e ≡ s.registry.entry id) → mid ≡ bytes
-    → OfStates mid (λ s. t ≡ told_of s e) → ended ≡ end_of (reply_by (Answers (answer.Entry t)))
-    → IsToldOf bytes (λ s. of_entry (s.registry.entry id) (λ x. Answers (answer.Entry (told_of s x)))) ended
-entry_ends bytes mid id e t ended found same count told =
-    let v = λ (s : State). of_entry (s.registry.entry id) (λ x. Answers (answer.Entry (told_of s x))) in
+told_is : (s : State) (o : Option PrEntry) (t : PtEntry) → Some t ≡ option_map (told_of s) o
+    → of_entry o (λ e. Answers (answer.Entry (told_of s e))) ≡ Answers (answer.Entry t)
+told_is s None t is = absurd cc
+told_is s (Some e) t is = let same : t ≡ told_of s e = cc in ap (λ (x : PtEntry). Answers (answer.Entry x)) (sym same)
+
+pub entry_refused : (bytes : Option (List ℕ)) (id : ℤ) (ended : CallEnd) → ToldOfId bytes id None
+    → ended ≡ end_of (reply_by (Refuses 267268))
+    → IsToldOf bytes (λ s. of_entry (s.registry.entry id) (λ e. Answers (answer.Entry (told_of s e)))) ended
+entry_refused bytes id ended none told =
+    let v = λ (s : State). of_entry (s.registry.entry id) (λ e. Answers (answer.Entry (told_of s e))) in
+    ends_so bytes v (Refuses 267268) ended told
+    (of_map bytes (λ s. None ≡ option_map (told_of s) (s.registry.entry id)) (λ s. v s ≡ Refuses 267268)
+    (λ image s holds is. untold_is s (s.registry.entry id) (λ e. Answers (answer.Entry (told_of s e))) is) none)
+
+pub entry_ends : (bytes : Option (List ℕ)) (id : ℤ) (t : PtEntry) (ended : CallEnd) → ToldOfId bytes id (Some t)
+    → ended ≡ end_of (reply_by (Answers (answer.Entry t)))
+    → IsToldOf bytes (λ s. of_entry (s.registry.entry id) (λ e. Answers (answer.Entry (told_of s e)))) ended
+entry_ends bytes id t ended found told =
+    let v = λ (s : State). of_entry (s.registry.entry id) (λ e. Answers (answer.Entry (told_of s e))) in
     ends_so bytes v (Answers (answer.Entry t)) ended told
-    (of_both bytes (λ s. Some e ≡ s.registry.entry id) (λ s. t ≡ told_of s e) (λ s. v s ≡ Answers (answer.Entry t))
-    (λ image s holds is so. entry_is (s.registry.entry id) (λ x. Answers (answer.Entry (told_of s x))) e is
-    ∙ ap (λ (x : PtEntry). Answers (answer.Entry x)) (sym so))
-    found (of_same bytes mid (λ s. t ≡ told_of s e) same count))
+    (of_map bytes (λ s. Some t ≡ option_map (told_of s) (s.registry.entry id)) (λ s. v s ≡ Answers (answer.Entry t))
+    (λ image s holds is. told_is s (s.registry.entry id) t is) found)
 
 -- ---- a list of ids
 

@@ -1,3 +1,5 @@
+pub mod Costs
+pub mod Linked
 pub mod Counted
 pub mod Ended
 pub mod Many

@@ -27,7 +27,7 @@ use Rattle.prdb_finds.proofs.Told.{empty_is, laid_without, whole_same}
 use Rattle.prdb_finds.proofs.Without.{unchained_count}
 use Rattle.pt_service.specs.State.{State}
 use Rattle.pt_looks.specs.Ends.{IsTooMany}
-use Rattle.pt_looks.specs.States.{HoldsState, OfStates, members_of}
+use Rattle.pt_looks.specs.States.{HoldsRecords, OfStates, members_of}
 use Rattle.pt_looks.proofs.Ordered.{Rises, rises_all}
 use Rattle.pt_looks.proofs.Pairs.{some_is}
 
@@ -138,7 +138,7 @@ whole_len image most =
     (λ (none : length image ≤ 0). omega (arith, ap (λ (i : List ℕ). length (whole i)) (empty_is image (omega (arith, none))), first_len))
     (cases_lt 0 (length image))
 
-pub few_ids : (image : List ℕ) (s : State) (xs : List ℤ) → HoldsState image s → length image ≤ 16777216 → IsAscending xs
+pub few_ids : (image : List ℕ) (s : State) (xs : List ℤ) → HoldsRecords image s → length image ≤ 16777216 → IsAscending xs
     → ((x : ℤ) → Contains xs x → IsSome (s.registry.entry x)) → length xs ≤ 262143
 few_ids image s xs holds most ascending there =
     let old = whole image in

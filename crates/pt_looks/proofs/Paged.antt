@@ -25,7 +25,7 @@ use Rattle.pt_service.specs.Told.{Told}
 use Rattle.pt_service.proofs.Entries.{record_fits}
 use Rattle.pt_looks.specs.Ends.{IsUnless}
 use Rattle.pt_looks.specs.Pages.{HasShortName, above, fits_in, page_of, told_in}
-use Rattle.pt_looks.specs.States.{HoldsState, OfStates, members_of}
+use Rattle.pt_looks.specs.States.{HoldsRecords, OfStates, members_of}
 use Rattle.pt_looks.proofs.Pairs.{elements_are, entry_range, is_there}
 
 -- ---- the entries of a range of ids that pass a test
@@ -160,7 +160,7 @@ first_above s kinds after n es valid are =
 -- ---- what their blocks tell
 
 -- an entry's block tells the number of its pairs
-count_at : (image : List ℕ) (s : State) (k : ℕ) → HoldsState image s → k < block_count (whole image)
+count_at : (image : List ℕ) (s : State) (k : ℕ) → HoldsRecords image s → k < block_count (whole image)
     → kind_of (block_in (whole image) k) ≡ 1
     → pair_count_in (block_in (whole image) k) ≡ pair_count s (entry_in (block_in (whole image) k)).id
 count_at image s k holds below kind =
@@ -170,7 +170,7 @@ count_at image s k holds below kind =
 told_same : (n m : ℕ) (e : PrEntry) → n ≡ m → told n e ≡ told m e
 told_same n m e same = ap (λ (k : ℕ). told k e) same
 
-told_at : (image : List ℕ) (s : State) (block : List ℕ) → HoldsState image s → IsOfEntry (whole image) block
+pub told_at : (image : List ℕ) (s : State) (block : List ℕ) → HoldsRecords image s → IsOfEntry (whole image) block
     → told_in block ≡ told_of s (entry_in block)
 told_at image s block holds of =
     let b = block_in (whole image) of.0 in
@@ -178,7 +178,7 @@ told_at image s block holds of =
     subst (λ (x : List ℕ). told_in x ≡ told_of s (entry_in x)) (sym of.3)
     (told_same (pair_count_in b) (pair_count s (entry_in b).id) (entry_in b) (count_at image s of.0 holds of.1 kind))
 
-all_told : (image : List ℕ) (s : State) (blocks : List (List ℕ)) → HoldsState image s → AllByRecursion (IsOfEntry (whole image)) blocks
+all_told : (image : List ℕ) (s : State) (blocks : List (List ℕ)) → HoldsRecords image s → AllByRecursion (IsOfEntry (whole image)) blocks
     → map told_in blocks ≡ map (told_of s) (map entry_in blocks)
 all_told image s [] holds of = refl
 all_told image s (b ∷ blocks) holds of =
@@ -197,7 +197,7 @@ page_told (Some image) kinds after blocks es first of is = λ s holds.
 
 -- ---- what no database may hold is in none
 
-fits_at : (image : List ℕ) (r : Registry) (m : Members) (block : List ℕ) → Holds image r m → IsOfEntry (whole image) block
+pub fits_at : (image : List ℕ) (r : Registry) (m : Members) (block : List ℕ) → Holds image r m → IsOfEntry (whole image) block
     → fits_in block ≡ true
 fits_at image r m block holds of =
     let b = block_in (whole image) of.0 in

@@ -15,7 +15,7 @@ use Rattle.entry_scans.specs.Pages.{least_id}
 use Rattle.prdb_lists.specs.Members.{ArePairs, IsInList, IsOwned, are_paired, not_signed_in, signed_in}
 use Rattle.pt_service.specs.Meaning.{counts_for, is_owned_by, owned_by}
 use Rattle.pt_service.specs.State.{State, elements, entries_from, ids, is_group, is_paired, numbers_from}
-use Rattle.pt_looks.specs.States.{HoldsState, members_of}
+use Rattle.pt_looks.specs.States.{HoldsRecords, members_of}
 use Rattle.pt_looks.proofs.Ordered.{InRange, list_is}
 
 -- ---- entries have ids
@@ -77,7 +77,7 @@ paired_there s id other valid is = elim (or_cases (s.is_in id other) (s.is_in ot
   | inr two ↦ (valid other id two).2
 ]
 
-pub elements_are : (image : List ℕ) (s : State) (id : ℤ) (xs : List ℤ) → HoldsState image s
+pub elements_are : (image : List ℕ) (s : State) (id : ℤ) (xs : List ℤ) → HoldsRecords image s
     → IsListOf (λ other. are_paired (members_of s) id other ≡ true) xs
     → xs ≡ elements s id
 unfolding elements

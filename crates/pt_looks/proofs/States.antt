@@ -15,7 +15,7 @@ use Rattle.prdb_finds.specs.Records.{Holds}
 use Rattle.pt_service.specs.Meaning.{Refuses, Verdict, of_entry, reply_by}
 use Rattle.pt_service.specs.State.{State}
 use Rattle.pt_service.specs.Told.{Told}
-use Rattle.pt_looks.specs.States.{HoldsState, IsToldOf, OfStates, members_of}
+use Rattle.pt_looks.specs.States.{HoldsRecords, IsToldOf, OfStates, members_of}
 
 -- ---- of the registry
 
@@ -34,12 +34,12 @@ pub of_all : (bytes : Option (List ℕ)) (P : State → Type 0) → ((s : State)
 of_all None P all = tt
 of_all (Some image) P all = λ s holds. all s
 
-pub of_map : (bytes : Option (List ℕ)) (P Q : State → Type 0) → ((image : List ℕ) (s : State) → HoldsState image s → P s → Q s)
+pub of_map : (bytes : Option (List ℕ)) (P Q : State → Type 0) → ((image : List ℕ) (s : State) → HoldsRecords image s → P s → Q s)
     → OfStates bytes P → OfStates bytes Q
 of_map None P Q step told = tt
 of_map (Some image) P Q step told = λ s holds. step image s holds (told s holds)
 
-pub of_both : (bytes : Option (List ℕ)) (P Q R : State → Type 0) → ((image : List ℕ) (s : State) → HoldsState image s → P s → Q s → R s)
+pub of_both : (bytes : Option (List ℕ)) (P Q R : State → Type 0) → ((image : List ℕ) (s : State) → HoldsRecords image s → P s → Q s → R s)
     → OfStates bytes P → OfStates bytes Q
     → OfStates bytes R
 of_both None P Q R step first second = tt
@@ -62,13 +62,6 @@ pub ends_ok : (r : Result CallEnd RecordFault) (bytes : Option (List ℕ)) (v : 
     → OfStates bytes (λ s. v s ≡ w) → IfOk r (IsToldOf bytes v)
 ends_ok (Err fault) bytes v w told is = tt
 ends_ok (Ok ended) bytes v w told is = ends_so bytes v w ended told is
-
--- of an entry that is there or not
-pub entry_is : (o : Option PrEntry) (goes : PrEntry → Verdict) (e : PrEntry) → Some e ≡ o → of_entry o goes ≡ goes e
-entry_is o goes e is = ap (λ (x : Option PrEntry). of_entry x goes) (sym is)
-
-pub no_entry_is : (o : Option PrEntry) (goes : PrEntry → Verdict) → None ≡ o → of_entry o goes ≡ Refuses 267268
-no_entry_is o goes is = ap (λ (x : Option PrEntry). of_entry x goes) (sym is)
 
 pub unknown_is : (o : Option PrEntry) (goes : PrEntry → Verdict) → true ≡ is_none o → of_entry o goes ≡ Refuses 267268
 unknown_is None goes is = refl

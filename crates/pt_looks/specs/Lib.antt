@@ -1,3 +1,4 @@
+pub mod Costs
 pub mod Ends
 pub mod Owned
 pub mod Pages

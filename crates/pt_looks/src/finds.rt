@@ -4,19 +4,19 @@ ghost use Rattle.std.specs.Option.{option_map};
 ghost use Rattle.db_blocks.specs.Ends.{OnlyLooks};
 ghost use Rattle.prdb_layout.specs.RecordEnds.{seen};
 ghost use Rattle.prdb_finds.specs.Ends.{HasItsCause};
-ghost use Rattle.pt_service.specs.Meaning.{told, told_of};
-ghost use Rattle.pt_service.specs.State.{pair_count};
+ghost use Rattle.prdb_finds.specs.Keys.{id_chain};
+ghost use Rattle.prdb_finds.specs.Places.{id_links};
+ghost use Rattle.prdb_members.specs.Costs.{ListCosts};
+ghost use Rattle.pt_service.specs.Costs.{CostsOneChain};
 ghost use Rattle.pt_service.specs.Told.{IsGood};
-ghost use Rattle.pt_looks.specs.Pages.{HasShortName};
 ghost use Rattle.pt_looks.specs.States.{OfStates};
 
 use db_image::{Draft, ImageRead, RecordFault};
 use prdb_layout::PrEntry;
-use prdb_members::{elements, has_pair};
-use pt_calls::PtEntry;
+use prdb_members::has_pair;
 use std::alloc::Global;
 
-/// The entry of an id.
+/// The entry of an id. Where the image has the one chain of the id, it asks for a word and each block of that chain at most.
 pub fn entry_of<I: ImageRead>(
     alloc: Global,
     d: &mut Draft<I>,
@@ -27,11 +27,12 @@ pub fn entry_of<I: ImageRead>(
     ensures good { IfOk result IsGood }
     ensures fault { IfErr result (HasItsCause d.old.bytes) }
     ensures frame { OnlyLooks I.ImageRead d.old d.new (IsErrOf result RecordFault.DiskFault) }
+    ensures cost { CostsOneChain I.ImageRead id_links (id_chain id) d.old d.new }
 {
     pt_service::entry_of_id(alloc, d, id)
 }
 
-/// Whether a user is in a group.
+/// Whether a user is in a group. It asks for what the list of the user does at most.
 pub fn is_in<I: ImageRead>(
     alloc: Global,
     d: &mut Draft<I>,
@@ -42,53 +43,7 @@ pub fn is_in<I: ImageRead>(
     ensures found { IfOk result (λ is. OfStates d.old.bytes (λ s. is ≡ s.is_in member group)) }
     ensures fault { IfErr result (HasItsCause d.old.bytes) }
     ensures frame { OnlyLooks I.ImageRead d.old d.new (IsErrOf result RecordFault.DiskFault) }
+    ensures cost { ListCosts I.ImageRead member d.old d.new }
 {
     has_pair(alloc, d, member, group)
-}
-
-/// How many groups a user is in, or how many users are in a group.
-fn pair_count<I: ImageRead>(alloc: Global, d: &mut Draft<I>, id: i32) -> Result<u32, RecordFault>
-    requires { d.old.len ≤ 16777216 }
-    ensures found { IfOk result (λ count. OfStates d.old.bytes (λ s. count ≡ pair_count s id)) }
-    ensures fault { IfErr result (HasItsCause d.old.bytes) }
-    ensures frame { OnlyLooks I.ImageRead d.old d.new (IsErrOf result RecordFault.DiskFault) }
-{
-    let ids = elements(alloc, d, id)?;
-    let count = ids.as_slice().len();
-    if count > u32::MAX as usize {
-        return Err(RecordFault::BadRecord { at: d.len() });
-    }
-    Ok(count as u32)
-}
-
-/// An entry as an answer has it, with the number of its pairs.
-fn told(e: PrEntry, count: u32) -> PtEntry
-    ensures { result ≡ told count (seen e) }
-{
-    PtEntry {
-        flags: e.flags,
-        id: e.id,
-        owner: e.owner,
-        creator: e.creator,
-        quota: e.quota,
-        count,
-        name: e.name,
-    }
-}
-
-/// An entry that was found, as an answer has it.
-pub(crate) fn told_of<I: ImageRead>(
-    alloc: Global,
-    d: &mut Draft<I>,
-    e: PrEntry,
-) -> Result<PtEntry, RecordFault>
-    requires len { d.old.len ≤ 16777216 }
-    requires good { IsGood (Some e) }
-    ensures found { IfOk result (λ told. OfStates d.old.bytes (λ s. told ≡ told_of s (seen e))) }
-    ensures short { IfOk result HasShortName }
-    ensures fault { IfErr result (HasItsCause d.old.bytes) }
-    ensures frame { OnlyLooks I.ImageRead d.old d.new (IsErrOf result RecordFault.DiskFault) }
-{
-    let count = pair_count(alloc, d, e.id)?;
-    Ok(told(e, count))
 }

@@ -1,6 +1,7 @@
 //! The protection database over drafts, entries and pairs: the calls that only look.
 #![tactic(auto)]
 
+mod entries;
 mod finds;
 mod looks;
 mod pages;

@@ -1,26 +1,27 @@
 //! The call that lists entries of a kind, over a draft.
-ghost use Rattle.std.specs.Prelude.{◌≡◌, ◌≤◌, true, IfOk, IfErr, IsErrOf, length, map};
+ghost use Rattle.std.specs.Prelude.{◌≡◌, ◌+◌, ◌*◌, ◌≤◌, true, IfOk, IfErr, IsErrOf, length, map};
 ghost use Rattle.std.specs.List.{AllByRecursion};
 ghost use Rattle.db_image.specs.Ends.{IsDecided};
 ghost use Rattle.db_blocks.specs.Ends.{OnlyLooks};
+ghost use Rattle.db_blocks.specs.declared.blocks.TheConstants.{BLOCK_LEN};
+ghost use Rattle.db_chains.specs.Ends.{CostsAtMost};
 ghost use Rattle.entry_scans.specs.Views.{viewed};
 ghost use Rattle.prdb_finds.specs.Ends.{HasItsCause};
 ghost use Rattle.pt_calls.specs.declared.limits.TheConstants.{MAX_PAGE};
-ghost use Rattle.pt_service.specs.Fitting.{entry_fits};
 ghost use Rattle.pt_service.specs.Meaning.{are_kinds, is_of_kinds, page};
 ghost use Rattle.pt_looks.specs.Ends.{IsUnless};
 ghost use Rattle.pt_looks.specs.Pages.{HasShortName, fits_in, page_of, told_in};
 ghost use Rattle.pt_looks.specs.States.{IsToldOf, OfStates};
 
+use crate::entries::told_in;
 use call_grammar::Items;
 use db_blocks::Block;
 use db_image::{CallEnd, Draft, ImageRead, RecordFault};
-use entry_scans::{EntryView, Sought, entry_in, pair_count_in};
+use entry_scans::{EntryView, Sought};
 use prdb_scans::first_where;
 use pt_calls::{Entries, MAX_PAGE, PtAnswer, PtEntry};
-use pt_service::{BAD_ARGUMENT, is_group, is_id, is_name_of, tell};
+use pt_service::{BAD_ARGUMENT, is_group, tell};
 use std::alloc::Global;
-use ubik_types::bytes_of;
 
 /// What stands for users where kinds are asked for.
 const USERS: u32 = 1;
@@ -63,35 +64,6 @@ impl Sought for Listed {
     }
 }
 
-/// Whether an entry is one that a database may hold: its id is one, and its name has the form that the id wants.
-fn entry_fits(e: EntryView<'_>) -> bool
-    ensures { result ≡ entry_fits (viewed e.entry) }
-{
-    let group = is_group(e.id);
-    is_id(group, e.id) && is_name_of(group, e.name)
-}
-
-/// The entry in a block as an answer has it; a bad record at this position, where no database may hold it.
-fn told_in(alloc: Global, block: &Block, at: u32) -> Result<PtEntry, RecordFault>
-    ensures told { IfOk result (λ e. e ≡ told_in block.now) }
-    ensures short { IfOk result HasShortName }
-    ensures fault { IfErr result (IsUnless (fits_in block.now ≡ true)) }
-{
-    let e = entry_in(block);
-    if !entry_fits(e) {
-        return Err(RecordFault::BadRecord { at });
-    }
-    Ok(PtEntry {
-        flags: e.flags,
-        id: e.id,
-        owner: e.owner,
-        creator: e.creator,
-        quota: e.quota,
-        count: pair_count_in(block),
-        name: bytes_of(alloc, e.name)?,
-    })
-}
-
 /// The entries in blocks as an answer has them.
 fn entries_in(alloc: Global, blocks: &[Block], at: u32) -> Result<Vec<PtEntry>, RecordFault>
     ensures told { IfOk result (λ entries. entries.items ≡ map told_in blocks.now) }
@@ -106,7 +78,8 @@ fn entries_in(alloc: Global, blocks: &[Block], at: u32) -> Result<Vec<PtEntry>, 
     Ok(entries)
 }
 
-/// The first hundred entries of these kinds with an id above one, ascending by it.
+/// The first hundred entries of these kinds with an id above one, ascending by it. All blocks are read once, and those that are given once
+/// more.
 fn page<I: ImageRead>(
     alloc: Global,
     d: &mut Draft<I>,
@@ -119,6 +92,7 @@ fn page<I: ImageRead>(
     ensures count { IfOk result (λ found. length found ≤ MAX_PAGE) }
     ensures fault { IfErr result (HasItsCause d.old.bytes) }
     ensures frame { OnlyLooks I.ImageRead d.old d.new (IsErrOf result RecordFault.DiskFault) }
+    ensures cost { CostsAtMost I.ImageRead (d.old.len + BLOCK_LEN * MAX_PAGE) d.old d.new }
 {
     let wanted = Listed { kinds, after };
     let blocks = first_where(alloc, d, &wanted, MAX_PAGE as usize)?;
@@ -127,6 +101,7 @@ fn page<I: ImageRead>(
 }
 
 /// Tells the first hundred entries with an id above one, ascending by it. `kinds`: 1 users, 2 groups, 3 both.
+/// It asks for the image once, and for the blocks of the entries that it tells.
 pub fn list_entries<I: ImageRead>(
     alloc: Global,
     d: &mut Draft<I>,
@@ -138,6 +113,7 @@ pub fn list_entries<I: ImageRead>(
     ensures short { IfOk result IsDecided }
     ensures fault { IfErr result (HasItsCause d.old.bytes) }
     ensures frame { OnlyLooks I.ImageRead d.old d.new (IsErrOf result RecordFault.DiskFault) }
+    ensures cost { CostsAtMost I.ImageRead (d.old.len + BLOCK_LEN * MAX_PAGE) d.old d.new }
 {
     if !are_kinds(kinds) {
         return Ok(CallEnd::Rule(BAD_ARGUMENT));

@@ -7,6 +7,7 @@ use Rattle.pt_calls.specs.declared.answers.PtAnswer.TheVariants as answer
 use Rattle.pt_service.specs.Meaning.{Answers, counts_for}
 use Rattle.pt_service.specs.State.{State, ids}
 use Rattle.pt_looks.proofs.Counted.{counts_few, counts_told, known_same}
+use Rattle.pt_looks.proofs.Costs.{entry_alone, entry_then}
 use Rattle.pt_looks.proofs.Ended.{known_ends, unknown_ends}
 use Rattle.pt_looks.proofs.Many.{err_many, long_same, no_disk_fault}
 use Rattle.pt_looks.proofs.States.{looked_then, of_same}
@@ -61,3 +62,31 @@ returns-in_err-ids-clause-frame g c =
     let p = err_from_is_err_and c.from_residual-in_err-ids.result c.from_residual-in_err-ids.ensures.1 in
     rw (p.1, p.2) (looked_then g.I.ImageRead c.args.d.now c.is_unknown.new.d c.cps.new.d _ _ _ c.is_unknown.ensures.frame
     c.in_err-ids.ensures.frame (λ h. cc))
+
+pub returns-in_err-is_unknown-clause-cost : goal.returns-in_err-is_unknown-clause-cost
+returns-in_err-is_unknown-clause-cost g c =
+    let fits = c.ranges.id in
+    let one = c.is_unknown.ensures.cost in
+    entry_alone g.I.ImageRead c.args.id c.args.d.now c.is_unknown.new.d (simp to_z-of_z at one)
+
+pub returns-then-branch-clause-cost : goal.returns-then-branch-clause-cost
+returns-then-branch-clause-cost g c =
+    let fits = c.ranges.id in
+    let one = c.is_unknown.ensures.cost in
+    entry_alone g.I.ImageRead c.args.id c.args.d.now c.is_unknown.new.d (simp to_z-of_z at one)
+
+pub returns-in_err-ids-clause-cost : goal.returns-in_err-ids-clause-cost
+returns-in_err-ids-clause-cost g c =
+    let fits = c.ranges.id in
+    let one = c.is_unknown.ensures.cost in
+    let list = c.cps.ensures.cost in
+    entry_then g.I.ImageRead c.args.id c.args.d.now c.is_unknown.new.d c.cps.new.d (simp to_z-of_z at one)
+    c.is_unknown.ensures.frame.same.bytes (simp to_z-of_z at list)
+
+pub returns-clause-cost : goal.returns-clause-cost
+returns-clause-cost g c =
+    let fits = c.ranges.id in
+    let one = c.is_unknown.ensures.cost in
+    let list = c.cps.ensures.cost in
+    entry_then g.I.ImageRead c.args.id c.args.d.now c.is_unknown.new.d c.cps.new.d (simp to_z-of_z at one)
+    c.is_unknown.ensures.frame.same.bytes (simp to_z-of_z at list)

@@ -3,6 +3,7 @@ use Rattle.std.specs.Ordering.{int_eq}
 use Rattle.std.proofs.lemmas.Bool.{false_from_ne_true}
 use Rattle.std.proofs.lemmas.Bool.Decides.{Decides-int_eq}
 use Rattle.std.proofs.lemmas.Int.{ints, to_z-of_z}
+use Rattle.pt_looks.proofs.Costs.{owned_costs}
 use Rattle.pt_looks.proofs.Owned.{unowned, walked_ok}
 use Rattle.pt_looks.proofs.looks.owned.Goals as goal
 
@@ -20,3 +21,9 @@ returns-clause-found g c =
     let fits = c.ranges.id in
     let none : c.args.id ≡ pos 0 = omega (arith, ints) in
     rw none (unowned c.args.d.now.bytes c.in_ok-ids.ids.items c.in_ok-ids.ensures.found)
+
+pub returns-then-id-ne0-clause-cost : goal.returns-then-id-ne0-clause-cost
+returns-then-id-ne0-clause-cost g c =
+    let fits = c.ranges.id in
+    let costs = c.owned_ids.ensures.cost in
+    λ other. owned_costs g.I.ImageRead c.args.id c.args.d.now c.owned_ids.new.d (simp to_z-of_z at costs)

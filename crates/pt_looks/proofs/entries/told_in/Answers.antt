@@ -1,7 +1,7 @@
 use Rattle.std.proofs.Common.{length, ap, sym, ◌∙◌, arith}
 use Rattle.entry_scans.specs.Views.{viewed}
 use Rattle.pt_service.proofs.Entries.{name_len}
-use Rattle.pt_looks.proofs.pages.told_in.Goals as goal
+use Rattle.pt_looks.proofs.entries.told_in.Goals as goal
 
 pub returns-clause-short : goal.returns-clause-short
 returns-clause-short c =
