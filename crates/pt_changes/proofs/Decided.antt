@@ -5,7 +5,7 @@ use Rattle.db_image.specs.declared.draft_services.CallEnd.{CallEnd}
 use Rattle.pt_calls.specs.declared.answers.PtAnswer.TheVariants as answer
 use Rattle.pt_service.specs.Meaning.{Answers, Change, Makes, Refuses, Verdict, reply_by}
 use Rattle.pt_service.specs.State.{State}
-use Rattle.pt_looks.specs.States.{HoldsState, OfStates}
+use Rattle.pt_looks.specs.States.{HoldsRecords, OfStates}
 use Rattle.pt_changes.specs.Standing.{IsDone, IsMeantOf, image_after}
 
 done_refused : (v : Verdict) (s : State) (image : List ℕ) (after : Option (List ℕ)) (rule : ℕ) (ended : CallEnd)
@@ -30,7 +30,7 @@ done_made v s image after change ended told leaves is =
 
 -- the bytes are of this image, and it holds this state
 abbrev pub OfImages : Option (List ℕ) → (List ℕ → State → Type 0) → Type 0
-OfImages bytes P = IfSome bytes (λ image. (s : State) → HoldsState image s → P image s)
+OfImages bytes P = IfSome bytes (λ image. (s : State) → HoldsRecords image s → P image s)
 
 pub made_so : (bytes after : Option (List ℕ)) (v : State → Verdict) (change : Change) (ended : CallEnd)
     → ended ≡ end_of (reply_by (Answers answer.Done))

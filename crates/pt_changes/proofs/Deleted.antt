@@ -1,6 +1,7 @@
 -- An entry is removed: how the call ends, and what it leaves.
-use Rattle.std.proofs.Common.{◌≡◌, ℕ, ℤ, pos, Bool, true, false, cond, List, Option, Some, None, IsSomeAnd, sym, ap, subst, ◌∙◌}
+use Rattle.std.proofs.Common.{◌≡◌, ℕ, ℤ, pos, ◌<◌, Bool, true, false, cond, List, length, Option, Some, None, IfSome, IsSome, refl, ap, subst, ◌∙◌}
 use Rattle.std.specs.Prelude.{is_none, option_map}
+use Rattle.db_blocks.specs.Ends.{HasCause}
 use Rattle.db_image.specs.Ends.{end_of}
 use Rattle.db_image.specs.declared.draft_services.CallEnd.{CallEnd}
 use Rattle.db_image.specs.declared.faults.RecordFault.{RecordFault}
@@ -12,23 +13,25 @@ use Rattle.prdb_finds.specs.Ends.{HasCauseWhere, HasItsCause}
 use Rattle.prdb_finds.specs.Records.{Holds}
 use Rattle.prdb_entries.specs.Changes.{after_remove}
 use Rattle.prdb_entries.specs.Ends.{MayGo}
+use Rattle.prdb_members.specs.Changes.{after_parts}
+use Rattle.prdb_members.proofs.PartingEnds.{Parts}
 use Rattle.pt_calls.specs.declared.answers.PtAnswer.TheVariants as answer
 use Rattle.pt_service.specs.Meaning.{Answers, Leave, Makes as Changes, Refuses, leaves, of_entry, reply_by}
 use Rattle.pt_service.specs.State.{State, elements}
 use Rattle.pt_service.specs.Turning.{is_fixed}
-use Rattle.prdb_turns.specs.Ends.{Leaves as LeavesAll}
-use Rattle.prdb_turns.specs.Owners.{MayGive, after_gives}
-use Rattle.prdb_turns.proofs.Given.{all_given}
-use Rattle.pt_looks.specs.States.{HoldsState, OfStates, members_of}
+use Rattle.prdb_turns.specs.Owners.{AreItsOwn, Disowns, HasOwner, after_gives}
+use Rattle.prdb_turns.proofs.Left.{left, left_holds}
+use Rattle.prdb_turns.proofs.Owned.{HasItsOwn}
+use Rattle.pt_looks.specs.States.{HoldsRecords, OfStates, members_of}
 use Rattle.pt_looks.proofs.Pairs.{is_there}
 use Rattle.pt_looks.proofs.States.{known_some, of_map, unknown_is}
-use Rattle.pt_changes.specs.Ends.{Always, Leaves, Makes, over_registry}
-use Rattle.pt_changes.specs.Leaving.{after_leave, after_parts, property, without_pairs}
+use Rattle.pt_changes.specs.Leaving.{after_leave, without_pairs}
 use Rattle.pt_changes.specs.Standing.{IsMeantOf}
+use Rattle.pt_changes.specs.Turning.{its_in}
 use Rattle.pt_changes.proofs.Decided.{OfImages, made_so, refused_so}
-use Rattle.pt_changes.proofs.Left.{given_holds, may_give, may_remove}
-use Rattle.pt_changes.proofs.Parted.{none_paired}
-use Rattle.pt_changes.proofs.Parting.{and_at, some_at}
+use Rattle.pt_changes.proofs.Left.{may_remove, parts_hold}
+use Rattle.pt_changes.proofs.Owned.{has_its}
+use Rattle.pt_changes.proofs.Parted.{elements_list, none_paired}
 
 -- ---- what is decided
 
@@ -59,144 +62,112 @@ delete_fixed bytes after id ended known fixed told same =
 
 -- ---- what is left
 
+some_at : (bytes : Option (List ℕ)) (at : List ℕ) (P : List ℕ → Type 0) → bytes ≡ Some at → IfSome bytes P → P at
+some_at bytes at P is all = subst (λ (b : Option (List ℕ)). IfSome b P) is all
+
 -- the bytes once the pairs are gone
 record IsStripped (id : ℤ) (image : List ℕ) (s : State) (after : Option (List ℕ)) : Type 0 where
   bytes : after ≡ Some (after_parts id (elements s id) image)
-  holds : HoldsState (after_parts id (elements s id) image) (without_pairs id s)
+  holds : HoldsRecords (after_parts id (elements s id) image) (without_pairs id s)
 
 abbrev pub Strips : (bytes first mid : Option (List ℕ)) → (id : ℤ) → Type 0
-Strips bytes first mid id = (first ≡ bytes) × Leaves first Always (λ s. after_parts id (elements s id)) mid × Makes first Always
-    (without_pairs id) mid
+Strips bytes first mid id = (first ≡ bytes) × Parts first mid id
 
 -- by a number that is the id
-pub strips_so : (bytes first mid : Option (List ℕ)) (z id : ℤ) → z ≡ id → first ≡ bytes
-    → Leaves first Always (λ s. after_parts z (elements s z)) mid
-    → Makes first Always (without_pairs z) mid → Strips bytes first mid id
-strips_so bytes first mid z id is same bytes_so holds_so = (
-  same,
-  subst (λ (y : ℤ). Leaves first Always (λ s. after_parts y (elements s y)) mid) is bytes_so,
-  subst (λ (y : ℤ). Makes first Always (without_pairs y) mid) is holds_so,
-)
+pub strips_so : (bytes first mid : Option (List ℕ)) (z id : ℤ) → z ≡ id → first ≡ bytes → Parts first mid z → Strips bytes first mid id
+strips_so bytes first mid z id is same parts = (same, subst (λ (y : ℤ). Parts first mid y) is parts)
 
-stripped : (image : List ℕ) (first mid : Option (List ℕ)) (id : ℤ) (s : State) → HoldsState image s → Strips (Some image) first mid id
+stripped : (image : List ℕ) (first mid : Option (List ℕ)) (id : ℤ) (s : State) → HoldsRecords image s → Strips (Some image) first mid id
     → IsStripped id image s mid
 stripped image first mid id s holds so =
-    let after = after_parts id (elements s id) image in
-    let bytes : mid ≡ Some after =
-    some_at first image (λ i. (s : State) → HoldsState i s → Always s → mid ≡ Some (after_parts id (elements s id) i)) so.0 so.1 s
-    holds tt in
-    let held : IsSomeAnd mid (λ i. HoldsState i (without_pairs id s)) =
-    some_at first image (λ i. (s : State) → HoldsState i s → Always s → IsSomeAnd mid (λ i. HoldsState i (without_pairs id s))) so.0 so.2 s
-    holds tt in
-    record { bytes = bytes; holds = and_at mid after (λ i. HoldsState i (without_pairs id s)) bytes held }
+    let parts : Parts (Some image) mid id = subst (λ (b : Option (List ℕ)). Parts b mid id) so.0 so.1 in
+    record {
+      bytes = parts s.registry (members_of s) (elements s id) holds (elements_list s id image holds);
+      holds = parts_hold image s id holds;
+    }
 
-its_are : (image : List ℕ) (mid : Option (List ℕ)) (id : ℤ) (s : State) (its : List ℤ) → IsStripped id image s mid
-    → OfStates mid (λ s. its ≡ property s.registry id)
-    → its ≡ property s.registry id
-its_are image mid id s its so found =
-    some_at mid (after_parts id (elements s id) image) (λ i. (t : State) → HoldsState i t → its ≡ property t.registry id) so.bytes found
-    (without_pairs id s) so.holds
-
-pub its_same : (bytes : Option (List ℕ)) (id : ℤ) (items its : List ℤ) → its ≡ items → OfStates bytes (λ s. items ≡ property s.registry id)
-    → OfStates bytes (λ s. its ≡ property s.registry id)
-its_same bytes id items its same found = subst (λ (xs : List ℤ). OfStates bytes (λ s. xs ≡ property s.registry id)) (sym same) found
-
-may_give_its : (id : ℤ) (s : State) (its : List ℤ) → its ≡ property s.registry id → MayGive its (pos 0) s.registry
-may_give_its id s its are = subst (λ (xs : List ℤ). MayGive xs (pos 0) s.registry) (sym are) (may_give s.registry id)
-
-after_all : (image : List ℕ) (id : ℤ) (s : State) (its : List ℤ) → its ≡ property s.registry id
-    → after_remove id (after_gives (pos 0) its s.registry (after_parts id (elements s id) image)) ≡ after_leave id s image
-unfolding after_leave
-after_all image id s its are = ap (λ (xs : List ℤ). after_remove id
-    (after_gives (pos 0) xs s.registry (after_parts id (elements s id) image))) are
-
--- the bytes once what it owned has no owner
-abbrev pub Gives : (mid look after : Option (List ℕ)) → (its : List ℤ) → Type 0
-Gives mid look after its = (look ≡ mid) × LeavesAll look (λ r m. MayGive its (pos 0) r) (after_gives (pos 0) its) after
-
-given : (image : List ℕ) (mid look after : Option (List ℕ)) (id : ℤ) (s : State) (its : List ℤ) → IsStripped id image s mid
-    → its ≡ property s.registry id
-    → Gives mid look after its → after ≡ Some (after_gives (pos 0) its s.registry (after_parts id (elements s id) image))
-given image mid look after id s its so are gives =
-    some_at look (after_parts id (elements s id) image)
-    (λ i. (r : Registry) (m : Members) → Holds i r m → MayGive its (pos 0) r → after ≡ Some (after_gives (pos 0) its r i))
-    (gives.0 ∙ so.bytes) gives.1 s.registry (members_of (without_pairs id s)) so.holds
-    (may_give_its id s its are)
-
-left_by : (bytes first mid look given_to after : Option (List ℕ)) (id : ℤ) (its : List ℤ) → Strips bytes first mid id
-    → OfStates mid (λ s. its ≡ property s.registry id)
-    → Gives mid look given_to its → after ≡ option_map (after_remove id) given_to
-    → OfImages bytes (λ image s. after ≡ Some (after_leave id s image))
-left_by None first mid look given_to after id its strips found gives removed = tt
-left_by (Some image) first mid look given_to after id its strips found gives removed = λ s holds.
-    let so = stripped image first mid id s holds strips in
-    let are = its_are image mid id s its so found in
-    removed ∙ ap (option_map (after_remove id)) (given image mid look given_to id s its so are gives)
-    ∙ ap Some (after_all image id s its are)
-
-pub delete_made : (bytes first mid look given_to after : Option (List ℕ)) (id : ℤ) (its : List ℤ) (ended : CallEnd) → Known bytes id
+-- what the entry owns then, as they tell it
+own_of : (image : List ℕ) (mid : Option (List ℕ)) (id : ℤ) (s : State) → IsStripped id image s mid → IsSome (s.registry.entry id)
     → is_fixed id ≡ false
-    → Strips bytes first mid id → OfStates mid (λ s. its ≡ property s.registry id) → Gives mid look given_to its
-    → after ≡ option_map (after_remove id) given_to
+    → HasItsOwn (after_parts id (elements s id) image) s.registry (members_of (without_pairs id s)) id
+    (its_in (after_parts id (elements s id) image) s.registry id)
+own_of image mid id s so there free =
+    has_its (after_parts id (elements s id) image) s.registry (members_of (without_pairs id s)) id so.holds there free
+
+-- and the bytes once that has no owner
+given : (image : List ℕ) (mid given_to : Option (List ℕ)) (id : ℤ) (s : State) → IsStripped id image s mid → IsSome (s.registry.entry id)
+    → is_fixed id ≡ false → Disowns id mid given_to
+    → given_to
+    ≡ Some (after_gives (pos 0) (its_in (after_parts id (elements s id) image) s.registry id) s.registry (after_parts id (elements s id) image))
+given image mid given_to id s so there free disowns =
+    let parted = after_parts id (elements s id) image in
+    let own = own_of image mid id s so there free in
+    some_at mid parted
+    (λ i. (r : Registry) (m : Members) → Holds i r m → IsSome (r.entry id) → 0 < length i → (its : List ℤ) → AreItsOwn i r id its
+    → given_to ≡ Some (after_gives (pos 0) its r i))
+    so.bytes disowns s.registry (members_of (without_pairs id s)) own.holds own.there own.some (its_in parted s.registry id) own.are
+
+leave_is : (image : List ℕ) (id : ℤ) (s : State)
+    → after_remove id
+    (after_gives (pos 0) (its_in (after_parts id (elements s id) image) s.registry id) s.registry (after_parts id (elements s id) image))
+    ≡ after_leave id s image
+unfolding after_leave
+leave_is image id s = refl
+
+known_there : (image : List ℕ) (id : ℤ) (s : State) → Known (Some image) id → HoldsRecords image s → IsSome (s.registry.entry id)
+known_there image id s known holds =
+    let e = known_some (s.registry.entry id) (known s holds) in is_there (s.registry.entry id) e.0 e.1
+
+left_by : (bytes first mid given_to after : Option (List ℕ)) (id : ℤ) → Known bytes id → is_fixed id ≡ false → Strips bytes first mid id
+    → Disowns id mid given_to → after ≡ option_map (after_remove id) given_to
+    → OfImages bytes (λ image s. after ≡ Some (after_leave id s image))
+left_by None first mid given_to after id known free strips disowns removed = tt
+left_by (Some image) first mid given_to after id known free strips disowns removed = λ s holds.
+    let so = stripped image first mid id s holds strips in
+    removed
+    ∙ ap (option_map (after_remove id)) (given image mid given_to id s so (known_there image id s known holds) free disowns)
+    ∙ ap Some (leave_is image id s)
+
+pub delete_made : (bytes first mid given_to after : Option (List ℕ)) (id : ℤ) (ended : CallEnd) → Known bytes id → is_fixed id ≡ false
+    → Strips bytes first mid id → Disowns id mid given_to → after ≡ option_map (after_remove id) given_to
     → ended ≡ end_of (reply_by (Answers answer.Done)) → IsMeantOf bytes (λ s. of_entry (s.registry.entry id) leaves) ended after
-delete_made bytes first mid look given_to after id its ended known free strips found gives removed told =
+delete_made bytes first mid given_to after id ended known free strips disowns removed told =
     made_so bytes after (λ s. of_entry (s.registry.entry id) leaves) (Leave id) ended told
     (of_map bytes (λ s. false ≡ is_none (s.registry.entry id)) (λ s. of_entry (s.registry.entry id) leaves ≡ Changes answer.Done (Leave id))
     (λ image s holds is. fixed_by s.registry id false holds.pairs.holds.valid is free) known)
-    (left_by bytes first mid look given_to after id its strips found gives removed)
+    (left_by bytes first mid given_to after id known free strips disowns removed)
 
 -- ---- faults
 
 pub parts_fault : (bytes first : Option (List ℕ)) (fault : RecordFault) → first ≡ bytes → HasItsCause first fault → HasItsCause bytes fault
 parts_fault bytes first fault same cause = subst (λ (b : Option (List ℕ)). HasItsCause b fault) same cause
 
-pub property_fault : (bytes first mid : Option (List ℕ)) (id : ℤ) (fault : RecordFault) → Strips bytes first mid id → HasItsCause mid fault
-    → HasItsCause bytes fault
-property_fault bytes first mid id DiskFault strips cause = tt
-property_fault None first mid id (BadRecord at) strips cause = tt
-property_fault (Some image) first mid id (BadRecord at) strips cause = λ some.
+pub disown_fault : (bytes first mid : Option (List ℕ)) (id : ℤ) (fault : RecordFault) → Known bytes id → is_fixed id ≡ false
+    → Strips bytes first mid id → HasCause mid (HasOwner id) fault → HasItsCause bytes fault
+disown_fault bytes first mid id DiskFault known free strips cause = tt
+disown_fault None first mid id (BadRecord at) known free strips cause = tt
+disown_fault (Some image) first mid id (BadRecord at) known free strips cause = λ some.
     let s : State = record { registry = some.0; is_in = some.1.has } in
     let so = stripped image first mid id s some.2 strips in
-    some_at mid (after_parts id (elements s id) image) (λ i. HasItsCause (Some i) (BadRecord at)) so.bytes cause
-    (s.registry, members_of (without_pairs id s), so.holds)
-property_fault bytes first mid id NoMemory strips cause = tt
+    let own = own_of image mid id s so (known_there image id s known some.2) free in
+    some_at mid (after_parts id (elements s id) image) (λ i. HasOwner id i → ⊥) so.bytes cause
+    (s.registry, members_of (without_pairs id s), own.holds, own.there, own.some)
+disown_fault bytes first mid id NoMemory known free strips cause = tt
 
-pub give_fault : (bytes first mid look : Option (List ℕ)) (id : ℤ) (its : List ℤ) (fault : RecordFault) → Strips bytes first mid id
-    → OfStates mid (λ s. its ≡ property s.registry id) → look ≡ mid → HasCauseWhere (λ r m. MayGive its (pos 0) r) look fault
-    → HasItsCause bytes fault
-give_fault bytes first mid look id its DiskFault strips found same cause = tt
-give_fault None first mid look id its (BadRecord at) strips found same cause = tt
-give_fault (Some image) first mid look id its (BadRecord at) strips found same cause = λ some.
+pub remove_fault : (bytes first mid given_to : Option (List ℕ)) (id : ℤ) (fault : RecordFault) → Known bytes id → is_fixed id ≡ false
+    → Strips bytes first mid id → Disowns id mid given_to → HasCauseWhere (MayGo id) given_to fault → HasItsCause bytes fault
+remove_fault bytes first mid given_to id DiskFault known free strips disowns cause = tt
+remove_fault None first mid given_to id (BadRecord at) known free strips disowns cause = tt
+remove_fault (Some image) first mid given_to id (BadRecord at) known free strips disowns cause = λ some.
     let s : State = record { registry = some.0; is_in = some.1.has } in
-    let so = stripped image first mid id s some.2 strips in
-    some_at look (after_parts id (elements s id) image) (λ i. HasCauseWhere (λ r m. MayGive its (pos 0) r) (Some i) (BadRecord at))
-    (same ∙ so.bytes) cause
-    (s.registry, members_of (without_pairs id s), so.holds, may_give_its id s its (its_are image mid id s its so found))
-give_fault bytes first mid look id its NoMemory strips found same cause = tt
-
-pub remove_fault : (bytes first mid look given_to : Option (List ℕ)) (id : ℤ) (its : List ℤ) (fault : RecordFault) → Known bytes id
-    → is_fixed id ≡ false
-    → Strips bytes first mid id → OfStates mid (λ s. its ≡ property s.registry id) → Gives mid look given_to its
-    → HasCauseWhere (MayGo id) given_to fault → HasItsCause bytes fault
-remove_fault bytes first mid look given_to id its DiskFault known free strips found gives cause = tt
-remove_fault None first mid look given_to id its (BadRecord at) known free strips found gives cause = tt
-remove_fault (Some image) first mid look given_to id its (BadRecord at) known free strips found gives cause = λ some.
-    let s : State = record { registry = some.0; is_in = some.1.has } in
-    let so = stripped image first mid id s some.2 strips in
-    let are = its_are image mid id s its so found in
+    let parted = after_parts id (elements s id) image in
     let r = s.registry in
-    let e = known_some (r.entry id) (known s some.2) in
-    let at_given =
-    given image mid look given_to id s its so are gives
-    ∙ ap (λ (xs : List ℤ). Some (after_gives (pos 0) xs r (after_parts id (elements s id) image))) are in
-    let held : HoldsState (after_gives (pos 0) (property r id) r (after_parts id (elements s id) image))
-    (over_registry (all_given (pos 0) (property r id)) (without_pairs id s)) =
-    given_holds (after_parts id (elements s id) image) s id so.holds in
-    some_at given_to (after_gives (pos 0) (property r id) r (after_parts id (elements s id) image))
-    (λ i. ((q : Registry) × (m : Members) × Holds i q m × MayGo id q m) → ⊥) at_given cause (
-      all_given (pos 0) (property r id) r,
-      members_of (without_pairs id s),
-      held,
-      (may_remove r id some.2.pairs.holds.valid (is_there (r.entry id) e.0 e.1) free, none_paired s id),
-    )
-remove_fault bytes first mid look given_to id its NoMemory known free strips found gives cause = tt
+    let m = members_of (without_pairs id s) in
+    let its = its_in parted r id in
+    let so = stripped image first mid id s some.2 strips in
+    let there = known_there image id s known some.2 in
+    let own = own_of image mid id s so there free in
+    some_at given_to (after_gives (pos 0) its r parted) (λ i. ((q : Registry) × (m : Members) × Holds i q m × MayGo id q m) → ⊥)
+    (given image mid given_to id s so there free disowns) cause
+    (left r its, m, left_holds parted r m id its own, (may_remove parted r m id its own free, none_paired s id))
+remove_fault bytes first mid given_to id NoMemory known free strips disowns cause = tt

@@ -16,24 +16,15 @@ pub drafted_two : {I : Type 0} (g : Ghosts I) (a b c d : Drafted I) (first secon
 drafted_two g a b c d first second third failed r s t so =
     drafted g a c d second third failed (looks_then g a b c first second r s) t so
 
--- a look, a change, a look, and two changes more
-pub looked_then_changed : {I : Type 0} (g : Ghosts I) (a b c d : Drafted I) (first second third failed : Type 0) → OnlyLooks g a b first
-    → OnlyDrafts g b c second
-    → OnlyLooks g c d third → (failed → third) → OnlyDrafts g a d failed
-looked_then_changed g a b c d first second third failed r s t so =
-    drafts_so g a d third failed (drafts_then g a c d second third (drafts_after g a b c first second r s)
-    (looked g c d third third t (λ h. h))) so
+-- a look, and two or three changes
+pub changed_twice : {I : Type 0} (g : Ghosts I) (a b c d : Drafted I) (first second third failed : Type 0) → OnlyLooks g a b first
+    → OnlyDrafts g b c second → OnlyDrafts g c d third → (failed → third) → OnlyDrafts g a d failed
+changed_twice g a b c d first second third failed r s t so =
+    drafts_so g a d third failed (drafts_then g a c d second third (drafts_after g a b c first second r s) t) so
 
-pub changed_twice : {I : Type 0} (g : Ghosts I) (a b c d e : Drafted I) (first second third fourth failed : Type 0) → OnlyLooks g a b first
-    → OnlyDrafts g b c second
-    → OnlyLooks g c d third → OnlyDrafts g d e fourth → (failed → fourth) → OnlyDrafts g a e failed
-changed_twice g a b c d e first second third fourth failed r s t u so =
+pub changed_thrice : {I : Type 0} (g : Ghosts I) (a b c d e : Drafted I) (first second third fourth failed : Type 0)
+    → OnlyLooks g a b first → OnlyDrafts g b c second → OnlyDrafts g c d third → OnlyDrafts g d e fourth → (failed → fourth)
+    → OnlyDrafts g a e failed
+changed_thrice g a b c d e first second third fourth failed r s t u so =
     drafts_so g a e fourth failed
-    (drafts_then g a d e third fourth (looked_then_changed g a b c d first second third third r s t (λ h. h)) u) so
-
-pub changed_thrice : {I : Type 0} (g : Ghosts I) (a b c d e f : Drafted I) (first second third fourth fifth failed : Type 0)
-    → OnlyLooks g a b first → OnlyDrafts g b c second
-    → OnlyLooks g c d third → OnlyDrafts g d e fourth → OnlyDrafts g e f fifth → (failed → fifth) → OnlyDrafts g a f failed
-changed_thrice g a b c d e f first second third fourth fifth failed r s t u v so =
-    drafts_so g a f fifth failed (drafts_then g a e f fourth fifth
-    (changed_twice g a b c d e first second third fourth fourth r s t u (λ h. h)) v) so
+    (drafts_then g a d e third fourth (changed_twice g a b c d first second third third r s t (λ h. h)) u) so

@@ -6,4 +6,3 @@ pub mod Listed
 pub mod Owned
 pub mod Paired
 pub mod Parted
-pub mod Parting

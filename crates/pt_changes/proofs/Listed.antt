@@ -1,5 +1,5 @@
 -- What is in the list of the ids that pass a test.
-use Rattle.std.proofs.Common.{◌≡◌, ◌≢◌, ℕ, ℤ, pos, zero, suc, ◌+◌, ◌+ℤ◌, Bool, true, false, ◌||◌, cond, List, [], ◌∷◌, map, refl, sym, ap, subst, ◌∙◌, arith}
+use Rattle.std.proofs.Common.{◌≡◌, ◌≢◌, ℕ, ℤ, pos, zero, suc, ◌+◌, ◌+ℤ◌, Bool, true, false, ◌||◌, cond, List, [], ◌∷◌, map, refl, ap, subst, ◌∙◌, arith}
 use Rattle.std.specs.Prelude.{◌<ℤ◌, ◌≤ℤ◌, filter}
 use Rattle.std.specs.List.{Contains, list_any}
 use Rattle.std.specs.Ordering.{int_eq}
@@ -32,25 +32,6 @@ or_one false b is = absurd cc
 or_two : (a b : Bool) → b ≡ true → (a || b) ≡ true
 or_two true b is = refl
 or_two false b is = is
-
-any_has : {X : Type 0} (p : X → Bool) (xs : List X) (x : X) → Contains xs x → p x ≡ true → list_any p xs ≡ true
-any_has p [] x has is = absurd (in_none x has)
-any_has p (y ∷ ys) x (zero, below, same) is = or_one (p y) (list_any p ys) (ap p same ∙ is)
-any_has p (y ∷ ys) x (suc k, below, same) is = or_two (p y) (list_any p ys) (any_has p ys x (k, omega arith, same) is)
-
--- an id is among others
-pub any_id : (xs : List ℤ) (x : ℤ) → Contains xs x → list_any (int_eq x) xs ≡ true
-any_id xs x has = any_has (int_eq x) xs x has ((Decides-int_eq x x).1 refl)
-
-id_by : (a b : Bool) → (a || b) ≡ true → (P : Type 0) → (a ≡ true → P) → (b ≡ true → P) → P
-id_by true b is P one two = one refl
-id_by false b is P one two = two is
-
-pub id_any : (xs : List ℤ) (x : ℤ) → list_any (int_eq x) xs ≡ true → Contains xs x
-id_any [] x is = absurd cc
-id_any (y ∷ ys) x is =
-    id_by (int_eq x y) (list_any (int_eq x) ys) is (Contains (y ∷ ys) x) (λ one. in_first y x ys (sym ((Decides-int_eq x y).0 one)))
-    (λ rest. in_rest y x ys (id_any ys x rest))
 
 -- ---- what passes a test
 

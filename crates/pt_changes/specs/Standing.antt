@@ -7,7 +7,7 @@ use Rattle.prdb_entries.specs.Changes.{after_insert, after_replace}
 use Rattle.prdb_members.specs.Changes.{after_join, after_part}
 use Rattle.pt_service.specs.Meaning.{Change, Maxima, Enter, Refit, Leave, Turn, Join, Part, Verdict, Makes, reply_by}
 use Rattle.pt_service.specs.State.{State}
-use Rattle.pt_looks.specs.States.{HoldsState}
+use Rattle.pt_looks.specs.States.{HoldsRecords}
 use Rattle.pt_changes.specs.Leaving.{after_leave}
 use Rattle.pt_changes.specs.Turning.{after_turn}
 
@@ -32,4 +32,4 @@ pub record IsDone (v : Verdict) (s : State) (image : List ℕ) (ended : CallEnd)
 
 -- a call over these bytes ended as this says of the state that they hold, and left those behind
 abbrev pub IsMeantOf : Option (List ℕ) → (State → Verdict) → CallEnd → Option (List ℕ) → Type 0
-IsMeantOf bytes v ended after = IfSome bytes (λ image. (s : State) → HoldsState image s → IsDone (v s) s image ended after)
+IsMeantOf bytes v ended after = IfSome bytes (λ image. (s : State) → HoldsRecords image s → IsDone (v s) s image ended after)

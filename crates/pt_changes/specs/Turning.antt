@@ -8,11 +8,11 @@ use Rattle.prdb_lists.specs.Changes.{place_in}
 use Rattle.prdb_finds.specs.Places.{owned_links, owned_place}
 use Rattle.prdb_finds.specs.Records.{whole}
 use Rattle.prdb_members.specs.Owned.{ids_along}
+use Rattle.prdb_turns.specs.Owners.{is_property}
 use Rattle.prdb_turns.specs.Refits.{after_refit}
 use Rattle.prdb_turns.specs.Turning.{after_turn as after_steps, first, named}
 use Rattle.pt_service.specs.State.{State, elements, ids, is_group}
 use Rattle.pt_service.specs.Turning.{has_equal_names, has_long_name, is_fixed}
-use Rattle.pt_changes.specs.Leaving.{is_property}
 
 -- ---- what an entry owns
 

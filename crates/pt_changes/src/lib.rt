@@ -4,7 +4,6 @@
 mod fixed;
 mod laws;
 mod leaving;
-mod owning;
 mod pairs;
 
 pub use fixed::is_fixed;
