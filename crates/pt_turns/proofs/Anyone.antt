@@ -1,6 +1,6 @@
 -- Whether an entry passes a test: what is known of the list of all entries.
-use Rattle.std.proofs.Common.{◌≡◌, ◌≢◌, ℕ, ℤ, zero, suc, pos, ◌+ℤ◌, Bool, true, false, ◌||◌, List, [], ◌∷◌, Option, Some, None, IsSome, refl, sym, ap, ◌∙◌, ⊎_elim, inl, inr, Decides, arith}
-use Rattle.std.specs.Prelude.{◌<ℤ◌, ◌≤ℤ◌, ◌⊎◌, cond, filter, option_to_list}
+use Rattle.std.proofs.Common.{◌≡◌, ◌≢◌, ℕ, ℤ, zero, suc, pos, ◌+ℤ◌, Bool, true, false, ◌||◌, List, [], ◌∷◌, Option, Some, None, refl, sym, ap, ◌∙◌, ⊎_elim, inl, inr, Decides, arith}
+use Rattle.std.specs.Prelude.{◌<ℤ◌, ◌≤ℤ◌, ◌⊎◌, option_to_list}
 use Rattle.std.specs.List.{flat_map, list_any}
 use Rattle.std.specs.Ordering.{int_eq}
 use Rattle.std.proofs.lemmas.Bool.Decides.{Decides-int_eq}
@@ -9,7 +9,7 @@ use Rattle.std.proofs.lemmas.List.Folds.{list_any-append}
 use Rattle.prdb_layout.specs.Registry.{Registry, IsRegistry}
 use Rattle.prdb_layout.specs.State.{PrEntry}
 use Rattle.entry_scans.specs.Pages.{least_id}
-use Rattle.pt_service.specs.State.{entries, entries_from, ids, numbers_from}
+use Rattle.pt_service.specs.State.{entries, entries_from, numbers_from}
 use Rattle.pt_looks.proofs.Pairs.{entry_range, is_there}
 
 abbrev there : Registry → ℤ → List PrEntry
@@ -126,52 +126,3 @@ which_from test r first count is = which_in test r (numbers_from first count) is
 
 pub any_which : (r : Registry) (test : PrEntry → Bool) → list_any test (entries r) ≡ true → IsPassing r test
 any_which r test is = which_from test r least_id 4294967295 is
-
--- ---- of the ids that pass a test
-
-kept_by : (p : ℤ → Bool) (xs : List ℤ) (x : ℤ) (q : ℤ → Bool) (b : Bool) → q x ≡ b
-    → list_any p (filter q (x ∷ xs)) ≡ cond b (p x || list_any p (filter q xs)) (list_any p (filter q xs))
-kept_by p xs x q true is = ap (λ (b : Bool). list_any p (cond b (x ∷ filter q xs) (filter q xs))) is
-kept_by p xs x q false is = ap (λ (b : Bool). list_any p (cond b (x ∷ filter q xs) (filter q xs))) is
-
-more_kept : (p q : ℤ → Bool) (xs : List ℤ) (x : ℤ) (b : Bool) → q x ≡ b → list_any p (filter q xs) ≡ true
-    → list_any p (filter q (x ∷ xs)) ≡ true
-more_kept p q xs x true is rest = kept_by p xs x q true is ∙ or_second (p x) (list_any p (filter q xs)) rest
-more_kept p q xs x false is rest = kept_by p xs x q false is ∙ rest
-
-kept_up : (p q : ℤ → Bool) (id : ℤ) (n : ℕ) (a : ℤ) → a ≤ℤ id → id <ℤ (a +ℤ pos n) → q id ≡ true → p id ≡ true
-    → list_any p (filter q (numbers_from a n)) ≡ true
-unfolding numbers_from
-kept_up p q id zero a from below kept met = absurd (nothing_between a id from below)
-kept_up p q id (suc n) a from below kept met =
-    ⊎_elim
-    (λ (same : a ≡ id).
-    kept_by p (numbers_from (a +ℤ pos 1) n) a q true (ap q same ∙ kept)
-    ∙ or_first (p a) (list_any p (filter q (numbers_from (a +ℤ pos 1) n))) (ap p same ∙ met))
-    (λ (other : a ≢ id).
-    more_kept p q (numbers_from (a +ℤ pos 1) n) a (q a) refl
-    (kept_up p q id n (a +ℤ pos 1) (next_up a id from other) (below_next a id n below) kept met))
-    (cases_id a id)
-
-pub any_kept : (r : Registry) (p q : ℤ → Bool) (id : ℤ) → IsRegistry r → IsSome (r.entry id) → q id ≡ true → p id ≡ true
-    → list_any p (filter q ids) ≡ true
-unfolding ids
-any_kept r p q id valid there kept met =
-    let range = entry_range r id valid there in
-    kept_up p q id 4294967295 least_id range.0 range.1 kept met
-
-pub record IsKept (p q : ℤ → Bool) : Type 0 where
-  pub id : ℤ
-  pub kept : q id ≡ true
-  pub met : p id ≡ true
-
-kept_one : (p q : ℤ → Bool) (xs : List ℤ) (x : ℤ) (a b : Bool) → q x ≡ a → p x ≡ b → (list_any p (filter q xs) ≡ true → IsKept p q)
-    → list_any p (filter q (x ∷ xs)) ≡ true → IsKept p q
-kept_one p q xs x true true one two later is = record { id = x; kept = one; met = two }
-kept_one p q xs x true false one two later is =
-    later (ap (λ (b : Bool). b || list_any p (filter q xs)) (sym two) ∙ sym (kept_by p xs x q true one) ∙ is)
-kept_one p q xs x false b one two later is = later (sym (kept_by p xs x q false one) ∙ is)
-
-pub which_kept : (p q : ℤ → Bool) (xs : List ℤ) → list_any p (filter q xs) ≡ true → IsKept p q
-which_kept p q [] is = absurd cc
-which_kept p q (x ∷ xs) is = kept_one p q xs x (q x) (p x) refl refl (which_kept p q xs) is

@@ -26,7 +26,7 @@ use Rattle.pt_service.proofs.Entered.{raised_are}
 use Rattle.prdb_turns.specs.Fronts.{ids_by_block}
 use Rattle.prdb_turns.specs.Turning.{HasTurn, IsTurned, MayTurn as MaySteps, is_under as is_named_under}
 use Rattle.prdb_turns.proofs.Refits.{some_at}
-use Rattle.pt_looks.specs.States.{HoldsState, OfStates, members_of}
+use Rattle.pt_looks.specs.States.{HoldsRecords, OfStates, members_of}
 use Rattle.pt_looks.proofs.Pairs.{is_there}
 use Rattle.pt_changes.proofs.Decided.{done_made, refused_so}
 use Rattle.pt_turns.specs.Deciding.{IsDecided}
@@ -34,8 +34,7 @@ use Rattle.pt_changes.specs.Standing.{IsMeantOf}
 use Rattle.pt_changes.specs.Turning.{MayRenumber, MayTurn, after_turn}
 use Rattle.pt_turns.specs.declared.deciding.Turn.{Turn}
 use Rattle.pt_turns.proofs.Anyone.{any_some}
-use Rattle.pt_turns.proofs.Equal.{after_own}
-use Rattle.pt_turns.proofs.Named.{clash, front_good, front_text, id_of}
+use Rattle.pt_turns.proofs.Named.{after_own, clash, front_good, front_text, id_of}
 use Rattle.pt_turns.proofs.Whole.{steps_may, turned_at, turned_holds}
 
 -- ---- no reason against it
@@ -281,7 +280,7 @@ Turned bytes after e t =
     → MaySteps e t.name.items t.owner t.id (ids_by_block (is_named_under e.name) image) r
     → IsTurned e t.name.items t.owner t.id r m image after)
 
-turned_so : (image : List ℕ) (look after : Option (List ℕ)) (s : State) (e : PrEntry) (t : Turn) → look ≡ Some image → HoldsState image s
+turned_so : (image : List ℕ) (look after : Option (List ℕ)) (s : State) (e : PrEntry) (t : Turn) → look ≡ Some image → HoldsRecords image s
     → MayTurn e t.name.items t.owner t.id s.registry → Turned look after e t
     → after ≡ Some (after_turn e t.name.items t.owner t.id s image)
 turned_so image look after s e t same holds may told =
@@ -330,7 +329,7 @@ turn_made (Some image) b1 bm b2 b3 after low id owner new_id e t u g p ended fou
     let r = s.registry in
     let own = own_at r id e holds.pairs.holds.valid (found s holds) in
     let decided = some_at b1 image
-    (λ i. (s : State) → HoldsState i s → s.registry.entry e.id ≡ Some e
+    (λ i. (s : State) → HoldsRecords i s → s.registry.entry e.id ≡ Some e
     → IsDecided s.registry e low owner new_id (Ok t)) same1 decides s holds own in
     let maxima = some_at bm image
     (λ i. (r : Registry) (m : Members) → Holds i r m → ◌≡◌ {A = ℤ × ℤ} (u, g) (r.max_user, r.max_group)) same_m max r
@@ -353,7 +352,7 @@ turn_fault_cause (Some image) b1 b2 low id owner new_id e t (BadRecord at) found
     let s : State = record { registry = some.0; is_in = some.1.has } in
     let own = own_at s.registry id e some.2.pairs.holds.valid (found s some.2) in
     let decided = some_at b1 image
-    (λ i. (s : State) → HoldsState i s → s.registry.entry e.id ≡ Some e
+    (λ i. (s : State) → HoldsRecords i s → s.registry.entry e.id ≡ Some e
     → IsDecided s.registry e low owner new_id (Ok t)) same1 decides s some.2 own in
     let may = may_decided s.registry e low owner new_id t some.2.pairs.holds.valid own decided new old in
     some_at b2 image (λ i. HasTurn e t.name.items t.owner t.id i → ⊥) same2 cause
@@ -371,7 +370,7 @@ maxima_cause (Some image) b1 b2 b3 low id owner new_id e t (BadRecord at) found 
     let s : State = record { registry = some.0; is_in = some.1.has } in
     let own = own_at s.registry id e some.2.pairs.holds.valid (found s some.2) in
     let decided = some_at b1 image
-    (λ i. (s : State) → HoldsState i s → s.registry.entry e.id ≡ Some e
+    (λ i. (s : State) → HoldsRecords i s → s.registry.entry e.id ≡ Some e
     → IsDecided s.registry e low owner new_id (Ok t)) same1 decides s some.2 own in
     let may = may_decided s.registry e low owner new_id t some.2.pairs.holds.valid own decided new old in
     let left = turned_so image b2 b3 s e t same2 some.2 may turned in

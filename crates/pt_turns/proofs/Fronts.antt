@@ -2,16 +2,12 @@
 use Rattle.std.proofs.Common.{◌≡◌, ℕ, suc, ◌+◌, ◌<◌, Bool, true, false, not, ◌||◌, cond, eqb, List, [], ◌∷◌, ◌++◌, length, get_or, take, drop, refl, sym, ap, ◌∙◌, arith}
 use Rattle.std.specs.List.{list_any, position_or_len, prefix_len}
 use Rattle.std.proofs.lemmas.Bool.{eqb-true}
-use Rattle.std.specs.Prelude.{◌&&◌}
-use Rattle.std.specs.Str.{bytes_eq}
-use Rattle.std.proofs.lemmas.Bool.{and_from, and_parts}
 use Rattle.std.proofs.lemmas.List.{get_or-take, length-take, length-take-le, take_all}
-use Rattle.std.proofs.lemmas.Slice.Eq.{bytes_eq-Decides}
 use Rattle.std.proofs.lemmas.List.Folds.{list_any_none}
 use Rattle.std.proofs.lemmas.List.Sums.{fails_before_first, passes_at_first, split_at_first}
 use Rattle.prdb_layout.specs.Registry.{behind_colon}
 use Rattle.prdb_layout.specs.State.{front_of}
-use Rattle.pt_service.specs.Names.{has_colon, with_front}
+use Rattle.pt_service.specs.Names.{has_colon}
 
 abbrev pub is_colon : ℕ → Bool
 is_colon b = eqb b 58
@@ -91,12 +87,6 @@ parts_of name has =
     ∙ ap (λ (b : ℕ). front_of name ++ b ∷ drop (at_colon name + 1) name) colon
     ∙ ap (λ (n : ℕ). front_of name ++ 58 ∷ drop (n + 1) name) (sym size)
 
--- a name with another front, and its own front again
-pub front_back : (front name : List ℕ) → has_colon name ≡ true → list_any is_colon front ≡ false
-    → with_front (front_of name) (with_front front name) ≡ name
-front_back front name has none =
-    ap (λ (rest : List ℕ). front_of name ++ 58 ∷ rest) (behind_again front (behind_colon name) none) ∙ sym (parts_of name has)
-
 -- ---- a text without a `:` is its own front
 
 none_by : (x : ℕ) (xs : List ℕ) (b : Bool) → is_colon x ≡ b → (b || list_any is_colon xs) ≡ false
@@ -118,33 +108,3 @@ front_all xs none = take_all (at_colon xs) xs (let at = none_at xs none in omega
 pub colon_there : (front rest : List ℕ) → has_colon (front ++ 58 ∷ rest) ≡ true
 colon_there [] rest = refl
 colon_there (x ∷ xs) rest = or_two (is_colon x) (list_any is_colon (xs ++ 58 ∷ rest)) (colon_there xs rest)
-
--- a name is another one with a given front
-same_text : (xs ys : List ℕ) → bytes_eq xs ys ≡ true → xs ≡ ys
-same_text xs ys is = (bytes_eq-Decides xs ys).0 is
-
-to_same : (xs ys : List ℕ) → xs ≡ ys → bytes_eq xs ys ≡ true
-to_same xs ys is = (bytes_eq-Decides xs ys).1 is
-
-abbrev has_parts : (front name x : List ℕ) → Bool
-has_parts front name x = has_colon x && bytes_eq (front_of x) front && bytes_eq (behind_colon x) (behind_colon name)
-
-parts_to : (front name x : List ℕ) → has_parts front name x ≡ true → x ≡ with_front front name
-parts_to front name x is =
-    let two = and_parts (has_colon x && bytes_eq (front_of x) front) (bytes_eq (behind_colon x) (behind_colon name)) is in
-    let one = and_parts (has_colon x) (bytes_eq (front_of x) front) two.0 in
-    parts_of x one.0 ∙ ap (λ (f : List ℕ). f ++ 58 ∷ behind_colon x) (same_text (front_of x) front one.1)
-    ∙ ap (λ (b : List ℕ). front ++ 58 ∷ b) (same_text (behind_colon x) (behind_colon name) two.1)
-
-parts_from : (front name x : List ℕ) → list_any is_colon front ≡ false → x ≡ with_front front name → has_parts front name x ≡ true
-parts_from front name x none is =
-    and_from (has_colon x && bytes_eq (front_of x) front) (bytes_eq (behind_colon x) (behind_colon name))
-    (and_from (has_colon x) (bytes_eq (front_of x) front) (ap has_colon is ∙ colon_there front (behind_colon name))
-    (to_same (front_of x) front (ap front_of is ∙ front_again front (behind_colon name) none)))
-    (to_same (behind_colon x) (behind_colon name) (ap behind_colon is ∙ behind_again front (behind_colon name) none))
-
-pub parts_tell : (front name x : List ℕ) → list_any is_colon front ≡ false → has_parts front name x ≡ bytes_eq x (with_front front name)
-parts_tell front name x none =
-    both_ways (has_parts front name x) (bytes_eq x (with_front front name))
-    (λ is. to_same x (with_front front name) (parts_to front name x is))
-    (λ is. parts_from front name x none (same_text x (with_front front name) is))

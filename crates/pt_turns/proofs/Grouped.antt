@@ -1,27 +1,27 @@
 -- The entries that are named after another one, in the order of their blocks: which they are.
 use Rattle.std.proofs.Common.{◌≡◌, ℕ, ℤ, zero, suc, ◌<◌, Bool, true, false, ◌||◌, cond, List, [], ◌∷◌, ◌++◌, length, Option, Some, None, refl, sym, ap, subst, ◌∙◌, ⊎_elim, arith}
-use Rattle.std.specs.List.{AllByRecursion, find, list_any}
+use Rattle.std.specs.List.{AllByRecursion, list_any}
 use Rattle.std.specs.Ordering.{int_eq}
 use Rattle.std.proofs.lemmas.Bool.{cases_eq, or_cases}
 use Rattle.std.proofs.lemmas.List.Folds.{list_any-append}
 use Rattle.db_blocks.specs.Blocks.{kind_of}
 use Rattle.prdb_layout.specs.Blocks.{block_count}
 use Rattle.prdb_layout.specs.Records.{block_in, entry_in}
-use Rattle.prdb_layout.specs.Registry.{Registry, first_registry}
-use Rattle.prdb_layout.specs.State.{PrEntry, fixed_entries}
-use Rattle.prdb_lists.specs.Members.{Members, no_members}
+use Rattle.prdb_layout.specs.Registry.{Registry}
+use Rattle.prdb_layout.specs.State.{PrEntry}
+use Rattle.prdb_lists.specs.Members.{Members}
 use Rattle.entry_scans.specs.Sought.{is_sought}
 use Rattle.entry_scans.proofs.Told.{sought_from, sought_parts}
 use Rattle.prdb_finds.specs.Records.{Holds}
-use Rattle.prdb_finds.proofs.FirstHolds.{empty_holds}
 use Rattle.prdb_finds.proofs.Told.{told_only, told_there, whole_same}
-use Rattle.prdb_scans.proofs.Told.{holds_one}
 use Rattle.pt_service.specs.Turning.{is_fixed}
 use Rattle.prdb_turns.specs.Fronts.{id_if, ids_before, ids_by_block}
 use Rattle.prdb_turns.specs.Turning.{is_under as is_named_under}
+use Rattle.pt_looks.proofs.Pairs.{is_there}
+use Rattle.pt_changes.proofs.Owned.{not_empty as some_bytes}
 use Rattle.pt_turns.specs.Under.{is_one_under, is_under}
 use Rattle.pt_turns.proofs.Fronts.{both_ways}
-use Rattle.pt_turns.proofs.Named.{clash, id_of, to_id}
+use Rattle.pt_turns.proofs.Named.{id_of, to_id}
 
 -- ---- of so many blocks
 
@@ -128,22 +128,6 @@ groups_are image r m whole z some h =
 
 -- ---- the empty image holds fixed entries alone
 
-found_by : (p : PrEntry → Bool) (x f : PrEntry) (xs : List PrEntry) (b : Bool) → p x ≡ b → cond b (Some x) (find p xs) ≡ Some f
-    → (find p xs ≡ Some f → list_any p xs ≡ true) → list_any p (x ∷ xs) ≡ true
-found_by p x f xs true met at rest = or_first (p x) (list_any p xs) met
-found_by p x f xs false met at rest = or_second (p x) (list_any p xs) (rest at)
-
-found_any : (p : PrEntry → Bool) (xs : List PrEntry) (f : PrEntry) → find p xs ≡ Some f → list_any p xs ≡ true
-found_any p [] f at = absurd cc
-found_any p (x ∷ xs) f at =
-    found_by p x f xs (p x) refl at (λ rest. found_any p xs f rest)
-
-first_fixed : (r : Registry) (e : PrEntry) → r ≡ first_registry → r.entry e.id ≡ Some e → is_fixed e.id ≡ true
-first_fixed r e first at =
-    found_any (λ f. int_eq f.id e.id) fixed_entries e (ap (λ (q : Registry). q.entry e.id) (sym first) ∙ at)
-
 pub not_empty : (image : List ℕ) (r : Registry) (m : Members) (e : PrEntry) → Holds image r m → r.entry e.id ≡ Some e
     → is_fixed e.id ≡ false → 0 < length image
-not_empty [] r m e h at free =
-    absurd (clash (is_fixed e.id) (first_fixed r e (holds_one [] r first_registry m no_members h empty_holds).0 at) free)
-not_empty (b ∷ image) r m e h at free = omega arith
+not_empty image r m e h at free = some_bytes image r m e.id h (is_there (r.entry e.id) e at) free

@@ -7,9 +7,11 @@ pub mod Frames
 pub mod Fronted
 pub mod Fronts
 pub mod Grouped
+pub mod Long
 pub mod Looked
 pub mod Moved
 pub mod Named
+pub mod Others
 pub mod Owned
 pub mod Shared
 pub mod Steps

@@ -40,13 +40,6 @@ moved_same a x = by_id x a (λ same. moved_own a a x same ∙ sym same) (λ othe
 pub before_same : (a z : ℤ) → before a a z ≡ Some z
 before_same a z = by_id z a (λ same. before_new a a z same ∙ ap Some (sym same)) (λ other. before_other a a z other other)
 
--- where an id went
-pub went : (old new x : ℤ) → x ≢ new → before old new (moved old new x) ≡ Some x
-went old new x not_new =
-    by_id x old
-    (λ is. before_new old new (moved old new x) (moved_own old new x is) ∙ ap Some (sym is))
-    (λ apart. ap (before old new) (moved_other old new x apart) ∙ before_other old new x not_new apart)
-
 -- ---- which ids there are
 
 pub not_zero : (id : ℤ) → IsId id → id ≢ pos 0

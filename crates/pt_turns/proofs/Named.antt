@@ -18,7 +18,6 @@ use Rattle.pt_service.proofs.GroupNames.{group_form}
 use Rattle.pt_changes.specs.Turning.{MayRename}
 use Rattle.pt_turns.specs.Under.{is_under}
 use Rattle.pt_turns.proofs.Anyone.{any_some}
-use Rattle.pt_turns.proofs.Equal.{after_by}
 use Rattle.pt_turns.proofs.Fronts.{behind_again, colon_there, front_all, front_again, front_free, is_colon}
 
 -- ---- tests
@@ -27,14 +26,14 @@ pub clash : (b : Bool) → b ≡ true → b ≡ false → ⊥
 clash true is fails = absurd cc
 clash false is fails = absurd cc
 
-not_to : (b : Bool) → b ≡ false → not b ≡ true
+pub not_to : (b : Bool) → b ≡ false → not b ≡ true
 not_to true is = absurd cc
 not_to false is = refl
 
-text_of : (xs ys : List ℕ) → bytes_eq xs ys ≡ true → xs ≡ ys
+pub text_of : (xs ys : List ℕ) → bytes_eq xs ys ≡ true → xs ≡ ys
 text_of xs ys is = (bytes_eq-Decides xs ys).0 is
 
-to_text : (xs ys : List ℕ) → xs ≡ ys → bytes_eq xs ys ≡ true
+pub to_text : (xs ys : List ℕ) → xs ≡ ys → bytes_eq xs ys ≡ true
 to_text xs ys is = (bytes_eq-Decides xs ys).1 is
 
 pub id_of : (a b : ℤ) → int_eq a b ≡ true → a ≡ b
@@ -57,6 +56,22 @@ whole_free whole name is = ap has_colon (sym (under_parts whole name is).1) ∙ 
 pub not_itself : (name : List ℕ) → is_under name name ≡ true → ⊥
 not_itself name is = clash (has_colon name) (under_parts name name is).0 (whole_free name name is)
 
+-- ---- the name of an entry afterwards, by its cases
+
+abbrev pub goes_under : PrEntry → PrEntry → Bool
+goes_under e f = is_under e.name f.name
+
+abbrev after_cases : (e : PrEntry) → (new : List ℕ) → PrEntry → (own under : Bool) → List ℕ
+after_cases e new f own under = cond own new (cond under (with_front (front_of new) f.name) f.name)
+
+pub after_by : (e : PrEntry) (new : List ℕ) (f : PrEntry) (own under : Bool) → int_eq f.id e.id ≡ own → goes_under e f ≡ under
+    → name_after e new f ≡ after_cases e new f own under
+after_by e new f own under one two =
+    ap (λ (b : Bool). after_cases e new f b (goes_under e f)) one ∙ ap (λ (b : Bool). after_cases e new f own b) two
+
+pub after_own : (e : PrEntry) (new : List ℕ) → name_after e new e ≡ new
+after_own e new = after_by e new e true (goes_under e e) (to_id e.id e.id refl) refl
+
 -- another front, a second time
 pub front_twice : (front one name : List ℕ) → list_any is_colon one ≡ false → with_front front (with_front one name) ≡ with_front front name
 front_twice front one name none = ap (λ (b : List ℕ). front ++ 58 ∷ b) (behind_again one (behind_colon name) none)
@@ -68,7 +83,7 @@ pub record IsTurning (r : Registry) (e : PrEntry) (name : List ℕ) (owner : ℤ
   pub valid : IsRegistry r
   pub may : MayRename e name owner r
 
-same_at : (o : Option PrEntry) (e f : PrEntry) → o ≡ Some e → o ≡ Some f → e ≡ f
+pub same_at : (o : Option PrEntry) (e f : PrEntry) → o ≡ Some e → o ≡ Some f → e ≡ f
 same_at o e f one two = let both : Some e ≡ Some f = sym one ∙ two in cc
 
 pub own_at : (r : Registry) (id : ℤ) (g : PrEntry) → IsRegistry r → r.entry id ≡ Some g → r.entry g.id ≡ Some g
@@ -86,10 +101,6 @@ other_id r e name owner f t at is =
 pub after_under : (r : Registry) (e : PrEntry) (name : List ℕ) (owner : ℤ) (f : PrEntry) → IsTurning r e name owner → r.entry f.id ≡ Some f
     → is_under e.name f.name ≡ true → name_after e name f ≡ with_front (front_of name) f.name
 after_under r e name owner f t at is = after_by e name f false true (other_id r e name owner f t at is) is
-
-pub after_other : (e : PrEntry) (name : List ℕ) (f : PrEntry) → int_eq f.id e.id ≡ false → is_under e.name f.name ≡ false
-    → name_after e name f ≡ f.name
-after_other e name f other is = after_by e name f false false other is
 
 -- no two entries have one name afterwards
 inner : (r : Registry) (e : PrEntry) (name : List ℕ) (f g : PrEntry) → IsRegistry r → r.entry f.id ≡ Some f → r.entry g.id ≡ Some g
@@ -212,7 +223,7 @@ under_good r e name owner f t at is =
 
 -- ---- what an entry is by itself, with another name
 
-name_form : (id : ℤ) (name : List ℕ) → is_name_for id name ≡ true → HasForm name
+pub name_form : (id : ℤ) (name : List ℕ) → is_name_for id name ≡ true → HasForm name
 name_form (pos n) name is = form name is
 name_form (negsuc n) name is = group_form name is
 

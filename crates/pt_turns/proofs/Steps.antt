@@ -22,15 +22,14 @@ use Rattle.prdb_turns.proofs.Steps.{whole_holds}
 use Rattle.prdb_turns.proofs.Turned.{id_law}
 use Rattle.pt_looks.proofs.Pairs.{is_there}
 use Rattle.pt_changes.specs.Turning.{MayRenumber, its_in}
+use Rattle.pt_changes.proofs.Owned.{its_told}
 use Rattle.pt_turns.specs.Under.{is_one_under, is_under}
 use Rattle.pt_turns.proofs.Between.{first_other, first_own, moved_entry, second_other, second_own}
-use Rattle.pt_turns.proofs.Equal.{after_by, after_own}
 use Rattle.pt_turns.proofs.Fronted.{may_fronts}
 use Rattle.pt_turns.proofs.Fronts.{parts_of}
 use Rattle.pt_turns.proofs.Grouped.{groups_under, not_empty}
 use Rattle.pt_turns.proofs.Moved.{below_is, is_other, moved_other, moved_own, not_zero}
-use Rattle.pt_turns.proofs.Named.{IsTurning, clash, names_apart, own_at, record_with, to_id, under_parts}
-use Rattle.pt_turns.proofs.Owned.{its_told}
+use Rattle.pt_turns.proofs.Named.{IsTurning, after_by, after_own, clash, names_apart, own_at, record_with, to_id, under_parts}
 use Rattle.pt_turns.proofs.Turnable.{IsTurnable, fronting, new_apart, not_fixed, turning}
 
 -- ---- its name

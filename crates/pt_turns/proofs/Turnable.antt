@@ -17,12 +17,11 @@ use Rattle.pt_looks.proofs.Pairs.{is_there, some_is}
 use Rattle.pt_changes.specs.Turning.{MayRenumber, MayTurn}
 use Rattle.pt_turns.specs.Under.{is_one_under, is_under}
 use Rattle.pt_turns.proofs.Between.{midway, third_gone, third_maxima, third_other, third_own}
-use Rattle.pt_turns.proofs.Equal.{after_by, after_own}
 use Rattle.pt_turns.proofs.Fixed.{fixed_free}
 use Rattle.pt_turns.proofs.Fronted.{IsFronting, all_fronted, fronts_are, last_name}
 use Rattle.pt_turns.proofs.Fronts.{front_free}
 use Rattle.pt_turns.proofs.Moved.{before_new, before_old, before_other, is_other, moved_other}
-use Rattle.pt_turns.proofs.Named.{IsTurning, clash, names_apart, not_itself, to_id, under_good}
+use Rattle.pt_turns.proofs.Named.{IsTurning, after_by, after_own, clash, names_apart, not_itself, to_id, under_good}
 
 -- all that is known of an entry that is to have another name, owner and id
 pub record IsTurnable (r : Registry) (e : PrEntry) (name : List ℕ) (owner id : ℤ) : Type 0 where

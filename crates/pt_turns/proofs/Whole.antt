@@ -14,7 +14,7 @@ use Rattle.prdb_turns.specs.Owners.{after_gives}
 use Rattle.prdb_turns.specs.Refits.{after_refit}
 use Rattle.prdb_turns.specs.Turning.{MayTurn as MaySteps, IsTurned, after_id, after_turn as after_steps, first, is_under as is_named_under, named, second, third, with_pairs, with_turn}
 use Rattle.prdb_turns.proofs.Refits.{refits_hold}
-use Rattle.pt_looks.specs.States.{HoldsState, members_of}
+use Rattle.pt_looks.specs.States.{HoldsRecords, members_of}
 use Rattle.pt_looks.proofs.Pairs.{is_there}
 use Rattle.pt_changes.specs.Turning.{MayTurn, after_turn, its_in}
 use Rattle.pt_turns.proofs.Grouped.{groups_are, not_empty}
@@ -58,7 +58,7 @@ pairs_are old new s = pairs_by old new s (int_eq new old) refl
 
 -- ---- the image
 
-turnable : (image : List ℕ) (s : State) (e : PrEntry) (name : List ℕ) (owner id : ℤ) → HoldsState image s
+turnable : (image : List ℕ) (s : State) (e : PrEntry) (name : List ℕ) (owner id : ℤ) → HoldsRecords image s
     → MayTurn e name owner id s.registry → IsTurnable s.registry e name owner id
 turnable image s e name owner id holds may = record { valid = holds.pairs.holds.valid; may = may }
 
@@ -66,7 +66,7 @@ turnable image s e name owner id holds may = record { valid = holds.pairs.holds.
 abbrev its_of : List ℕ → State → PrEntry → (name : List ℕ) → List ℤ
 its_of image s e name = its_in (whole (after_refit (named name) (s.registry.entry e.id) image)) (first e name s.registry) e.id
 
-both_told : (image : List ℕ) (s : State) (e : PrEntry) (name : List ℕ) (owner id : ℤ) → HoldsState image s
+both_told : (image : List ℕ) (s : State) (e : PrEntry) (name : List ℕ) (owner id : ℤ) → HoldsRecords image s
     → MayTurn e name owner id s.registry → HasBoth image s.registry (members_of s) e name (its_of image s e name) (elements s e.id)
 both_told image s e name owner id holds may = record {
   own = its_are image s.registry (members_of s) e name owner id holds (turnable image s e name owner id holds may);
@@ -74,7 +74,7 @@ both_told image s e name owner id holds may = record {
 }
 
 -- each step may be made
-pub steps_may : (image : List ℕ) (s : State) (e : PrEntry) (name : List ℕ) (owner id : ℤ) → HoldsState image s
+pub steps_may : (image : List ℕ) (s : State) (e : PrEntry) (name : List ℕ) (owner id : ℤ) → HoldsRecords image s
     → MayTurn e name owner id s.registry
     → MaySteps e name owner id (ids_by_block (is_named_under e.name) image) s.registry
 steps_may image s e name owner id holds may =
@@ -82,7 +82,7 @@ steps_may image s e name owner id holds may =
     (turnable image s e name owner id holds may) (both_told image s e name owner id holds may)
 
 -- and the bytes that they leave are these
-pub turned_at : (image : List ℕ) (s : State) (e : PrEntry) (name : List ℕ) (owner id : ℤ) (after : Option (List ℕ)) → HoldsState image s
+pub turned_at : (image : List ℕ) (s : State) (e : PrEntry) (name : List ℕ) (owner id : ℤ) (after : Option (List ℕ)) → HoldsRecords image s
     → MayTurn e name owner id s.registry → IsTurned e name owner id s.registry (members_of s) image after
     → after ≡ Some (after_turn e name owner id s image)
 unfolding after_turn
@@ -102,9 +102,9 @@ steps_hold image r m e name owner id its others h t both =
     (third_holds image r m e name owner id its others h t both)
     (may_steps image r m e name owner id its others h t both).fronts_may
 
-pub turned_holds : (image : List ℕ) (s : State) (e : PrEntry) (name : List ℕ) (owner id : ℤ) → HoldsState image s
+pub turned_holds : (image : List ℕ) (s : State) (e : PrEntry) (name : List ℕ) (owner id : ℤ) → HoldsRecords image s
     → MayTurn e name owner id s.registry
-    → HoldsState (after_turn e name owner id s image) (with_turned e name owner id s)
+    → HoldsRecords (after_turn e name owner id s image) (with_turned e name owner id s)
 unfolding after_turn
 turned_holds image s e name owner id holds may =
     let r = s.registry in

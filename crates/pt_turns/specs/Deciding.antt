@@ -1,5 +1,6 @@
 -- What is decided of an entry that is to get another name, owner or id, once the entry of its owner is found.
-use Rattle.std.specs.Prelude.{ℕ, ℤ, pos, ◌≡◌, ◌==◌, ◌&&◌, ◌||◌, not, is_none, Bool, false, List, length, Option, Some, None, Result, Ok, Err, if◌then◌else◌}
+use Rattle.std.specs.Prelude.{ℕ, ℤ, pos, ◌≡◌, ◌==◌, ◌&&◌, ◌||◌, not, is_none, Bool, List, length, nat_lt, Option, Some, None, Result, Ok}
+use Rattle.std.specs.Prelude.{Err, if◌then◌else◌}
 use Rattle.std.specs.List.{list_any}
 use Rattle.std.specs.Ordering.{int_eq}
 use Rattle.std.specs.Str.{bytes_eq}
@@ -8,8 +9,8 @@ use Rattle.prdb_layout.specs.State.{PrEntry, front_of}
 use Rattle.pt_service.specs.Names.{has_colon, is_name_of, with_front}
 use Rattle.pt_service.specs.Refusals as rule
 use Rattle.pt_service.specs.State.{entries, is_group, is_id}
-use Rattle.pt_service.specs.Turning.{front_of_entry, given_or, has_equal_names, has_long_name, is_fixed, name_after, new_name, turn_fault, turns_its_groups}
-use Rattle.pt_turns.specs.Under.{is_under, under}
+use Rattle.pt_service.specs.Turning.{front_of_entry, given_or, has_equal_names, has_long_name, is_fixed, new_name, turn_fault}
+use Rattle.pt_service.specs.Turning.{turns_its_groups}
 use Rattle.pt_turns.specs.declared.deciding.Turn.{Turn}
 
 -- the name that an entry gets
@@ -35,28 +36,28 @@ misnamed_by e name owner found =
     is_group e.id && has_colon name && not (int_eq (given_or owner e.owner) (pos 0))
     && not (bytes_eq (front_of name) (front_of_entry found (front_of name)))
 
--- the name of an entry of this id and name, once an entry has a new one
-abbrev pub name_then : PrEntry → (new : List ℕ) → (id : ℤ) → (name : List ℕ) → List ℕ
-name_then e new id name = if int_eq id e.id then new else if is_under e.name name then with_front (front_of new) name else name
-
--- an entry other than that of an id has a name afterwards
-abbrev pub is_shared : Registry → PrEntry → (new : List ℕ) → (id : ℤ) → (name : List ℕ) → Bool
-is_shared r e new id name = list_any (λ g. not (int_eq id g.id) && bytes_eq name (name_after e new g)) (entries r)
-
 -- what is decided
 abbrev pub IsDecided : Registry → PrEntry → (name : List ℕ) → (owner new_id : ℤ) → Result Turn ℕ → Type 0
 IsDecided r e name owner new_id (Err rule) = turn_fault r e name owner new_id ≡ Some rule
 IsDecided r e name owner new_id (Ok t) = (turn_fault r e name owner new_id ≡ None) × (t.name.items ≡ new_name r e name owner)
     × (t.owner ≡ given_or owner e.owner) × (t.id ≡ given_or new_id e.id)
 
--- the entry of an id, if there is one, shares its name with another one afterwards
-abbrev pub shares_one : Registry → PrEntry → (new : List ℕ) → Option PrEntry → Bool
-shares_one r e new None = false
-shares_one r e new (Some f) = is_shared r e new f.id (name_after e new f)
+-- ---- names that turn
 
--- the entry itself does, or one that is named after it
-abbrev pub changed_share : Registry → PrEntry → (new : List ℕ) → Bool
-changed_share r e new = is_shared r e new e.id new || list_any (λ id. shares_one r e new (r.entry id)) (under r e.name)
+-- an entry has this name
+abbrev pub has_name : Registry → (name : List ℕ) → Bool
+has_name r name = list_any (λ g. bytes_eq g.name name) (entries r)
+
+-- the name of a group that follows a new one is too long
+abbrev pub is_long : (new : List ℕ) → PrEntry → Bool
+is_long new g = nat_lt 63 (length (with_front (front_of new) g.name))
+
+-- a group of this name that follows a new one has that one afterwards, or another one that an entry has
+abbrev pub shares_by : Registry → (new name after : List ℕ) → Bool
+shares_by r new name after = bytes_eq after new || (not (bytes_eq after name) && has_name r after)
+
+abbrev pub shares_one : Registry → (new name : List ℕ) → Bool
+shares_one r new name = shares_by r new name (with_front (front_of new) name)
 
 -- the rule by which names do not turn so
 abbrev pub name_fault : Registry → PrEntry → (new : List ℕ) → Option ℕ

@@ -1,5 +1,6 @@
 //! What becomes of an entry that is to get another name, owner or id, and why it does not, over a draft.
-ghost use Rattle.std.specs.Prelude.{◌≡◌, ◌≤◌, ◌==◌, ◌&&◌, Some, IfOk, IfErr, IsErrOf, is_none, is_some, length, not, pos, true};
+ghost use Rattle.std.specs.Prelude.{◌≡◌, ◌≤◌, ◌==◌, ◌&&◌, ◌||◌, Some, IfOk, IfErr, IsErrOf, IsSome};
+ghost use Rattle.std.specs.Prelude.{is_none, is_some, length, nat_lt, not, pos, true};
 ghost use Rattle.std.specs.List.{list_any};
 ghost use Rattle.std.specs.Option.{option_map};
 ghost use Rattle.std.specs.Ordering.{int_eq};
@@ -9,21 +10,22 @@ ghost use Rattle.prdb_layout.specs.RecordEnds.{seen};
 ghost use Rattle.prdb_layout.specs.State.{front_of};
 ghost use Rattle.prdb_finds.specs.Ends.{HasItsCause};
 ghost use Rattle.pt_service.specs.Names.{has_colon, is_name_of};
-ghost use Rattle.pt_service.specs.Turning.{front_of_entry, given_or, has_equal_names, has_long_name, owns_another, turns_its_groups};
+ghost use Rattle.pt_service.specs.Turning.{front_of_entry, given_or, owns_another, turns_its_groups};
 ghost use Rattle.pt_looks.specs.States.{OfStates};
 ghost use Rattle.pt_service.specs.State.{is_group, is_id};
-ghost use Rattle.pt_turns.specs.Deciding.{IsDecided, given_fault, is_shared, misnamed_by, name_by, name_fault, shares_one};
+ghost use Rattle.pt_turns.specs.Deciding.{IsDecided, given_fault, has_name, is_long, misnamed_by, name_by, name_fault, shares_one};
 
-use crate::names::{Renaming, name_after};
-use crate::sought::{AnotherOwned, LongAfter, SharesAfter, is_any, under};
+use crate::names::len_with_front;
+use crate::sought::groups_under;
 use db_image::{Draft, ImageRead, RecordFault};
+use prdb_finds::owned_ids;
 use prdb_layout::PrEntry;
 use prdb_turns::with_front;
 use pt_changes::is_fixed;
 use pt_looks::entry_of;
 use pt_service::{
-    BAD_ARGUMENT, BAD_NAME, ID_EXISTS, NAME_EXISTS, NO_ENTRY, NOT_PERMITTED, front_of, has_colon,
-    is_group, is_id, is_name_of,
+    BAD_ARGUMENT, BAD_NAME, ID_EXISTS, MAX_NAME, NAME_EXISTS, NO_ENTRY, NOT_PERMITTED,
+    entry_of_name, front_of, has_colon, is_group, is_id, is_name_of,
 };
 use std::alloc::Global;
 use ubik_types::NoMemory;
@@ -60,7 +62,8 @@ fn new_name(
     given: Given<'_>,
     owner: &Option<PrEntry>,
 ) -> Result<Vec<u8>, NoMemory>
-    ensures { IfOk result (λ name. name.items ≡ name_by (seen e.now) given.entry.name.now given.entry.owner (option_map seen owner.now)) }
+    ensures { IfOk result (λ name. name.items
+        ≡ name_by (seen e.now) given.entry.name.now given.entry.owner (option_map seen owner.now)) }
 {
     let name = e.name.as_slice();
     if !given.name.is_empty() {
@@ -123,14 +126,25 @@ fn is_misnamed(e: &PrEntry, given: Given<'_>, owner: &Option<PrEntry>) -> bool
     has_group_front(e.id, name) && has_owner && front_of(name) != front_under(owner, name)
 }
 
-/// Whether an entry owns another group.
+/// Whether an id other than one is among these.
+fn has_other(ids: &[i32], id: i32) -> bool
+    ensures { result ≡ list_any (λ other. not (int_eq other id)) ids.now }
+{
+    ids.iter().any(|other| *other != id)
+}
+
+/// Whether an entry owns another group. Its groups are found along their own chain.
 fn owns_another<I: ImageRead>(alloc: Global, d: &mut Draft<I>, id: i32) -> Result<bool, RecordFault>
     requires { d.old.len ≤ 16777216 }
-    ensures found { IfOk result (λ another. OfStates d.old.bytes (λ s. another ≡ owns_another s.registry id)) }
+    ensures found { IfOk result (λ another. OfStates d.old.bytes
+        (λ s. IsSome (s.registry.entry id) → another ≡ owns_another s.registry id)) }
     ensures fault { IfErr result (HasItsCause d.old.bytes) }
     ensures frame { OnlyLooks I.ImageRead d.old d.new (IsErrOf result RecordFault.DiskFault) }
 {
-    is_any(alloc, d, &AnotherOwned { owner: id })
+    let Some(ids) = owned_ids(alloc, d, id)? else {
+        return Ok(false);
+    };
+    Ok(has_other(&ids, id))
 }
 
 /// Whether a name has a `:`, and another one has other text before its own.
@@ -144,87 +158,89 @@ fn turns_front(name: &[u8], new: &[u8]) -> bool
 fn turns_its_groups<I: ImageRead>(
     alloc: Global,
     d: &mut Draft<I>,
-    renaming: Renaming<'_>,
+    e: &PrEntry,
+    new: &[u8],
 ) -> Result<bool, RecordFault>
     requires { d.old.len ≤ 16777216 }
-    ensures found { IfOk result (λ is. OfStates d.old.bytes (λ s. is ≡ turns_its_groups s.registry (seen renaming.entry.entry.now) renaming.entry.name.now)) }
+    ensures found { IfOk result (λ is. OfStates d.old.bytes (λ s. s.registry.entry e.now.id ≡ Some (seen e.now)
+        → is ≡ turns_its_groups s.registry (seen e.now) new.now)) }
     ensures fault { IfErr result (HasItsCause d.old.bytes) }
     ensures frame { OnlyLooks I.ImageRead d.old d.new (IsErrOf result RecordFault.DiskFault) }
 {
-    let new = renaming.name;
-    if !turns_front(renaming.entry.name.as_slice(), new) {
+    if !turns_front(e.name.as_slice(), new) {
         return Ok(false);
     }
-    owns_another(alloc, d, renaming.entry.id)
+    owns_another(alloc, d, e.id)
 }
 
-/// Whether an entry would have too long a name.
-fn has_long_name<I: ImageRead>(
-    alloc: Global,
-    d: &mut Draft<I>,
-    renaming: Renaming<'_>,
-) -> Result<bool, RecordFault>
+/// Whether a group that follows a name would have too long a name.
+fn is_long(g: &PrEntry, new: &[u8]) -> bool
+    ensures { result ≡ is_long new.now (seen g.now) }
+{
+    len_with_front(front_of(new), g.name.as_slice()) > MAX_NAME
+}
+
+/// Whether one of the groups that follow a name would have too long a name.
+fn has_long_group(new: &[u8], groups: &[PrEntry]) -> bool
+    ensures { result ≡ list_any (λ g. is_long new.now (seen g)) groups.now }
+{
+    groups.iter().any(|g| is_long(g, new))
+}
+
+/// Whether a name is too long, or that of one of the groups that follow it would be. No other name grows.
+fn has_long_name(new: &[u8], groups: &[PrEntry]) -> bool
+    ensures { result ≡ (nat_lt 63 (length new.now) || list_any (λ g. is_long new.now (seen g)) groups.now) }
+{
+    new.len() > MAX_NAME || has_long_group(new, groups)
+}
+
+/// Whether an entry has a name, which is in lower case.
+fn has_name<I: ImageRead>(alloc: Global, d: &mut Draft<I>, name: &[u8]) -> Result<bool, RecordFault>
     requires { d.old.len ≤ 16777216 }
-    ensures found { IfOk result (λ is. OfStates d.old.bytes (λ s. is ≡ has_long_name s.registry (seen renaming.entry.entry.now) renaming.entry.name.now)) }
+    ensures found { IfOk result (λ has. OfStates d.old.bytes (λ s. has ≡ has_name s.registry name.now)) }
     ensures fault { IfErr result (HasItsCause d.old.bytes) }
     ensures frame { OnlyLooks I.ImageRead d.old d.new (IsErrOf result RecordFault.DiskFault) }
 {
-    is_any(alloc, d, &LongAfter { renaming })
+    Ok(entry_of_name(alloc, d, name)?.is_some())
 }
 
-/// Whether an entry other than that of an id would have a name.
-fn is_shared<I: ImageRead>(
-    alloc: Global,
-    d: &mut Draft<I>,
-    renaming: Renaming<'_>,
-    id: i32,
-    name: &[u8],
-) -> Result<bool, RecordFault>
-    requires { d.old.len ≤ 16777216 }
-    ensures found { IfOk result (λ is. OfStates d.old.bytes (λ s. is ≡ is_shared s.registry (seen renaming.entry.entry.now)
-        renaming.entry.name.now id name.now)) }
-    ensures fault { IfErr result (HasItsCause d.old.bytes) }
-    ensures frame { OnlyLooks I.ImageRead d.old d.new (IsErrOf result RecordFault.DiskFault) }
-{
-    let other = SharesAfter { renaming, id, name };
-    is_any(alloc, d, &other)
-}
-
-/// Whether the entry of an id, if there is one, would share its name with another one.
+/// Whether a group of a name that follows a new one would share it: with the entry that has the new one, or with one whose name stays.
 fn shares_one<I: ImageRead>(
     alloc: Global,
     d: &mut Draft<I>,
-    renaming: Renaming<'_>,
-    id: i32,
+    new: &[u8],
+    name: &[u8],
 ) -> Result<bool, RecordFault>
     requires { d.old.len ≤ 16777216 }
-    ensures found { IfOk result (λ is. OfStates d.old.bytes (λ s. is ≡ shares_one s.registry (seen renaming.entry.entry.now)
-        renaming.entry.name.now (s.registry.entry id))) }
+    ensures found { IfOk result (λ is. OfStates d.old.bytes (λ s. is ≡ shares_one s.registry new.now name.now)) }
     ensures fault { IfErr result (HasItsCause d.old.bytes) }
     ensures frame { OnlyLooks I.ImageRead d.old d.new (IsErrOf result RecordFault.DiskFault) }
 {
-    let Some(e) = entry_of(alloc, d, id)? else {
+    let after = with_front(alloc, front_of(new), name)?;
+    if after.as_slice() == new {
+        return Ok(true);
+    }
+    if after.as_slice() == name {
         return Ok(false);
-    };
-    let after = name_after(alloc, renaming, e.id, e.name.as_slice())?;
-    is_shared(alloc, d, renaming, e.id, &after)
+    }
+    has_name(alloc, d, &after)
 }
 
-/// Whether one of the entries of these ids would share its name with another one.
+/// Whether one of the groups that follow a new name would share its own.
 fn shares_any<I: ImageRead>(
     alloc: Global,
     d: &mut Draft<I>,
-    renaming: Renaming<'_>,
-    ids: &[i32],
+    new: &[u8],
+    groups: &[PrEntry],
 ) -> Result<bool, RecordFault>
     requires { d.old.len ≤ 16777216 }
-    ensures found { IfOk result (λ is. OfStates d.old.bytes (λ s. is ≡ list_any (λ id. shares_one s.registry (seen renaming.entry.entry.now)
-        renaming.entry.name.now (s.registry.entry id)) ids.now)) }
+    ensures found { IfOk result (λ is. OfStates d.old.bytes
+        (λ s. is ≡ list_any (λ g. shares_one s.registry new.now (seen g).name) groups.now)) }
     ensures fault { IfErr result (HasItsCause d.old.bytes) }
     ensures frame { OnlyLooks I.ImageRead d.old d.new (IsErrOf result RecordFault.DiskFault) }
 {
-    for id in ids {
-        let shares = shares_one(alloc, d, renaming, *id)?;
+    for g in groups {
+        let shares = shares_one(alloc, d, new, g.name.as_slice())?;
         if shares {
             return Ok(true);
         }
@@ -232,59 +248,60 @@ fn shares_any<I: ImageRead>(
     Ok(false)
 }
 
-/// Whether an entry keeps its name.
-fn keeps_name(renaming: Renaming<'_>) -> bool
-    ensures { result ≡ bytes_eq renaming.entry.name.now renaming.entry.entry.now.name }
-{
-    let new = renaming.name;
-    let old = renaming.entry.name.as_slice();
-    new == old
-}
-
-/// Whether two entries would have one name. Names differ before, so one of the two is the entry itself, or named after it.
+/// Whether two entries would have one name, where an entry gets another one and these groups follow it. Names differ before, and those
+/// that follow differ from each other, so one of the two has the new name, or follows it. What has that name now keeps it.
 fn has_equal_names<I: ImageRead>(
     alloc: Global,
     d: &mut Draft<I>,
-    renaming: Renaming<'_>,
+    new: &[u8],
+    groups: &[PrEntry],
 ) -> Result<bool, RecordFault>
     requires { d.old.len ≤ 16777216 }
-    ensures found { IfOk result (λ is. OfStates d.old.bytes (λ s. s.registry.entry renaming.entry.entry.now.id ≡ Some (seen renaming.entry.entry.now)
-        → is ≡ has_equal_names s.registry (seen renaming.entry.entry.now) renaming.entry.name.now)) }
+    ensures found { IfOk result (λ is. OfStates d.old.bytes (λ s. is ≡ (has_name s.registry new.now
+        || list_any (λ g. shares_one s.registry new.now (seen g).name) groups.now))) }
     ensures fault { IfErr result (HasItsCause d.old.bytes) }
     ensures frame { OnlyLooks I.ImageRead d.old d.new (IsErrOf result RecordFault.DiskFault) }
 {
-    if keeps_name(renaming) {
-        return Ok(false);
-    }
-    let own = is_shared(alloc, d, renaming, renaming.entry.id, renaming.name)?;
-    if own {
+    let taken = has_name(alloc, d, new)?;
+    if taken {
         return Ok(true);
     }
-    let groups = under(alloc, d, renaming.entry.name.as_slice())?;
-    shares_any(alloc, d, renaming, &groups)
+    shares_any(alloc, d, new, groups)
 }
 
-/// The rule by which names do not turn so.
+/// Whether a name is the one that an entry has.
+fn keeps_name(e: &PrEntry, new: &[u8]) -> bool
+    ensures { result ≡ bytes_eq new.now e.now.name }
+{
+    new == e.name.as_slice()
+}
+
+/// The rule by which names do not turn so. None where the entry keeps its name, as they all stay then. One pass over the blocks at most:
+/// for the groups that are named after it.
 fn name_fault<I: ImageRead>(
     alloc: Global,
     d: &mut Draft<I>,
-    renaming: Renaming<'_>,
+    e: &PrEntry,
+    new: &[u8],
 ) -> Result<Option<u32>, RecordFault>
     requires { d.old.len ≤ 16777216 }
-    ensures found { IfOk result (λ fault. OfStates d.old.bytes (λ s. s.registry.entry renaming.entry.entry.now.id ≡ Some (seen renaming.entry.entry.now)
-        → fault ≡ name_fault s.registry (seen renaming.entry.entry.now) renaming.entry.name.now)) }
+    ensures found { IfOk result (λ fault. OfStates d.old.bytes (λ s. s.registry.entry e.now.id ≡ Some (seen e.now)
+        → fault ≡ name_fault s.registry (seen e.now) new.now)) }
     ensures fault { IfErr result (HasItsCause d.old.bytes) }
     ensures frame { OnlyLooks I.ImageRead d.old d.new (IsErrOf result RecordFault.DiskFault) }
 {
-    let turns = turns_its_groups(alloc, d, renaming)?;
+    if keeps_name(e, new) {
+        return Ok(None);
+    }
+    let turns = turns_its_groups(alloc, d, e, new)?;
     if turns {
         return Ok(Some(NOT_PERMITTED));
     }
-    let long = has_long_name(alloc, d, renaming)?;
-    if long {
+    let groups = groups_under(alloc, d, e.name.as_slice())?;
+    if has_long_name(new, &groups) {
         return Ok(Some(BAD_NAME));
     }
-    let equal = has_equal_names(alloc, d, renaming)?;
+    let equal = has_equal_names(alloc, d, new, &groups)?;
     if equal {
         return Ok(Some(NAME_EXISTS));
     }
@@ -342,11 +359,7 @@ pub(crate) fn decide<I: ImageRead>(
         return Ok(Err(BAD_NAME));
     }
     let name = new_name(alloc, e, given, &its_owner)?;
-    let renaming = Renaming {
-        entry: e,
-        name: &name,
-    };
-    let fault = name_fault(alloc, d, renaming)?;
+    let fault = name_fault(alloc, d, e, &name)?;
     if let Some(rule) = fault {
         return Ok(Err(rule));
     }

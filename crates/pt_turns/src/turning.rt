@@ -19,6 +19,9 @@ use std::alloc::Global;
 /// Gives an entry another name, owner or id (ptserver's changeentry). An empty name, an owner 0 and a new id 0 stand for none given.
 /// Groups that are named after the entry follow its name, and a given id raises the maximum that it is past. A refusal leaves the bytes;
 /// after an `Err` the draft may hold a part of the change, and is to be dropped.
+///
+/// It makes three passes over the blocks at most, however many groups follow: one before it is decided, where a name without a `:` changes,
+/// one for the groups that are to follow, and one for the users that the entry owns, where its id changes. All else is found along chains.
 pub fn change_entry<I: ImageRead>(
     alloc: Global,
     d: &mut Draft<I>,

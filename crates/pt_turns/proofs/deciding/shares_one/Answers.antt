@@ -1,29 +1,35 @@
-use Rattle.std.proofs.Common.{◌∙◌, rules}
-use Rattle.std.specs.Prelude.{FitsSigned}
-use Rattle.std.specs.Int.{w32}
-use Rattle.std.proofs.lemmas.Int.{to_z-of_z}
-use Rattle.prdb_layout.specs.RecordEnds.{seen}
-use Rattle.pt_turns.proofs.Shared.{shares_none, shares_some}
+use Rattle.std.proofs.Common.{sym, ◌∙◌}
+use Rattle.pt_turns.proofs.Shared.{shares_new, shares_none, shares_taken}
 use Rattle.pt_turns.proofs.deciding.shares_one.Goals as goal
 
-pub returns-in_default-clause-found : goal.returns-in_default-clause-found
-returns-in_default-clause-found g c =
-    let fits = c.ranges.id in
-    let found = c.in_ok-e.ensures.found in
-    let none = rw c.in_default.is at found in
-    shares_none c.args.d.now.bytes (seen c.args.renaming.entry.now) c.args.renaming.name.now c.args.id (simp to_z-of_z at none)
+pub returns-then-eq-clause-found : goal.returns-then-eq-clause-found
+returns-then-eq-clause-found g c =
+    let front = c.front_of.ensures in
+    let named = c.in_ok-after.ensures in
+    let text = c.as_slice.ensures.value in
+    let test = sym c.eq.ensures ∙ c.if-eq.true in
+    shares_new c.args.d.now.bytes c.args.new.now c.args.name.now c.in_ok-after.after.items (rw front at named) (rw text at test)
+
+pub returns-then-eq-2-clause-found : goal.returns-then-eq-2-clause-found
+returns-then-eq-2-clause-found g c =
+    let front = c.front_of.ensures in
+    let named = c.in_ok-after.ensures in
+    let text = c.as_slice.ensures.value in
+    let test = sym c.eq.ensures ∙ c.if-eq.false in
+    let again = c.as_slice-2.ensures.value in
+    let stays = sym c.eq-2.ensures ∙ c.if-eq-2.true in
+    shares_none c.args.d.now.bytes c.args.new.now c.args.name.now c.in_ok-after.after.items (rw front at named) (rw text at test)
+    (rw again at stays)
 
 pub returns-clause-found : goal.returns-clause-found
 returns-clause-found g c =
-    let fits = c.ranges.id in
-    let own : FitsSigned w32 c.in-Some.e.id = search rules in
-    let found = c.in_ok-e.ensures.found in
-    let some = rw c.in-Some.is at found in
-    let text = c.as_slice.ensures in
-    let value = c.deref.ensures.value in
+    let front = c.front_of.ensures in
     let named = c.in_ok-after.ensures in
-    let so = rw text at named in
-    let told = c.is_shared.ensures.found in
-    shares_some c.is_shared.result c.args.d.now.bytes c.entry_of.new.d.bytes
-    (seen c.args.renaming.entry.now) c.args.renaming.name.now c.args.id (seen c.in-Some.e)
-    c.deref.result.now (simp to_z-of_z at some) c.entry_of.ensures.frame.same.bytes (value ∙ simp to_z-of_z at so) (simp to_z-of_z at told)
+    let text = c.as_slice.ensures.value in
+    let test = sym c.eq.ensures ∙ c.if-eq.false in
+    let again = c.as_slice-2.ensures.value in
+    let stays = sym c.eq-2.ensures ∙ c.if-eq-2.false in
+    let value = c.deref.ensures.value in
+    let found = c.has_name.ensures.found in
+    shares_taken c.has_name.result c.args.d.now.bytes c.args.new.now c.args.name.now c.in_ok-after.after.items (rw front at named)
+    (rw text at test) (rw again at stays) (rw value at found)

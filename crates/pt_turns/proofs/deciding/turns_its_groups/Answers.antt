@@ -10,15 +10,13 @@ pub returns-then-not-turns_front-clause-found : goal.returns-then-not-turns_fron
 returns-then-not-turns_front-clause-found g c =
     let old = c.as_slice.ensures in
     let is = c.turns_front.ensures in
-    no_turn c.args.d.now.bytes (seen c.args.renaming.entry.now) c.args.renaming.name.now c.turns_front.result
-    (rw old at is) c.if-not-turns_front.true
+    no_turn c.args.d.now.bytes (seen c.args.e.now) c.args.new.now c.turns_front.result (rw old at is) c.if-not-turns_front.true
 
 pub returns-clause-found : goal.returns-clause-found
 returns-clause-found g c =
-    let fits : FitsSigned w32 c.args.renaming.entry.now.id = search rules in
+    let fits : FitsSigned w32 c.args.e.now.id = search rules in
     let old = c.as_slice.ensures in
     let is = c.turns_front.ensures in
     let found = c.owns_another.ensures.found in
-    turned_so c.owns_another.result c.args.d.now.bytes (seen c.args.renaming.entry.now) c.args.renaming.name.now c.turns_front.result
-    (rw old at is)
+    turned_so c.owns_another.result c.args.d.now.bytes (seen c.args.e.now) c.args.new.now c.turns_front.result (rw old at is)
     c.if-not-turns_front.false (simp to_z-of_z at found)
