@@ -11,17 +11,18 @@ use Rattle.pt_calls.specs.Reading.{call_of}
 use Rattle.pt_calls.specs.Words.{call_in_words}
 use Rattle.pt_calls.proofs.Again.{spelling_again}
 use Rattle.pt_calls.proofs.WordCalls.{named_is_call}
-use Rattle.pt_service.specs.Meaning.{Answers, Makes, NoCall, Refuses, Verdict, asked, protection_meaning, reply_by, verdict}
+use Rattle.pt_service.specs.Meaning.{Answers, Makes, NoCall, Refuses, Verdict, asked, reply_by, state_by, verdict}
 use Rattle.pt_service.specs.State.{State}
-use Rattle.pt_looks.specs.States.{HoldsState}
+use Rattle.pt_looks.specs.States.{HoldsRecords}
+use Rattle.pt_changes.specs.Standing.{image_by}
 use Rattle.pt_database.specs.Laws.{AnswersCalls, HoldsOne, LeavesStates, NamesCalls}
 use Rattle.pt_calls.specs.Writes.{is_write}
 use Rattle.pt_database.specs.Service.{protection_database}
-use Rattle.pt_database.specs.ServiceLaws.{database_is_meant}
 use Rattle.pt_laws.specs.Told.{state_in}
 use Rattle.call_grammar.specs.Shown.{only_bytes}
 use Rattle.pt_laws.proofs.Answered.{IsAnswer, call_answers}
-use Rattle.pt_laws.proofs.ToldStates.{holds_one as one_state}
+use Rattle.pt_laws.proofs.Made.{holds_after}
+use Rattle.pt_laws.proofs.ToldStates.{holds_one as one_state, state_told}
 
 -- ---- images and states
 
@@ -30,8 +31,11 @@ holds_one = one_state
 
 pub leaves_states : LeavesStates
 leaves_states image s now bytes holds same =
-    let after = (protection_meaning.call s now bytes).state in
-    holds_one image after s (subst (λ (i : List ℕ). HoldsState i after) same (database_is_meant image s now bytes holds).stands) holds
+    let after = state_by (verdict s (asked bytes)) s in
+    let told = state_told image s holds in
+    let here : image_by (verdict s (asked bytes)) s image ≡ image =
+    ap (λ (t : State). image_by (verdict t (asked bytes)) t image) told ∙ same in
+    holds_one image after s (subst (λ (i : List ℕ). HoldsRecords i after) here (holds_after image s bytes holds)) holds
 
 -- ---- a call is answered as one
 

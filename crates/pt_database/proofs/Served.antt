@@ -17,7 +17,7 @@ use Rattle.pt_service.specs.Meaning.{Answers, Enter, Join, Leave, Makes, Maxima,
 use Rattle.pt_service.specs.Standing as registry
 use Rattle.pt_service.specs.State.{State}
 use Rattle.pt_service.specs.Told.{IsMeant}
-use Rattle.pt_looks.specs.States.{HoldsState, IsToldOf, members_of}
+use Rattle.pt_looks.specs.States.{HoldsRecords, HoldsState, IsToldOf, members_of}
 use Rattle.pt_changes.specs.Standing.{IsDone, IsMeantOf, image_by}
 use Rattle.pt_database.specs.Service.{protection_database}
 use Rattle.pt_laws.proofs.Changing.{IsLook, IsPlain, image_same}
@@ -116,10 +116,17 @@ EndsIn image bytes ended after s =
 
 pub meant : (held after : Option (List ℕ)) (now : ℕ) (bytes : List ℕ) (ended : CallEnd)
     → IsMeantOf held (λ s. verdict s (asked bytes)) ended after
-    → IfSome held (λ image. (s : State) → HoldsState image s → EndsBy (protection_database.call image now bytes) ended after)
+    → IfSome held (λ image. (s : State) → HoldsRecords image s → EndsBy (protection_database.call image now bytes) ended after)
 meant None after now bytes ended done = tt
 meant (Some image) after now bytes ended done = λ s holds.
     let d = done s holds in
     let v = verdict s (asked bytes) in
     subst (EndsIn image bytes ended after) (state_told image s holds)
     (ends_by (record { reply = reply_by v; image = image_by v s image }) ended after d.reply d.leaves)
+
+-- an image that holds a state holds its records
+pub state_meant : (held after : Option (List ℕ)) (now : ℕ) (bytes : List ℕ) (ended : CallEnd)
+    → IfSome held (λ image. (s : State) → HoldsRecords image s → EndsBy (protection_database.call image now bytes) ended after)
+    → IfSome held (λ image. (s : State) → HoldsState image s → EndsBy (protection_database.call image now bytes) ended after)
+state_meant None after now bytes ended meant = tt
+state_meant (Some image) after now bytes ended meant = λ s holds. meant s holds.records

@@ -3,7 +3,8 @@ use Rattle.std.specs.Option.{option_map}
 use Rattle.db_image.specs.Database.{Database}
 use Rattle.db_image.specs.Standing.{Standing}
 use Rattle.prdb_finds.specs.Records.{whole}
-use Rattle.prdb_layout.specs.declared.blocks.TheConstants.{HEAD_LEN, BLOCK_LEN}
+use Rattle.prdb_layout.specs.declared.blocks.TheConstants.{HEAD_LEN}
+use Rattle.db_blocks.specs.declared.blocks.TheConstants.{BLOCK_LEN}
 use Rattle.pt_calls.specs.Calls.{call_kind}
 use Rattle.pt_calls.specs.Writes.{is_write}
 use Rattle.pt_service.specs.Meaning.{asked, protection_meaning, reply_by, verdict}

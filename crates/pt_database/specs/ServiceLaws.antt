@@ -9,7 +9,7 @@ use Rattle.pt_looks.specs.States.{HoldsState}
 use Rattle.pt_changes.specs.Standing.{image_by}
 use Rattle.pt_laws.specs.Told.{state_in}
 use Rattle.pt_laws.proofs.GrownByTurns.{grows_by}
-use Rattle.pt_laws.proofs.Made.{holds_after}
+use Rattle.pt_laws.proofs.Made.{state_held}
 use Rattle.pt_laws.proofs.Stays.{image_stays}
 use Rattle.pt_laws.proofs.ToldStates.{empty_holds, state_told}
 use Rattle.pt_database.specs.Service.{protection_database, protection_standing}
@@ -27,8 +27,8 @@ made_so : (image : List ℕ) (s : State) (now : ℕ) (bytes : List ℕ) → Hold
 made_so image s now bytes holds = record {
   reply = refl;
   good = never_bad (verdict s (asked bytes));
-  stands = holds_after image s bytes holds;
-  stays = image_stays image s bytes holds;
+  stands = state_held image s bytes holds;
+  stays = image_stays image s bytes holds.records;
 }
 
 pub database_is_meant : (image : List ℕ) (s : State) (now : ℕ) (bytes : List ℕ) → HoldsState image s
@@ -39,7 +39,7 @@ database_is_meant image s now bytes holds =
     (λ (t : State). IsMeantOver protection_standing image s
     (record { reply = reply_by (verdict t c); image = image_by (verdict t c) t image })
     (protection_meaning.call s now bytes))
-    (state_told image s holds) (made_so image s now bytes holds)
+    (state_told image s holds.records) (made_so image s now bytes holds)
 
 pub empty_stands : HoldsState [] first_state
 empty_stands = empty_holds

@@ -11,7 +11,7 @@ pub fn protection_calls_are_meant()
     ensures longer { NeverShrinks }
 {}
 
-/// The empty image holds the first state, and each image one state at most.
+/// The empty image holds the first state, and each image the records of one state at most.
 pub fn an_image_holds_one_protection_state()
     ensures first { HoldsState [] protection_meaning.first }
     ensures one { HoldsOne }
@@ -27,7 +27,8 @@ pub fn protection_words_name_calls()
     ensures { NamesCalls }
 {}
 
-/// Over an image that holds a state, the bound on what nametoid and idtoname ask for holds: each name and each id has its one chain there.
+/// Over an image that holds the records of a state, the bound on what nametoid and idtoname ask for holds: each name and each id has its
+/// one chain there.
 pub fn protection_look_ups_have_chains()
     ensures { HasEachChain }
 {}

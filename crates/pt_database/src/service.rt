@@ -13,7 +13,7 @@ ghost use Rattle.pt_calls.specs.Reading.{call_of};
 ghost use Rattle.pt_calls.specs.Writes.{is_write};
 ghost use Rattle.pt_service.specs.Meaning.{asked, verdict};
 ghost use Rattle.pt_service.specs.State.{State};
-ghost use Rattle.pt_looks.specs.States.{HoldsState};
+ghost use Rattle.pt_looks.specs.States.{HoldsRecords};
 ghost use Rattle.pt_changes.specs.Standing.{IsMeantOf};
 ghost use Rattle.pt_database.specs.Costs.{CostsAsLookUps};
 ghost use Rattle.pt_database.specs.Service.{protection_database};
@@ -95,7 +95,7 @@ fn answer<I: ImageRead>(
 /// of the list.
 pub fn serve_protection<I: ImageRead>(alloc: Global, image: &mut Draft<I>, call: &[u8]) -> CallEnd
     requires { image.old.len ≤ 16777216 }
-    ensures meant { IfSome image.old.bytes (λ bytes. (s : State) → HoldsState bytes s
+    ensures meant { IfSome image.old.bytes (λ bytes. (s : State) → HoldsRecords bytes s
         → EndsBy (protection_database.call bytes 0 call.now) result image.new.bytes) }
     ensures grammar { KeepsGrammar (protection_database.writes call.now) result }
     ensures rests { protection_database.writes call.now ≢ Some true → StaysAsItWas image.old image.new }

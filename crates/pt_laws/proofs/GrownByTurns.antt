@@ -7,10 +7,10 @@ use Rattle.prdb_finds.specs.Changes.{after_set_maxima}
 use Rattle.prdb_finds.specs.Records.{whole}
 use Rattle.prdb_entries.specs.Changes.{after_insert, after_remove}
 use Rattle.prdb_entries.proofs.Longer.{longer_insert, longer_remove, longer_replace}
-use Rattle.prdb_members.specs.Changes.{after_part}
-use Rattle.prdb_members.proofs.Grown.{grows_join, grows_part}
+use Rattle.prdb_members.specs.Changes.{after_parts}
+use Rattle.prdb_members.proofs.Grown.{grows_join, grows_part, grows_parts}
 use Rattle.pt_service.specs.Meaning.{Answers, Change, Enter, Join, Leave, Makes, Maxima, NoCall, Part, Refit, Refuses, Turn, Verdict}
-use Rattle.pt_service.specs.State.{State, elements, is_group}
+use Rattle.pt_service.specs.State.{State, elements}
 use Rattle.pt_service.specs.Turning.{moved}
 use Rattle.prdb_turns.specs.Fronts.{after_fronts, fronted, ids_by_block}
 use Rattle.prdb_turns.specs.Owners.{after_gives, with_owner}
@@ -18,33 +18,22 @@ use Rattle.prdb_turns.specs.Refits.{after_refit}
 use Rattle.prdb_turns.specs.Renumbering.{after_renumber}
 use Rattle.prdb_turns.specs.Turning.{after_id, after_turn as after_steps, first, is_under, named, second, third}
 use Rattle.prdb_turns.proofs.Longer.{longer_refits, longer_renumber}
-use Rattle.pt_changes.specs.Leaving.{after_leave, after_parted, after_parts, property}
+use Rattle.pt_changes.specs.Leaving.{after_leave}
 use Rattle.pt_changes.specs.Turning.{after_turn, its_in}
 use Rattle.pt_changes.specs.Standing.{image_after, image_by}
 use Rattle.pt_laws.proofs.Grown.{either_longer, grows_maxima, grows_same, on_longer}
 
 -- ---- an entry that leaves
 
-grows_parted : (entry other : ℤ) (image : List ℕ) → length image ≤ length (after_parted entry other image)
-grows_parted entry other image =
-    either_longer (length image) (is_group entry) (after_part other entry image) (after_part entry other image)
-    (grows_part other entry image) (grows_part entry other image)
-
-grows_parts : (entry : ℤ) (others : List ℤ) (image : List ℕ) → length image ≤ length (after_parts entry others image)
-grows_parts entry [] image = grows_same image
-grows_parts entry (other ∷ others) image =
-    let mid = after_parted entry other image in
-    on_longer (length image) (length mid) (length (after_parts entry others mid)) (grows_parted entry other image)
-    (grows_parts entry others mid)
-
 grows_leave : (id : ℤ) (s : State) (image : List ℕ) → length image ≤ length (after_leave id s image)
 unfolding after_leave
 grows_leave id s image =
     let parted = after_parts id (elements s id) image in
-    let given = after_gives (pos 0) (property s.registry id) s.registry parted in
+    let its = its_in parted s.registry id in
+    let given = after_gives (pos 0) its s.registry parted in
     on_longer (length image) (length given) (length (after_remove id given))
     (on_longer (length image) (length parted) (length given) (grows_parts id (elements s id) image)
-    (longer_refits (with_owner (pos 0)) (property s.registry id) s.registry parted))
+    (longer_refits (with_owner (pos 0)) its s.registry parted))
     (longer_remove id given)
 
 -- ---- an entry that turns

@@ -3,6 +3,10 @@ pub mod Changing
 pub mod Grown
 pub mod GrownByTurns
 pub mod Made
+pub mod NamesEntered
+pub mod NamesFollow
+pub mod NamesKept
+pub mod NamesTurned
 pub mod Possible
 pub mod Refilled
 pub mod Sound

@@ -9,16 +9,17 @@ use Rattle.prdb_members.proofs.Ends.{join_holds, part_holds}
 use Rattle.pt_service.specs.Meaning.{Answers, Change, Enter, Join, Leave, Makes, Maxima, NoCall, Part, Refit, Refuses, Turn, Verdict, asked, state_after, state_by, verdict}
 use Rattle.pt_service.specs.State.{State}
 use Rattle.pt_service.specs.Turning.{with_turned}
-use Rattle.pt_looks.specs.States.{HoldsState, members_of}
+use Rattle.pt_looks.specs.States.{HoldsRecords, HoldsState, members_of}
 use Rattle.pt_changes.proofs.Left.{left_holds}
 use Rattle.pt_changes.specs.Turning.{after_turn}
 use Rattle.pt_turns.proofs.Whole.{turned_holds}
 use Rattle.pt_changes.specs.Standing.{image_after, image_by}
+use Rattle.pt_laws.proofs.NamesFollow.{names_follow}
 use Rattle.pt_laws.proofs.Possible.{CanMake, IsSound}
 use Rattle.pt_laws.proofs.Sound.{sound}
 
-holds_made : (image : List ℕ) (s : State) (change : Change) → HoldsState image s → CanMake s change
-    → HoldsState (image_after change s image) (state_after change s)
+holds_made : (image : List ℕ) (s : State) (change : Change) → HoldsRecords image s → CanMake s change
+    → HoldsRecords (image_after change s image) (state_after change s)
 holds_made image s (Maxima user group) holds can = maxima_held image s.registry (members_of s) user group holds can
 holds_made image s (Enter e user group) holds can =
     maxima_held (after_insert e image) (with_entry e s.registry) (members_of s) user group
@@ -32,12 +33,20 @@ holds_made image s (Turn e name owner id user group) holds can =
 holds_made image s (Join user group) holds can = join_holds image s.registry (members_of s) user group holds can
 holds_made image s (Part user group) holds can = part_holds image s.registry (members_of s) user group holds can
 
-holds_by : (image : List ℕ) (s : State) (v : Verdict) → HoldsState image s → IsSound s v → HoldsState (image_by v s image) (state_by v s)
+holds_by : (image : List ℕ) (s : State) (v : Verdict) → HoldsRecords image s → IsSound s v
+    → HoldsRecords (image_by v s image) (state_by v s)
 holds_by image s NoCall holds can = holds
 holds_by image s (Refuses rule) holds can = holds
 holds_by image s (Answers a) holds can = holds
 holds_by image s (Makes a change) holds can = holds_made image s change holds can
 
-pub holds_after : (image : List ℕ) (s : State) (bytes : List ℕ) → HoldsState image s
-    → HoldsState (image_by (verdict s (asked bytes)) s image) (state_by (verdict s (asked bytes)) s)
+pub holds_after : (image : List ℕ) (s : State) (bytes : List ℕ) → HoldsRecords image s
+    → HoldsRecords (image_by (verdict s (asked bytes)) s image) (state_by (verdict s (asked bytes)) s)
 holds_after image s bytes holds = holds_by image s (verdict s (asked bytes)) holds (sound s bytes holds.pairs.holds.valid)
+
+pub state_held : (image : List ℕ) (s : State) (bytes : List ℕ) → HoldsState image s
+    → HoldsState (image_by (verdict s (asked bytes)) s image) (state_by (verdict s (asked bytes)) s)
+state_held image s bytes holds = record {
+  records = holds_after image s bytes holds.records;
+  names = names_follow s (asked bytes) holds.records.pairs.holds.valid holds.names;
+}

@@ -1,9 +1,10 @@
 -- What a change needs of the state in which it is made.
-use Rattle.std.proofs.Common.{◌≡◌, ℕ, ℤ, Bool, true, false, cond, List, Option, Some, None, IsSome, refl}
+use Rattle.std.proofs.Common.{◌≡◌, ℕ, ℤ, Bool, true, false, cond, List, Option, Some, None, IsSome, Result, Ok, Err, refl}
 use Rattle.prdb_layout.specs.Registry.{AreMaxima, IsRecord, MayBeAdded, MayReplace}
 use Rattle.prdb_layout.specs.State.{PrEntry}
 use Rattle.prdb_lists.specs.Members.{MayJoin, MayLeave}
-use Rattle.pt_service.specs.Meaning.{Answers, Change, Enter, Join, Leave, Makes, Maxima, NoCall, Part, Refit, Refuses, Turn, Verdict, of_entry}
+use Rattle.pt_service.specs.Meaning.{Answers, Change, Enter, Join, Leave, Makes, Maxima, NoCall, Part, Refit, Refuses, Turn, Verdict}
+use Rattle.pt_service.specs.Meaning.{of_entry, of_owner, unless}
 use Rattle.pt_service.specs.State.{State}
 use Rattle.pt_service.specs.Turning.{is_fixed}
 use Rattle.pt_looks.specs.States.{members_of}
@@ -46,11 +47,21 @@ IsSound s (Makes a change) = CanMake s change
 
 -- ---- verdicts that are put together
 
-pub either : (s : State) (b : Bool) (v w : Verdict) → (b ≡ true → IsSound s v) → (b ≡ false → IsSound s w) → IsSound s (cond b v w)
-either s true v w here there = here refl
-either s false v w here there = there refl
+pub either : (P : Verdict → Type 0) (b : Bool) (v w : Verdict) → (b ≡ true → P v) → (b ≡ false → P w) → P (cond b v w)
+either P true v w here there = here refl
+either P false v w here there = there refl
 
-pub of_one : (s : State) (o : Option PrEntry) (goes : PrEntry → Verdict) → ((e : PrEntry) → o ≡ Some e → IsSound s (goes e))
-    → IsSound s (of_entry o goes)
-of_one s None goes so = tt
-of_one s (Some e) goes so = so e refl
+pub of_one : (P : Verdict → Type 0) (o : Option PrEntry) (goes : PrEntry → Verdict) → ((rule : ℕ) → P (Refuses rule))
+    → ((e : PrEntry) → o ≡ Some e → P (goes e)) → P (of_entry o goes)
+of_one P None goes refused so = refused 267268
+of_one P (Some e) goes refused so = so e refl
+
+pub of_good : (P : Verdict → Type 0) (o : Result ℤ ℕ) (goes : ℤ → Verdict) → ((rule : ℕ) → P (Refuses rule))
+    → ((owner : ℤ) → o ≡ Ok owner → P (goes owner)) → P (of_owner o goes)
+of_good P (Err rule) goes refused so = refused rule
+of_good P (Ok owner) goes refused so = so owner refl
+
+pub unless_one : (P : Verdict → Type 0) (o : Option ℕ) (v : Verdict) → ((rule : ℕ) → P (Refuses rule)) → (o ≡ None → P v)
+    → P (unless o v)
+unless_one P None v refused so = so refl
+unless_one P (Some rule) v refused so = refused rule

@@ -15,13 +15,13 @@ use Rattle.prdb_finds.proofs.HeadTold.{told_maxima}
 use Rattle.prdb_entries.specs.Changes.{after_replace}
 use Rattle.prdb_entries.proofs.Empty.{unchanged}
 use Rattle.pt_service.specs.State.{State}
-use Rattle.pt_looks.specs.States.{HoldsState, members_of}
+use Rattle.pt_looks.specs.States.{HoldsRecords, members_of}
 
-pub replace_same : (image : List ℕ) (s : State) (e : PrEntry) → HoldsState image s → s.registry.entry e.id ≡ Some e
+pub replace_same : (image : List ℕ) (s : State) (e : PrEntry) → HoldsRecords image s → s.registry.entry e.id ≡ Some e
     → after_replace e.id e image ≡ image
 replace_same image s e holds at = unchanged image s.registry (members_of s) e holds at
 
-pub maxima_same : (image : List ℕ) (s : State) (user group : ℤ) → HoldsState image s → user ≡ s.registry.max_user
+pub maxima_same : (image : List ℕ) (s : State) (user group : ℤ) → HoldsRecords image s → user ≡ s.registry.max_user
     → group ≡ s.registry.max_group
     → after_set_maxima user group image ≡ image
 unfolding after_set_maxima

@@ -32,18 +32,20 @@ call_sound s (call.Delete id) valid bits = leave_sound s id valid
 call_sound s (call.AddToGroup user group) valid bits = join_sound s user group valid
 call_sound s (call.RemoveFromGroup user group) valid bits = part_sound s user group
 call_sound s (call.GetCps id) valid bits =
-    of_one s (s.registry.entry id) (λ e. Answers (answer.Ids (filter (counts_for s id) ids))) (λ e at. tt)
+    of_one (IsSound s) (s.registry.entry id) (λ e. Answers (answer.Ids (filter (counts_for s id) ids))) (λ rule. tt) (λ e at. tt)
 call_sound s call.ListMax valid bits = tt
 call_sound s (call.SetMax id group) valid bits = maximum_sound s id group valid bits.0
-call_sound s (call.ListEntry id) valid bits = of_one s (s.registry.entry id) (λ e. Answers (answer.Entry (told_of s e))) (λ e at. tt)
+call_sound s (call.ListEntry id) valid bits =
+    of_one (IsSound s) (s.registry.entry id) (λ e. Answers (answer.Entry (told_of s e))) (λ rule. tt) (λ e at. tt)
 call_sound s (call.ListEntries kinds after) valid bits =
-    either s (are_kinds kinds) (Answers (answer.Entries _)) (Refuses rule.bad_argument) (λ is. tt) (λ is. tt)
+    either (IsSound s) (are_kinds kinds) (Answers (answer.Entries _)) (Refuses rule.bad_argument) (λ is. tt) (λ is. tt)
 call_sound s (call.ChangeEntry id name owner new_id) valid bits = turn_sound s id (lowered name) owner new_id valid bits.1.1.1.0
 call_sound s (call.SetFields id mask flags quota) valid bits = fields_sound s id mask flags quota valid bits.1.1.0 bits.1.1.1.0
-call_sound s (call.ListElements id) valid bits = of_one s (s.registry.entry id) (λ e. Answers (answer.Ids (elements s id))) (λ e at. tt)
+call_sound s (call.ListElements id) valid bits =
+    of_one (IsSound s) (s.registry.entry id) (λ e. Answers (answer.Ids (elements s id))) (λ rule. tt) (λ e at. tt)
 call_sound s (call.IsMemberOf user group) valid bits = pair_sound s user group (Answers (answer.Truth (s.is_in user group))) (λ pair. tt)
 call_sound s (call.ListOwned id) valid bits =
-    either s (not (int_eq id (pos 0)) && is_none (s.registry.entry id)) (Refuses rule.no_entry)
+    either (IsSound s) (not (int_eq id (pos 0)) && is_none (s.registry.entry id)) (Refuses rule.no_entry)
     (Answers (answer.Ids (owned_by s.registry id))) (λ is. tt) (λ is. tt)
 
 -- ---- of bytes

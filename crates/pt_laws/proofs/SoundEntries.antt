@@ -1,5 +1,6 @@
 -- An entry that is to come in may come in.
-use Rattle.std.proofs.Common.{◌≡◌, ℕ, ℤ, pos, zero, suc, ◌+◌, ◌-◌, ◌<◌, ◌≤◌, Bool, true, false, ◌||◌, cond, eqb, List, map, Option, Some, None, IsSome, Result, Ok, Err, refl, sym, subst, ◌∙◌, ⊎_elim, arith}
+use Rattle.std.proofs.Common.{◌≡◌, ℕ, ℤ, pos, zero, suc, ◌+◌, ◌-◌, ◌<◌, ◌≤◌, Bool, true, false, ◌||◌, cond, eqb, List, map, Option, Some}
+use Rattle.std.proofs.Common.{None, IsSome, Ok, Err, refl, sym, subst, ◌∙◌, ⊎_elim, arith}
 use Rattle.std.specs.Prelude.{FitsSigned, is_none, is_some, unsigned_abs}
 use Rattle.std.specs.Int.{w32}
 use Rattle.std.specs.List.{find, range_with_len}
@@ -10,7 +11,8 @@ use Rattle.prdb_layout.proofs.Changed.{by_id, under_other}
 use Rattle.prdb_layout.proofs.Lengths.{fits_id}
 use Rattle.pt_calls.specs.declared.answers.PtAnswer.TheVariants as answer
 use Rattle.pt_calls.specs.Meaning.{id_named}
-use Rattle.pt_service.specs.Meaning.{Makes, Refuses, Verdict, entry_made, enters, first_unused, id_behind, ids_behind, made, maximum, new_entry, new_entry_of_id, next_id, of_owner, owner_for, owner_of, raised, unless_taken, with_given, with_next}
+use Rattle.pt_service.specs.Meaning.{Makes, Refuses, entry_made, enters, first_unused, id_behind, ids_behind, made, maximum, new_entry}
+use Rattle.pt_service.specs.Meaning.{new_entry_of_id, next_id, of_owner, owner_for, owner_of, raised, unless_taken, with_given, with_next}
 use Rattle.pt_service.specs.Names.{is_name_of}
 use Rattle.pt_service.specs.Refusals as rule
 use Rattle.pt_service.specs.State.{State, is_group, is_id}
@@ -18,7 +20,7 @@ use Rattle.pt_service.proofs.Entered.{group_of, made_record, may_enter, raised_a
 use Rattle.pt_service.proofs.Ownership.{for_is}
 use Rattle.pt_service.proofs.Unused.{behind_is}
 use Rattle.pt_looks.proofs.Pairs.{some_is}
-use Rattle.pt_laws.proofs.Possible.{CanEnter, IsSound, either}
+use Rattle.pt_laws.proofs.Possible.{CanEnter, IsSound, either, of_good}
 
 -- ---- the id that was found
 
@@ -100,11 +102,6 @@ enter_can s group name given owner id valid good unused is fits =
       maxima = raised_are r.max_user r.max_group id valid.maxima fits own;
     }
 
-of_good : (s : State) (o : Result ℤ ℕ) (goes : ℤ → Verdict) → ((owner : ℤ) → o ≡ Ok owner → IsSound s (goes owner))
-    → IsSound s (of_owner o goes)
-of_good s (Err rule) goes so = tt
-of_good s (Ok owner) goes so = so owner refl
-
 -- ---- newentry
 
 next_sound : (s : State) (group : Bool) (name : List ℕ) (given owner : ℤ) (next : Option ℤ) → IsRegistry s.registry
@@ -119,13 +116,14 @@ next_sound s group name given owner (Some id) valid good is =
 made_sound : (s : State) (group : Bool) (name : List ℕ) (given : ℤ) → IsRegistry s.registry
     → IsSound s (entry_made s.registry group name given)
 made_sound s group name given valid =
-    of_good s (owner_for s.registry group name given) (λ owner. with_next s.registry group name owner (next_id s.registry group))
+    of_good (IsSound s) (owner_for s.registry group name given)
+    (λ owner. with_next s.registry group name owner (next_id s.registry group)) (λ rule. tt)
     (λ owner good. next_sound s group name given owner (next_id s.registry group) valid good refl)
 
 pub new_sound : (s : State) (name : List ℕ) (kind : ℕ) (given : ℤ) → IsRegistry s.registry
     → IsSound s (new_entry s.registry name kind given)
 new_sound s name kind given valid =
-    either s (eqb kind 0 || eqb kind 2) (entry_made s.registry (eqb kind 2) name given) (Refuses rule.bad_argument)
+    either (IsSound s) (eqb kind 0 || eqb kind 2) (entry_made s.registry (eqb kind 2) name given) (Refuses rule.bad_argument)
     (λ is. made_sound s (eqb kind 2) name given valid) (λ is. tt)
 
 -- ---- inewentry
@@ -138,17 +136,17 @@ given_sound : (s : State) (name : List ℕ) (id given owner : ℤ) → IsRegistr
     → owner_for s.registry (is_group id) name given ≡ Ok owner
     → IsSound s (with_given s.registry name id owner (is_some (s.registry.entry id)))
 given_sound s name id given owner valid fits is good =
-    either s (is_some (s.registry.entry id)) (Refuses rule.id_exists)
+    either (IsSound s) (is_some (s.registry.entry id)) (Refuses rule.id_exists)
     (Makes answer.Done (enters s.registry (made (is_group id) name id owner))) (λ taken. tt)
     (λ free. enter_can s (is_group id) name given owner id valid good (none_by (s.registry.entry id) free) is fits)
 
 pub new_of_id_sound : (s : State) (name : List ℕ) (id given : ℤ) → IsRegistry s.registry → FitsSigned w32 id
     → IsSound s (new_entry_of_id s.registry name id given)
 new_of_id_sound s name id given valid fits =
-    either s (is_id (is_group id) id)
+    either (IsSound s) (is_id (is_group id) id)
     (of_owner (owner_for s.registry (is_group id) name given)
     (λ owner. with_given s.registry name id owner (is_some (s.registry.entry id))))
     (Refuses rule.bad_argument)
-    (λ is. of_good s (owner_for s.registry (is_group id) name given)
-    (λ owner. with_given s.registry name id owner (is_some (s.registry.entry id)))
+    (λ is. of_good (IsSound s) (owner_for s.registry (is_group id) name given)
+    (λ owner. with_given s.registry name id owner (is_some (s.registry.entry id))) (λ rule. tt)
     (λ owner good. given_sound s name id given owner valid fits is good)) (λ is. tt)

@@ -24,7 +24,7 @@ maxima_can s id false maxima fits is =
 pub maximum_sound : (s : State) (id : ℤ) (group : Bool) → IsRegistry s.registry → FitsSigned w32 id
     → IsSound s (maximum_set s.registry id group)
 maximum_sound s id group valid fits =
-    either s (is_maximum group id) (Makes answer.Done (maxima_with s.registry group id)) (Refuses rule.bad_argument)
+    either (IsSound s) (is_maximum group id) (Makes answer.Done (maxima_with s.registry group id)) (Refuses rule.bad_argument)
     (λ is. maxima_can s id group valid.maxima fits is) (λ is. tt)
 
 -- ---- fields
@@ -64,7 +64,7 @@ refit_can s id mask flags quota e valid low fits at =
 pub fields_sound : (s : State) (id : ℤ) (mask flags : ℕ) (quota : ℤ) → IsRegistry s.registry → flags < 2 ^ 32 → FitsSigned w32 quota
     → IsSound s (of_entry (s.registry.entry id) (fields_set mask flags quota))
 fields_sound s id mask flags quota valid low fits =
-    of_one s (s.registry.entry id) (fields_set mask flags quota)
-    (λ e at. either s (are_bad_fields mask flags quota) (Refuses rule.bad_argument)
+    of_one (IsSound s) (s.registry.entry id) (fields_set mask flags quota) (λ rule. tt)
+    (λ e at. either (IsSound s) (are_bad_fields mask flags quota) (Refuses rule.bad_argument)
     (Makes answer.Done (Refit (with_fields mask flags quota e))) (λ is. tt)
     (λ is. refit_can s id mask flags quota e valid low fits at))

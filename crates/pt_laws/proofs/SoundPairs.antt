@@ -34,10 +34,10 @@ pub pair_sound : (s : State) (user group : ℤ) (goes : Verdict) → (ArePair s 
     → IsSound s (of_pair s.registry user group goes)
 pair_sound s user group goes so =
     let kinds = cond (not (is_group group)) (Refuses rule.not_group) (cond (is_group user) (Refuses rule.not_user) goes) in
-    either s (is_none (s.registry.entry user) || is_none (s.registry.entry group)) (Refuses rule.no_entry) kinds (λ is. tt)
+    either (IsSound s) (is_none (s.registry.entry user) || is_none (s.registry.entry group)) (Refuses rule.no_entry) kinds (λ is. tt)
     (λ there. let p = or_parts (is_none (s.registry.entry user)) (is_none (s.registry.entry group)) there in
-    either s (not (is_group group)) (Refuses rule.not_group) (cond (is_group user) (Refuses rule.not_user) goes) (λ is. tt)
-    (λ of_group. either s (is_group user) (Refuses rule.not_user) goes (λ is. tt)
+    either (IsSound s) (not (is_group group)) (Refuses rule.not_group) (cond (is_group user) (Refuses rule.not_user) goes) (λ is. tt)
+    (λ of_group. either (IsSound s) (is_group user) (Refuses rule.not_user) goes (λ is. tt)
     (λ of_user. so (record {
       user_there = some_of (s.registry.entry user) p.0;
       group_there = some_of (s.registry.entry group) p.1;
@@ -61,9 +61,9 @@ there_id r x valid there = let e = some_is (r.entry x) there in subst IsId (vali
 joins_sound : (s : State) (user group : ℤ) → IsRegistry s.registry → ArePair s user group → IsSound s (joins s user group)
 joins_sound s user group valid pair =
     let act = Makes answer.Done (Join user group) in
-    either s (int_eq group (negsuc 100) || int_eq group (negsuc 101)) (Refuses rule.not_permitted)
+    either (IsSound s) (int_eq group (negsuc 100) || int_eq group (negsuc 101)) (Refuses rule.not_permitted)
     (cond (s.is_in user group) (Refuses rule.id_exists) act) (λ is. tt)
-    (λ open_group. either s (s.is_in user group) (Refuses rule.id_exists) act (λ is. tt)
+    (λ open_group. either (IsSound s) (s.is_in user group) (Refuses rule.id_exists) act (λ is. tt)
     (λ new. record {
       user = user_above user (there_id s.registry user valid pair.user_there) pair.of_user;
       group_id = group_below group pair.of_group;
@@ -80,12 +80,13 @@ join_sound s user group valid = pair_sound s user group (joins s user group) (λ
 pub part_sound : (s : State) (user group : ℤ) → IsSound s (of_pair s.registry user group (parts s user group))
 part_sound s user group =
     pair_sound s user group (parts s user group)
-    (λ pair. either s (s.is_in user group) (Makes answer.Done (Part user group)) (Refuses rule.no_entry) (λ there. there) (λ is. tt))
+    (λ pair. either (IsSound s) (s.is_in user group) (Makes answer.Done (Part user group)) (Refuses rule.no_entry) (λ there. there)
+    (λ is. tt))
 
 -- ---- an entry leaves
 
 pub leave_sound : (s : State) (id : ℤ) → IsRegistry s.registry → IsSound s (of_entry (s.registry.entry id) leaves)
 leave_sound s id valid =
-    of_one s (s.registry.entry id) leaves
-    (λ e at. either s (is_fixed e.id) (Refuses rule.not_permitted) (Makes answer.Done (Leave e.id)) (λ is. tt)
+    of_one (IsSound s) (s.registry.entry id) leaves (λ rule. tt)
+    (λ e at. either (IsSound s) (is_fixed e.id) (Refuses rule.not_permitted) (Makes answer.Done (Leave e.id)) (λ is. tt)
     (λ free. record { there = is_there (s.registry.entry e.id) e (ap s.registry.entry (valid.ids id e at) ∙ at); not_fixed = free }))

@@ -10,7 +10,7 @@ use Rattle.prdb_layout.specs.Registry.{Registry, AreMaxima, IsOwner, IsRegistry,
 use Rattle.prdb_layout.specs.State.{PrEntry, IsId, front_of}
 use Rattle.prdb_layout.proofs.Lengths.{fits_id}
 use Rattle.pt_calls.specs.declared.answers.PtAnswer.TheVariants as answer
-use Rattle.pt_service.specs.Meaning.{Makes, Verdict, of_entry, raised, turn_by, turns, unless}
+use Rattle.pt_service.specs.Meaning.{Makes, of_entry, raised, turn_by, turns}
 use Rattle.pt_service.specs.Names.{has_colon, with_front}
 use Rattle.pt_service.specs.State.{State, is_group, is_id}
 use Rattle.pt_service.specs.Turning.{front_of_entry, front_under, given_or, has_equal_names, has_long_name, is_fixed, is_misnamed, name_after, new_name, turn_fault, turns_its_groups}
@@ -20,7 +20,7 @@ use Rattle.pt_changes.specs.Turning.{MayRename, MayRenumber}
 use Rattle.pt_turns.proofs.Anyone.{any_some}
 use Rattle.pt_turns.proofs.Equal.{after_own}
 use Rattle.pt_turns.proofs.Named.{clash, front_good, front_text}
-use Rattle.pt_laws.proofs.Possible.{IsSound, of_one}
+use Rattle.pt_laws.proofs.Possible.{IsSound, of_one, unless_one}
 
 -- ---- each reason against it fails
 
@@ -28,16 +28,18 @@ pass : (b : Bool) (n : ℕ) (rest : Option ℕ) → cond b (Some n) rest ≡ Non
 pass true n rest is = absurd cc
 pass false n rest is = (refl, is)
 
-record IsPassed (r : Registry) (e : PrEntry) (name : List ℕ) (owner new_id : ℤ) : Type 0 where
-  not_fixed : is_fixed e.id ≡ false
-  form : (not (eqb (length name) 0) && not (is_name_for e.id name)) ≡ false
-  owner_there : (not (int_eq owner (pos 0)) && is_none (r.entry owner)) ≡ false
-  good : not (is_id (is_group e.id) (given_or new_id e.id)) ≡ false
-  short : has_long_name r e (new_name r e name owner) ≡ false
-  distinct : has_equal_names r e (new_name r e name owner) ≡ false
-  free : (not (int_eq (given_or new_id e.id) e.id) && is_some (r.entry (given_or new_id e.id))) ≡ false
+pub record IsPassed (r : Registry) (e : PrEntry) (name : List ℕ) (owner new_id : ℤ) : Type 0 where
+  pub not_fixed : is_fixed e.id ≡ false
+  pub form : (not (eqb (length name) 0) && not (is_name_for e.id name)) ≡ false
+  pub owner_there : (not (int_eq owner (pos 0)) && is_none (r.entry owner)) ≡ false
+  pub good : not (is_id (is_group e.id) (given_or new_id e.id)) ≡ false
+  pub named : is_misnamed r e.id (given_or owner e.owner) name ≡ false
+  pub groups : turns_its_groups r e (new_name r e name owner) ≡ false
+  pub short : has_long_name r e (new_name r e name owner) ≡ false
+  pub distinct : has_equal_names r e (new_name r e name owner) ≡ false
+  pub free : (not (int_eq (given_or new_id e.id) e.id) && is_some (r.entry (given_or new_id e.id))) ≡ false
 
-passed : (r : Registry) (e : PrEntry) (name : List ℕ) (owner new_id : ℤ) → turn_fault r e name owner new_id ≡ None
+pub passed : (r : Registry) (e : PrEntry) (name : List ℕ) (owner new_id : ℤ) → turn_fault r e name owner new_id ≡ None
     → IsPassed r e name owner new_id
 passed r e name owner new_id none =
     let new = new_name r e name owner in
@@ -51,7 +53,17 @@ passed r e name owner new_id none =
     let h = pass (has_long_name r e new) 267272 _ g.1 in
     let i = pass (has_equal_names r e new) 267264 _ h.1 in
     let j = pass (not (int_eq id e.id) && is_some (r.entry id)) 267265 None i.1 in
-    record { not_fixed = a.0; form = b.0; owner_there = c.0; good = d.0; short = h.0; distinct = i.0; free = j.0 }
+    record {
+      not_fixed = a.0;
+      form = b.0;
+      owner_there = c.0;
+      good = d.0;
+      named = f.0;
+      groups = g.0;
+      short = h.0;
+      distinct = i.0;
+      free = j.0;
+    }
 
 -- ---- its name
 
@@ -59,7 +71,7 @@ is_not : (b : Bool) → not b ≡ false → b ≡ true
 is_not true is = refl
 is_not false is = absurd cc
 
-none_both : (a b : Bool) → (a && not b) ≡ false → a ≡ true → b ≡ true
+pub none_both : (a b : Bool) → (a && not b) ≡ false → a ≡ true → b ≡ true
 none_both true b none is = is_not b none
 none_both false b none is = absurd cc
 
@@ -110,7 +122,7 @@ some_of : (o : Option PrEntry) → is_none o ≡ false → IsSome o
 some_of None is = absurd cc
 some_of (Some e) is = refl
 
-owner_by : (r : Registry) (none : Bool) (given old : ℤ) → (not none && is_none (r.entry given)) ≡ false → IsOwner r.entry old
+pub owner_by : (r : Registry) (none : Bool) (given old : ℤ) → (not none && is_none (r.entry given)) ≡ false → IsOwner r.entry old
     → IsOwner r.entry (cond none old given)
 owner_by r true given old there was = was
 owner_by r false given old there was = inr (some_of (r.entry given) there)
@@ -198,13 +210,10 @@ turn_can s e name owner new_id valid own fits none =
           (is_not (is_id (is_group e.id) (given_or new_id e.id)) p.good);
     }
 
-unless_sound : (s : State) (o : Option ℕ) (v : Verdict) → (o ≡ None → IsSound s v) → IsSound s (unless o v)
-unless_sound s None v so = so refl
-unless_sound s (Some rule) v so = tt
-
 pub turn_sound : (s : State) (id : ℤ) (name : List ℕ) (owner new_id : ℤ) → IsRegistry s.registry → FitsSigned w32 new_id
     → IsSound s (of_entry (s.registry.entry id) (turns s.registry name owner new_id))
 turn_sound s id name owner new_id valid fits =
-    of_one s (s.registry.entry id) (turns s.registry name owner new_id)
-    (λ e at. unless_sound s (turn_fault s.registry e name owner new_id) (Makes answer.Done (turn_by s.registry name owner new_id e))
+    of_one (IsSound s) (s.registry.entry id) (turns s.registry name owner new_id) (λ rule. tt)
+    (λ e at. unless_one (IsSound s) (turn_fault s.registry e name owner new_id) (Makes answer.Done (turn_by s.registry name owner new_id e))
+    (λ rule. tt)
     (λ none. turn_can s e name owner new_id valid (ap s.registry.entry (valid.ids id e at) ∙ at) fits none))

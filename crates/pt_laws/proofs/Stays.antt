@@ -9,7 +9,7 @@ use Rattle.prdb_layout.specs.State.{PrEntry}
 use Rattle.prdb_layout.proofs.Changed.{under_same}
 use Rattle.pt_service.specs.Meaning.{Answers, Change, Enter, Join, Leave, Makes, Maxima, NoCall, Part, Refit, Refuses, Turn, Verdict, asked, disowned, state_after, state_by, verdict}
 use Rattle.pt_service.specs.State.{State}
-use Rattle.pt_looks.specs.States.{HoldsState}
+use Rattle.pt_looks.specs.States.{HoldsRecords}
 use Rattle.pt_changes.specs.Standing.{image_after, image_by}
 use Rattle.pt_laws.proofs.Possible.{CanMake, IsSound}
 use Rattle.pt_laws.proofs.Refilled.{maxima_same, replace_same}
@@ -58,11 +58,11 @@ parts_always s user group there same =
 
 -- ---- changes that may be none
 
-refit_stays : (image : List ℕ) (s : State) (e : PrEntry) → HoldsState image s → state_after (Refit e) s ≡ s
+refit_stays : (image : List ℕ) (s : State) (e : PrEntry) → HoldsRecords image s → state_after (Refit e) s ≡ s
     → image_after (Refit e) s image ≡ image
 refit_stays image s e holds same = replace_same image s e holds (sym (ap (λ (t : State). t.registry.entry e.id) same) ∙ entry_there s e)
 
-made_stays : (image : List ℕ) (s : State) (change : Change) → HoldsState image s → CanMake s change → state_after change s ≡ s
+made_stays : (image : List ℕ) (s : State) (change : Change) → HoldsRecords image s → CanMake s change → state_after change s ≡ s
     → image_after change s image ≡ image
 made_stays image s (Maxima user group) holds can same =
     maxima_same image s user group holds (ap (λ (t : State). t.registry.max_user) same) (ap (λ (t : State). t.registry.max_group) same)
@@ -73,12 +73,12 @@ made_stays image s (Turn e name owner id user group) holds can same = turn_stays
 made_stays image s (Join user group) holds can same = absurd (joins_always s user group can.new same)
 made_stays image s (Part user group) holds can same = absurd (parts_always s user group can same)
 
-stays_by : (image : List ℕ) (s : State) (v : Verdict) → HoldsState image s → IsSound s v → state_by v s ≡ s → image_by v s image ≡ image
+stays_by : (image : List ℕ) (s : State) (v : Verdict) → HoldsRecords image s → IsSound s v → state_by v s ≡ s → image_by v s image ≡ image
 stays_by image s NoCall holds can same = refl
 stays_by image s (Refuses rule) holds can same = refl
 stays_by image s (Answers a) holds can same = refl
 stays_by image s (Makes a change) holds can same = made_stays image s change holds can same
 
-pub image_stays : (image : List ℕ) (s : State) (bytes : List ℕ) → HoldsState image s → state_by (verdict s (asked bytes)) s ≡ s
+pub image_stays : (image : List ℕ) (s : State) (bytes : List ℕ) → HoldsRecords image s → state_by (verdict s (asked bytes)) s ≡ s
     → image_by (verdict s (asked bytes)) s image ≡ image
 image_stays image s bytes holds same = stays_by image s (verdict s (asked bytes)) holds (sound s bytes holds.pairs.holds.valid) same

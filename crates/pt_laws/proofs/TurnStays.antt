@@ -21,7 +21,7 @@ use Rattle.prdb_turns.specs.Owners.{after_gives, with_owner, with_owners}
 use Rattle.prdb_turns.specs.Refits.{after_refit, with_refit}
 use Rattle.prdb_turns.specs.Renumbering.{after_renumber, renumbered}
 use Rattle.prdb_turns.specs.Turning.{after_id, after_turn as after_steps, first, is_under as is_named_under, named, second}
-use Rattle.pt_looks.specs.States.{HoldsState, members_of}
+use Rattle.pt_looks.specs.States.{HoldsRecords, members_of}
 use Rattle.pt_changes.specs.Turning.{after_turn, its_in}
 use Rattle.pt_turns.specs.Under.{is_one_under, is_under}
 use Rattle.pt_turns.proofs.Equal.{after_by, after_own}
@@ -55,13 +55,6 @@ turns_to_itself s e name owner user group same f at =
     some_same
     (sym (ap (option_map (turned e name owner e.id)) (before_same s.registry e.id f.id ∙ at))
     ∙ ap (λ (t : State). t.registry.entry f.id) same ∙ at)
-
-moved_by : (x y : ℤ) (b : Bool) → int_eq y x ≡ b → cond b x y ≡ y
-moved_by x y true is = sym ((Decides-int_eq y x).0 is)
-moved_by x y false is = refl
-
-moved_same : (x y : ℤ) → moved x x y ≡ y
-moved_same x y = moved_by x y (int_eq y x) refl
 
 -- the entry itself
 name_same : (e : PrEntry) (name : List ℕ) (owner : ℤ) → turned e name owner e.id e ≡ e → named name e ≡ e
@@ -108,7 +101,7 @@ record IsRefitAlike (made : PrEntry → PrEntry) (o : Option PrEntry) (r : Regis
   bytes : after_refit made o image ≡ image
   entries : with_refit made o r ≡ r
 
-refit_same : (made : PrEntry → PrEntry) (image : List ℕ) (s : State) (id : ℤ) (f : PrEntry) → HoldsState image s
+refit_same : (made : PrEntry → PrEntry) (image : List ℕ) (s : State) (id : ℤ) (f : PrEntry) → HoldsRecords image s
     → s.registry.entry id ≡ Some f → made f ≡ f → IsRefitAlike made (s.registry.entry id) s.registry image
 refit_same made image s id f holds at same =
     let here : s.registry.entry f.id ≡ Some f = ap s.registry.entry (holds.pairs.holds.valid.ids id f at) ∙ at in
@@ -124,7 +117,7 @@ group_of : (whole : List ℕ) (o : Option PrEntry) → is_one_under whole o ≡ 
 group_of whole None is = absurd cc
 group_of whole (Some f) is = (f, refl, is)
 
-fronts_stay : (image : List ℕ) (s : State) (e : PrEntry) (name : List ℕ) (owner : ℤ) (those : List ℤ) → HoldsState image s
+fronts_stay : (image : List ℕ) (s : State) (e : PrEntry) (name : List ℕ) (owner : ℤ) (those : List ℤ) → HoldsRecords image s
     → Turns e name owner s.registry → s.registry.entry e.id ≡ Some e → AreUnder s.registry e.name those
     → after_fronts (front_of name) those s.registry image ≡ image
 fronts_stay image s e name owner [] holds turns own all = refl
@@ -142,7 +135,7 @@ second_same : (s : State) (e : PrEntry) (name : List ℕ) → first e name s.reg
 second_same s e name same =
     ap (λ (b : Bool). cond b (first e name s.registry) (renumbered e.id e.id (first e name s.registry))) (to_same e.id e.id refl) ∙ same
 
-steps_stay : (image : List ℕ) (s : State) (e : PrEntry) (name : List ℕ) (owner : ℤ) (its others : List ℤ) → HoldsState image s
+steps_stay : (image : List ℕ) (s : State) (e : PrEntry) (name : List ℕ) (owner : ℤ) (its others : List ℤ) → HoldsRecords image s
     → Turns e name owner s.registry → s.registry.entry e.id ≡ Some e → is_fixed e.id ≡ false
     → after_steps e name owner e.id its others s.registry image ≡ image
 unfolding after_steps
@@ -164,7 +157,7 @@ steps_stay image s e name owner its others holds turns own free =
     ∙ ap (after_fronts (front_of name) groups r) three.bytes
     ∙ fronts_stay image s e name owner groups holds turns own under
 
-keeps_id : (image : List ℕ) (s : State) (e : PrEntry) (name : List ℕ) (owner user group : ℤ) → HoldsState image s
+keeps_id : (image : List ℕ) (s : State) (e : PrEntry) (name : List ℕ) (owner user group : ℤ) → HoldsRecords image s
     → s.registry.entry e.id ≡ Some e → is_fixed e.id ≡ false
     → state_after (Turn e name owner e.id user group) s ≡ s → after_turn e name owner e.id s image ≡ image
 unfolding after_turn
@@ -184,7 +177,7 @@ arrives s e name owner id user group own none same =
     sym (ap (option_map (turned e name owner id)) came) ∙ ap (λ (t : State). t.registry.entry id) same ∙ none in
     cc
 
-pub turn_stays : (image : List ℕ) (s : State) (e : PrEntry) (name : List ℕ) (owner id user group : ℤ) → HoldsState image s
+pub turn_stays : (image : List ℕ) (s : State) (e : PrEntry) (name : List ℕ) (owner id user group : ℤ) → HoldsRecords image s
     → CanTurn s e name owner id user group
     → state_after (Turn e name owner id user group) s ≡ s → image_after (Turn e name owner id user group) s image ≡ image
 turn_stays image s e name owner id user group holds can same =
