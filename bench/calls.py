@@ -1,4 +1,5 @@
-"""What protection_calls and location_calls share: each call of a database over an image, at three sizes of it, in one run of the script."""
+"""What protection_calls and location_calls share: each call of a database over an image, at three sizes of it, and a call on little and on
+much over one image, in one run of the script."""
 from timing import Program, given, medians
 
 FEW, SIZES = 1000, (10000, 30000)
@@ -38,3 +39,11 @@ def tell_calls(database, image_of, calls):
         few, *many = (seconds(bench, database, image, call_of(entries)) for entries, image in images.items())
         ratios = " and ".join(f"{it / few:.2f}" for it in many)
         print(f"{database} {what}: {ratios} (wanted: {growth}), {few * 1e6:.1f} us each over {FEW}", flush=True)
+
+
+def tell_growth(database, image, calls):
+    """Prints of each call, which has the ratio that is wanted and its words on little and on much, how its time grows over one image."""
+    bench, image = Program("server_bench"), given(image)
+    for what, wanted, little, much in calls:
+        few, many = (seconds(bench, database, image, call) for call in (little, much))
+        print(f"{database} {what}: {many / few:.2f} (wanted: {wanted}), {few * 1e6:.1f} us each at first", flush=True)

@@ -1,6 +1,12 @@
 """Databases with many entries, for the scripts of this folder: images of both databases, and the label of a database file. The entries of
 an image were made one after the other, so each stands in front of those before it in each of its chains."""
 import struct
+import sys
+from pathlib import Path
+
+sys.path.insert(0, str(Path(__file__).resolve().parent.parent / "tools"))
+from plain_blocks import Blocks
+from plain_registry import Registry
 
 # The label of a database file, of version 1.1.
 LABEL = struct.pack(">IIII", 0x354545, 64, 1, 1).ljust(64, b"\0")
@@ -59,6 +65,28 @@ def protection_image(users, members=0, name="a{}".format):
     blocks = [person(name_of, flags, number, words, *rest) for (name_of, flags, number, *rest), words in zip(entries, chained)]
     head = struct.pack(">IIiiI", 0x50524442, 1, users, PALS if members else -205, len(entries)).ljust(64, b"\0")
     return head + names.words() + ids.words() + b"".join(blocks)
+
+
+def full_protection_image():
+    """An image of 1,110 users and 4,410 groups. The user 1 and the group -1001 have 100 pairs, 2 and -1002 have 1,000; 3 and -1003 own 100
+    groups, 4 and -1004 own 1,000; after 5 are named 10 groups, after 6 100."""
+    registry = Registry(Blocks())
+    for n in range(1, 1111):
+        registry.enter(even_name(n), n, ADMINISTRATORS)
+    for n in range(1001, 3101):
+        registry.enter("g" + even_name(n), -n, 0)
+    owned = [3] * 100 + [4] * 1000 + [-1003] * 100 + [-1004] * 1000
+    for n, owner in enumerate(owned, 4001):
+        registry.enter("o" + even_name(n), -n, owner)
+    for n, owner in enumerate([5] * 10 + [6] * 100, 7001):
+        registry.enter(registry.name_of(owner) + ":" + even_name(n), -n, owner)
+    for user, many in ((1, 100), (2, 1000)):
+        registry.pairs |= {(user, -2000 - n) for n in range(many)}
+    for group, many in ((-1001, 100), (-1002, 1000)):
+        registry.pairs |= {(10 + n, group) for n in range(many)}
+    for id in (1, 2, -1001, -1002):
+        registry.follower.fit(registry, id)
+    return registry.follower.image(registry)
 
 
 def volume(name, number, by_name, by_id):
