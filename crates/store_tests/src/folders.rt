@@ -1,21 +1,27 @@
-//! A disk and a store in a folder, and which disks, sources and sinks go to another thread.
+//! A disk and a store in a folder, also with its files in memory too, and which disks, sources and sinks go to another thread.
 ghost use Rattle.std.specs.Prelude.{◌≡◌, IfOk, None, false};
 ghost use Rattle.ubik_store.specs.Store.{IsSound};
-ghost use Rattle.disk_base.specs.Crash.{IsSettled};
+ghost use Rattle.disk_base.specs.Crash.{IsSettled, Only};
+ghost use Rattle.disk_base.specs.Mirrored.{mirrored_files, mirrored_may_leave};
 
 use crate::disks::{expect_file, put};
-use disk_base::{Disk, DiskEnd, FileDisk, FileNo, LenEnd, MemDisk, MemSink, MemSource, OpenFault};
+use crate::mirrors::AMPLE;
+use disk_base::{
+    Disk, DiskEnd, FileDisk, FileNo, LenEnd, MemDisk, MemSink, MemSource, Mirrored, OpenFault,
+};
 use std::alloc::Global;
+use std::fs::File;
 use std::os::unix::fs::PermissionsExt;
 use std::path::Path;
 use std::process::Abort;
+use std::rt::Files;
 use std::test::Fail;
 use std::{env, fs, process};
 use ubik_store::{Store, StoreFault};
 use ubik_types::Version;
 
 /// A folder of this process alone, with nothing in it.
-pub(crate) fn empty_folder(rt: &HostRuntime, prefix: &str) -> Result<String, Fail> {
+fn empty_folder(rt: &HostRuntime, prefix: &str) -> Result<String, Fail> {
     let name = format!(in rt.alloc(); "{prefix}-{}", process::id(rt.process()))?;
     let folder = env::temp_dir(rt)?.join(rt.alloc(), name.as_str())?;
     let folder = folder.into_string();
@@ -24,15 +30,14 @@ pub(crate) fn empty_folder(rt: &HostRuntime, prefix: &str) -> Result<String, Fai
     Ok(folder)
 }
 
-/// A value that may go to another thread.
-fn crosses<T: Send>(_: &T) {}
+fn goes<T: Send>() {}
 
-#[test]
-fn the_forms_in_memory_go_to_other_threads(rt: HostRuntime) -> Result<(), Fail> {
-    crosses(&MemDisk::new(rt.alloc(), &[])?);
-    crosses(&MemSource::new(rt.alloc(), b"", &[])?);
-    crosses(&MemSink::new(rt.alloc(), &[])?);
-    Ok(())
+/// Calls nothing: that it is proved says that these forms go to other threads.
+fn forms_go_to_threads() {
+    goes::<MemDisk>();
+    goes::<FileDisk>();
+    goes::<MemSource>();
+    goes::<MemSink>();
 }
 
 /// Writes, syncs, cuts and reads back.
@@ -62,45 +67,63 @@ fn mode_of(rt: &HostRuntime, folder: &str, name: &str) -> Result<u32, Fail> {
     Ok(fs::metadata(rt, path.as_path())?.permissions().mode() & 0o777)
 }
 
-#[test]
-fn a_folder_keeps_what_was_written(rt: HostRuntime) -> Result<(), Fail> {
-    let folder = empty_folder(&rt, "disk_base")?;
-    {
-        let mut disk = FileDisk::open(&rt, rt.alloc(), folder.as_str())?;
-        crosses(&disk);
-        expect_kept(&rt, rt.alloc(), &mut disk)?;
-    }
-    let mut again = FileDisk::open(&rt, rt.alloc(), folder.as_str())?;
-    expect_file(&rt, rt.alloc(), &mut again, FileNo::Log, b"abcXY")?;
-    expect_file(&rt, rt.alloc(), &mut again, FileNo::Database, b"12")?;
+/// Why the disk of a folder is refused.
+fn refused<R: Files<File = File>>(rt: &R, alloc: Global, folder: &str) -> Option<OpenFault> {
+    FileDisk::open(rt, alloc, folder).err()
+}
+
+/// A folder that is another server's is refused, and keeps what that one writes.
+fn expect_own<R: Files<File = File> + Abort>(
+    rt: &R,
+    alloc: Global,
+    folder: &str,
+) -> Result<(), Fail> {
+    let mut disk = FileDisk::open(rt, alloc, folder)?;
+    assert_eq!(rt; refused(rt, alloc, folder), Some(OpenFault::Failed));
+    expect_kept(rt, alloc, &mut disk)
+}
+
+/// What was written is there when the folder is opened anew.
+fn expect_found<R: Files<File = File> + Abort>(
+    rt: &R,
+    alloc: Global,
+    folder: &str,
+) -> Result<(), Fail> {
+    let mut disk = FileDisk::open(rt, alloc, folder)?;
+    expect_file(rt, alloc, &mut disk, FileNo::Log, b"abcXY")?;
+    expect_file(rt, alloc, &mut disk, FileNo::Database, b"12")?;
     let mut buf = [0; 3];
-    assert_eq!(rt; again.read(FileNo::Database, 1, &mut buf), DiskEnd::Failed);
-    for name in ["database", "log", "incoming", "lock"] {
-        assert_eq!(rt; mode_of(&rt, folder.as_str(), name)?, 0o600, "{name}");
-    }
-    fs::remove_dir_all(&rt, folder.as_str())?;
+    assert_eq!(rt; disk.read(FileNo::Database, 1, &mut buf), DiskEnd::Failed);
     Ok(())
 }
 
-#[test]
-fn a_folder_is_refused_as_another_servers_without_its_database_and_where_there_is_none(
-    rt: HostRuntime,
+/// A folder without its database is refused, and none is made.
+fn expect_lost<R: Files<File = File> + Abort>(
+    rt: &R,
+    alloc: Global,
+    folder: &str,
 ) -> Result<(), Fail> {
-    let folder = empty_folder(&rt, "refused")?;
-    {
-        let mut disk = FileDisk::open(&rt, rt.alloc(), folder.as_str())?;
-        let second = FileDisk::open(&rt, rt.alloc(), folder.as_str()).err();
-        assert_eq!(rt; second, Some(OpenFault::Failed));
-        expect_kept(&rt, rt.alloc(), &mut disk)?;
+    let database = Path::new(folder).join(alloc, "database")?;
+    fs::remove_file(rt, database.as_path())?;
+    assert_eq!(rt; refused(rt, alloc, folder), Some(OpenFault::Failed));
+    assert!(rt; !fs::exists(rt, database.as_path())?);
+    Ok(())
+}
+
+/// It is refused too as another server's, without its database, and where there is none.
+#[test]
+fn a_folder_keeps_what_was_written(rt: HostRuntime) -> Result<(), Fail> {
+    forms_go_to_threads();
+    let made = empty_folder(&rt, "disk_base")?;
+    let (folder, alloc) = (made.as_str(), rt.alloc());
+    expect_own(&rt, alloc, folder)?;
+    expect_found(&rt, alloc, folder)?;
+    for name in ["database", "log", "incoming", "lock"] {
+        assert_eq!(rt; mode_of(&rt, folder, name)?, 0o600, "{name}");
     }
-    let database = Path::new(folder.as_str()).join(rt.alloc(), "database")?;
-    fs::remove_file(&rt, database.as_path())?;
-    let lost = FileDisk::open(&rt, rt.alloc(), folder.as_str()).err();
-    assert_eq!(rt; lost, Some(OpenFault::Failed));
-    assert!(rt; !fs::exists(&rt, database.as_path())?);
-    fs::remove_dir_all(&rt, folder.as_str())?;
-    let none = FileDisk::open(&rt, rt.alloc(), folder.as_str()).err();
-    assert_eq!(rt; none, Some(OpenFault::Failed));
+    expect_lost(&rt, alloc, folder)?;
+    fs::remove_dir_all(&rt, folder)?;
+    assert_eq!(rt; refused(&rt, alloc, folder), Some(OpenFault::Failed));
     Ok(())
 }
 
@@ -126,11 +149,7 @@ fn opened<D: Disk + Drop>(alloc: Global, disk: D) -> Result<Store<D>, StoreFault
 }
 
 /// Commits two puts to a store on an empty disk.
-pub(crate) fn expect_committed<D: Disk + Drop>(
-    rt: &impl Abort,
-    alloc: Global,
-    disk: D,
-) -> Result<(), Fail>
+fn expect_committed<D: Disk + Drop>(rt: &impl Abort, alloc: Global, disk: D) -> Result<(), Fail>
     requires settled { IsSettled (D.files disk) (D.may_leave disk) }
 {
     let mut store = opened(alloc, disk)?;
@@ -144,11 +163,7 @@ pub(crate) fn expect_committed<D: Disk + Drop>(
 }
 
 /// A store has the version and the image after them.
-pub(crate) fn expect_held<D: Disk + Drop>(
-    rt: &impl Abort,
-    alloc: Global,
-    disk: D,
-) -> Result<(), Fail>
+fn expect_held<D: Disk + Drop>(rt: &impl Abort, alloc: Global, disk: D) -> Result<(), Fail>
     requires settled { IsSettled (D.files disk) (D.may_leave disk) }
 {
     let mut store = opened(alloc, disk)?;
@@ -159,13 +174,29 @@ pub(crate) fn expect_held<D: Disk + Drop>(
     Ok(())
 }
 
+/// The files of a folder, in memory too.
+fn mirrored(rt: &HostRuntime, folder: &str) -> Result<Mirrored<FileDisk>, Fail>
+    ensures settled { IfOk result (λ disk. Only (mirrored_files disk) (mirrored_may_leave disk)) }
+{
+    let disk = FileDisk::open(rt, rt.alloc(), folder)?;
+    match Mirrored::open(rt.alloc(), disk, AMPLE) {
+        Ok(mirror) => Ok(mirror),
+        Err(refused) => Err(refused.why)?,
+    }
+}
+
+/// A store in a folder is opened anew, over its files and over those in memory too.
 #[test]
-fn a_store_in_a_folder_is_opened_anew(rt: HostRuntime) -> Result<(), Fail> {
-    let folder = empty_folder(&rt, "ubik_store")?;
-    let disk = FileDisk::open(&rt, rt.alloc(), folder.as_str())?;
-    expect_committed(&rt, rt.alloc(), disk)?;
-    let disk = FileDisk::open(&rt, rt.alloc(), folder.as_str())?;
-    expect_held(&rt, rt.alloc(), disk)?;
-    fs::remove_dir_all(&rt, folder.as_str())?;
+fn stores_in_folders_are_opened_anew(rt: HostRuntime) -> Result<(), Fail> {
+    let made = empty_folder(&rt, "ubik_store")?;
+    let (folder, alloc) = (made.as_str(), rt.alloc());
+    expect_committed(&rt, alloc, FileDisk::open(&rt, alloc, folder)?)?;
+    expect_held(&rt, alloc, FileDisk::open(&rt, alloc, folder)?)?;
+    expect_held(&rt, alloc, mirrored(&rt, folder)?)?;
+    fs::remove_dir_all(&rt, folder)?;
+    fs::create_dir(&rt, folder)?;
+    expect_committed(&rt, alloc, mirrored(&rt, folder)?)?;
+    expect_held(&rt, alloc, mirrored(&rt, folder)?)?;
+    fs::remove_dir_all(&rt, folder)?;
     Ok(())
 }
